@@ -8,14 +8,14 @@ use Rattle.sim_base.proofs.Elements.{in_cons_if, cons_if_old, cons_if_new}
 use Rattle.clone_sets.specs.Sets.{has, empty, size}
 use Rattle.clone_sets.proofs.SetLaws.{below_limit}
 use Rattle.clone_sets.proofs.SizeLaws.{below_pow, size_some}
-use Rattle.clone_sets.proofs.MemberLaws.{picked, members_among, length-members_among}
+use Rattle.clone_sets.proofs.MemberLaws.{cons_if, members_among, length-members_among}
 
 -- ---- Apart
 
 -- no element stands twice, where the head is not one of the rest
-apart_picked : (b : Bool) (c : ℕ) (xs : List ℕ) → (In c xs → ⊥) → Apart xs → Apart (picked b c xs)
-apart_picked true c xs n a = (n, a)
-apart_picked false c xs n a = a
+Apart-cons_if : (b : Bool) (c : ℕ) (xs : List ℕ) → (In c xs → ⊥) → Apart xs → Apart (cons_if b c xs)
+Apart-cons_if true c xs n a = (n, a)
+Apart-cons_if false c xs n a = a
 
 -- ---- members_among
 
@@ -42,7 +42,7 @@ has_among (suc k) c s d l m h =
 apart_among : (k c s : ℕ) → Apart (members_among k c s)
 apart_among zero c s = tt
 apart_among (suc k) c s =
-    apart_picked (has s c) c (members_among k (c + 1) s)
+    Apart-cons_if (has s c) c (members_among k (c + 1) s)
     (λ i. let later : c + 1 ≤ c = (among_has k (c + 1) s c i).1 in omega (arith, later)) (apart_among k (c + 1) s)
 
 -- ---- size

@@ -18,8 +18,8 @@ use Rattle.clone_sets.specs.Sets.{has, empty, without, size, IsFirst, members}
 use Rattle.clone_sets.proofs.SetLaws.{has-empty, has-without}
 
 -- a list with c at its head, where b says so
-abbrev pub picked : Bool → ℕ → List ℕ → List ℕ
-picked b c xs = if b then c ∷ xs else xs
+abbrev pub cons_if : Bool → ℕ → List ℕ → List ℕ
+cons_if b c xs = if b then c ∷ xs else xs
 
 -- those of the set among the k numbers from c on
 abbrev pub members_among : ℕ → ℕ → ℕ → List ℕ
@@ -40,13 +40,13 @@ has_without_same s f d e = has-without s f d ∙ ap (λ b. not b && has s d) (eq
 -- the empty set has none among them
 members_among-empty : (k c : ℕ) → members_among k c empty ≡ []
 members_among-empty zero c = refl
-members_among-empty (suc k) c = ap₂ (λ b xs. picked b c xs) (has-empty c) (members_among-empty k (c + 1))
+members_among-empty (suc k) c = ap₂ (λ b xs. cons_if b c xs) (has-empty c) (members_among-empty k (c + 1))
 
 -- sets with the same clones from c on have the same members from c on
 members_among_same : (k c s t : ℕ) → ((d : ℕ) → c ≤ d → has s d ≡ has t d) → members_among k c s ≡ members_among k c t
 members_among_same zero c s t h = refl
 members_among_same (suc k) c s t h =
-    ap₂ (λ b xs. picked b c xs) (h c (omega arith)) (members_among_same k (c + 1) s t (λ d l. h d (omega arith)))
+    ap₂ (λ b xs. cons_if b c xs) (h c (omega arith)) (members_among_same k (c + 1) s t (λ d l. h d (omega arith)))
 
 -- the least clone comes first, and the others follow
 members_among_first : (k c s f : ℕ) → IsFirst s f → c ≤ f → f < c + k
@@ -55,13 +55,14 @@ members_among_first zero c s f h l m = absurd (omega arith)
 members_among_first (suc k) c s f h l m =
     elim (cases_eq f c) [
       | inl e ↦
-          ap₂ (λ b xs. picked b c xs) (ap (has s) (sym e) ∙ h.in_set)
+          ap₂ (λ b xs. cons_if b c xs) (ap (has s) (sym e) ∙ h.in_set)
           (members_among_same k (c + 1) s (without s f) (λ d n. sym (has_without_other s f d (omega arith))))
-          ∙ ap₂ (λ x b. x ∷ picked b c (members_among k (c + 1) (without s f))) (sym e) (sym (has_without_same s f c e))
+          ∙ ap₂ (λ x b. x ∷ cons_if b c (members_among k (c + 1) (without s f))) (sym e)
+          (sym (has_without_same s f c e))
       | inr ne ↦
-          ap₂ (λ b xs. picked b c xs) (h.least c (omega arith))
+          ap₂ (λ b xs. cons_if b c xs) (h.least c (omega arith))
           (members_among_first k (c + 1) s f h (omega arith) (omega arith))
-          ∙ ap (λ b. f ∷ picked b c (members_among k (c + 1) (without s f)))
+          ∙ ap (λ b. f ∷ cons_if b c (members_among k (c + 1) (without s f)))
           (sym (has_without_other s f c ne ∙ h.least c (omega arith)))
     ]
 
@@ -80,10 +81,10 @@ members_first s f h l = members_among_first MOST_CLONES 0 s f h (omega arith) (o
 -- ---- length
 
 -- a digit that is 1 counts an element
-length_picked : (d c : ℕ) (xs : List ℕ) → d < 2 → length (picked (d == 1) c xs) ≡ d + length xs
-length_picked zero c xs l = omega arith
-length_picked (suc zero) c xs l = omega arith
-length_picked (suc (suc d)) c xs l = absurd (omega arith)
+length-cons_if : (d c : ℕ) (xs : List ℕ) → d < 2 → length (cons_if (d == 1) c xs) ≡ d + length xs
+length-cons_if zero c xs l = omega arith
+length-cons_if (suc zero) c xs l = omega arith
+length-cons_if (suc (suc d)) c xs l = absurd (omega arith)
 
 -- there are as many as the number has bits set from c on
 pub length-members_among : (k c s : ℕ) → s / 2 ^ c < 2 ^ k → length (members_among k c s) ≡ count_ones (s / 2 ^ c)
@@ -91,7 +92,7 @@ unfolding has
 length-members_among zero c s l = omega (arith, ones_le_self (s / 2 ^ c))
 length-members_among (suc k) c s l =
     let half : s / 2 ^ c / 2 ≡ s / 2 ^ (c + 1) = shr-shr s c 1 in
-    length_picked (bit_at s c) c (members_among k (c + 1) s) (bit_at-lt s c)
+    length-cons_if (bit_at s c) c (members_among k (c + 1) s) (bit_at-lt s c)
     ∙ ap (λ n. bit_at s c + n) (length-members_among k (c + 1) s (omega (arith, half, pow-suc 2 k))
     ∙ ap count_ones (sym half))
     ∙ sym (ones_step (s / 2 ^ c))
@@ -136,9 +137,9 @@ unfolding members
 members_in s c = All-contains (λ d. has s d ≡ true) (members s) c (filter_passes (has s) (range_with_len 0 MOST_CLONES))
 
 -- what a list has, it has with x at its head, whether b says so or not
-contains_picked : (b : Bool) (x c : ℕ) (xs : List ℕ) → Contains xs c → Contains (picked b x xs) c
-contains_picked true x c xs h = contains_tail x c xs h
-contains_picked false x c xs h = h
+Contains-cons_if : (b : Bool) (x c : ℕ) (xs : List ℕ) → Contains xs c → Contains (cons_if b x xs) c
+Contains-cons_if true x c xs h = contains_tail x c xs h
+Contains-cons_if false x c xs h = h
 
 -- each clone of the set is among its numbers
 in_members_among : (k c s d : ℕ) → c ≤ d → d < c + k → has s d ≡ true → Contains (members_among k c s) d
@@ -147,8 +148,8 @@ in_members_among (suc k) c s d l m h =
     elim (cases_eq c d) [
       | inl e ↦
           let here : has s c ≡ true = ap (has s) e ∙ h in
-          subst (λ b. Contains (picked b c (members_among k (c + 1) s)) d) (sym here) (0, omega arith, e)
-      | inr ne ↦ contains_picked (has s c) c d (members_among k (c + 1) s)
+          subst (λ b. Contains (cons_if b c (members_among k (c + 1) s)) d) (sym here) (0, omega arith, e)
+      | inr ne ↦ Contains-cons_if (has s c) c d (members_among k (c + 1) s)
           (in_members_among k (c + 1) s d (omega arith) (omega arith) h)
     ]
 

@@ -17,7 +17,7 @@ use Rattle.decision_book.specs.Replies.{reply}
 use Rattle.decision_book.specs.Right.{journal_with}
 use Rattle.decision_book.specs.Scripts.{Question, after_all, first_refusal, journal_of_script}
 use Rattle.decision_book.specs.declared.call.Reply.TheVariants.{Accepted}
-use Rattle.decision_book.proofs.Scripts.{accepted_goes_on, refused_is_first, situation_of_script}
+use Rattle.decision_book.proofs.Scripts.{accepted_leaves_no_refusal, refused_is_first, situation_of_script}
 use Rattle.cloner_top.specs.declared.stop.Stop.{Stop}
 use Rattle.cloner_top.specs.declared.stop.Stop.TheVariants.{BadDecision}
 use Rattle.study_run.proofs.Accepting.{none_asked}
@@ -121,7 +121,7 @@ none-more net is item none accepts = ap (first_refusal net) (decisions-append is
   where
     of_act : (act : Act) → AcceptsAct (after net (journal_of_script net (questions is))) act
         → first_refusal net (decisions is ++ decisions_onto act []) ≡ None
-    of_act (Decide d) ok = accepted_goes_on net (decisions is) d none
+    of_act (Decide d) ok = accepted_leaves_no_refusal net (decisions is) d none
         (subst (λ s. reply s d ≡ Accepted) (after-journal_of_script net is) ok)
     of_act (Look who station) ok = ap (first_refusal net) (append-nil (decisions is)) ∙ none
 
@@ -174,9 +174,9 @@ pub record IsAt (net : Net) (is : List Item) (i : ℕ) (book : BookView) : Type 
   pub accepted : IsAcceptedJournal book.net book.events
 
 -- a book of the network in which nothing has been asked has come to the first item
-pub begins : (net : Net) (is : List Item) (book : BookView) → book ≡ record { net = net; events = [] }
+pub IsAt-begin : (net : Net) (is : List Item) (book : BookView) → book ≡ record { net = net; events = [] }
     → IsAt net is 0 book
-begins net is book e = record {
+IsAt-begin net is book e = record {
   net_is = ap (λ (b : BookView). b.net) e;
   events = ap (λ (b : BookView). b.events) e;
   none = refl;
@@ -212,9 +212,9 @@ module _ (net : Net) (is : List Item) (i : ℕ) (item : Item) (old : BookView) (
       (subst (λ s. RefusesAct s item.line item.act stop) journal_is h)
 
 -- at the end all decisions were accepted
-pub ends : (net : Net) (stated : ScriptView) (i : ℕ) (book : BookView) → length stated.items ≤ i
+pub IsAt-end : (net : Net) (stated : ScriptView) (i : ℕ) (book : BookView) → length stated.items ≤ i
     → IsAt net stated.items i book → IsDecided net stated book
-ends net stated i book last at =
+IsAt-end net stated i book last at =
     let all : take i stated.items ≡ stated.items = take_all i stated.items last in
     let events : book.events ≡ script_journal net stated =
     at.events ∙ ap (λ l. journal_of_script net (questions l)) all in

@@ -1,7 +1,7 @@
 -- How the steps of a study join to an ending, and endings to an answer.
 use Rattle.std.proofs.Common.{◌≡◌, ℕ, ◌+◌, refl, sym, ap}
 use Rattle.std.proofs.Common.{subst, ◌∙◌, List, [], ◌∷◌, Option, Some, None, Ok}
-use Rattle.sim_outer.specs.Causes.{AreCounted, HasRisen}
+use Rattle.sim_outer.specs.Counts.{AreCounted, HasRisen}
 use Rattle.sim_outer.specs.Files.{Files}
 use Rattle.sim_outer.specs.Views.{SinkView}
 use Rattle.net_model.specs.Net.{Net}
@@ -27,17 +27,17 @@ use Rattle.cloner_top.specs.Endings.{DecidesFirst, Ending, MayEnd, MaySimulate}
 use Rattle.cloner_top.specs.Endings.{StoppedFor, HasWritten, early_stop, overrun, whole_output}
 use Rattle.cloner_top.specs.Endings as ends
 use Rattle.cloner_top.specs.Outsides.{ArePut, ArePutOrCut, IsFailed, IsStudyPut, IsHalted, IsNotPut}
-use Rattle.cloner_top.specs.Plans.{IsRead, IsUnreadStudy, StopsEarly}
-use Rattle.cloner_top.specs.Refusals.{Stops, line_of, status_of, words_refusal}
+use Rattle.cloner_top.specs.Plans.{IsReadStudy, IsUnreadStudy, StopsEarly}
+use Rattle.cloner_top.specs.Refusals.{IsMemoryOrStop, line_of, status_of, words_refusal}
 use Rattle.cloner_top.specs.Stops.{stop_line, stop_status}
 use Rattle.cloner_top.specs.Texts.{AreTexts, IsBadModel, IsBadScript, IsText}
-use Rattle.cloner_top.specs.Texts.{all_fetches, fetches_of, text_of}
+use Rattle.cloner_top.specs.Texts.{all_fetches, fetches_of, known_text}
 
 -- ---- the texts of a study
 
 -- a rule that the model's text breaks stops the study before its script
 bad_model_stops : (source : SourceView) (files : Option Files) (m : List ℕ) (stop : Stop)
-    → IsText (text_of source Model files) m → IsBadModel m stop → StopsEarly source files stop
+    → IsText (known_text source Model files) m → IsBadModel m stop → StopsEarly source files stop
 bad_model_stops source files m (BadModel fault) text h = record {
   m = m;
   s = [];
@@ -51,7 +51,7 @@ bad_model_stops source files m (LimitMet limit station clone) text h = absurd h
 
 -- memory that was refused, or a rule that the model's text breaks, is why the study is not read
 pub no_model : (rose : Type 0) (source : SourceView) (files : Option Files) (m : List ℕ) (r : Refusal)
-    → IsText (text_of source Model files) m → Stops (IsBadModel m) r → IsUnreadStudy rose source files r
+    → IsText (known_text source Model files) m → IsMemoryOrStop (IsBadModel m) r → IsUnreadStudy rose source files r
 no_model rose source files m OutOfMemory text h = tt
 no_model rose source files m Usage text h = absurd h
 no_model rose source files m NoModel text h = absurd h
@@ -61,10 +61,13 @@ no_model rose source files m CannotWrite text h = absurd h
 
 -- both texts of a study
 pub both_texts : (source : SourceView) (files more : Option Files) (m s : List ℕ)
-    → IsText (text_of source Model files) m → more ≡ files
-    → IsText (text_of source Script more) s → AreTexts source files m s
+    → IsText (known_text source Model files) m → more ≡ files
+    → IsText (known_text source Script more) s → AreTexts source files m s
 both_texts source files more m s model_is same script_is =
-    record { model_is = model_is; script_is = λ net is. subst (λ f. IsText (text_of source Script f) s) same script_is }
+    record {
+      model_is = model_is;
+      script_is = λ net is. subst (λ f. IsText (known_text source Script f) s) same script_is;
+    }
 
 -- a rule that the script breaks stops the study before its decisions
 bad_script_stops : (source : SourceView) (files : Option Files) (m s : List ℕ) (net : Net) (stop : Stop)
@@ -78,7 +81,8 @@ bad_script_stops source files m s net (LimitMet limit station clone) texts is h 
 
 -- where the model is one, memory that was refused, or a rule that the script breaks, is why it is not read
 pub no_script : (rose : Type 0) (source : SourceView) (files : Option Files) (m s : List ℕ) (net : Net) (r : Refusal)
-    → AreTexts source files m s → model m ≡ Ok net → Stops (IsBadScript s) r → IsUnreadStudy rose source files r
+    → AreTexts source files m s → model m ≡ Ok net → IsMemoryOrStop (IsBadScript s) r
+    → IsUnreadStudy rose source files r
 no_script rose source files m s net OutOfMemory texts is h = tt
 no_script rose source files m s net Usage texts is h = absurd h
 no_script rose source files m s net NoModel texts is h = absurd h
@@ -88,7 +92,8 @@ no_script rose source files m s net CannotWrite texts is h = absurd h
 
 -- a refused decision ends a study whose decisions are all made first
 pub refused_end : (a : Assignment) (net : Net) (stated : ScriptView) (steps : ℕ) (out : SinkView) (r : Refusal)
-    → DecidesFirst a.mode → Stops (IsRefusal net stated) r → IsFailed (MayEnd a net stated) steps steps out out r
+    → DecidesFirst a.mode → IsMemoryOrStop (IsRefusal net stated) r
+    → IsFailed (MayEnd a net stated) steps steps out out r
 refused_end a net stated steps out OutOfMemory first h = refl
 refused_end a net stated steps out Usage first h = absurd h
 refused_end a net stated steps out NoModel first h = absurd h
@@ -155,9 +160,9 @@ decided_end a net stated book is end may =
     (ap (λ n. (after n book.events).clones) is.net_is ∙ is.clones) may)
 
 -- how the study of its texts ends is what is asked
-pub comes : (files : Option Files) (a : Assignment) (net : Net) (stated : ScriptView) → IsRead a.source files net stated
-    → (end : Ending) → MayEnd a net stated end → IsLawfulEnding files a end
-comes files a net stated read end may = record {
+pub MayEnd-lawful : (files : Option Files) (a : Assignment) (net : Net) (stated : ScriptView)
+    → IsReadStudy a.source files net stated → (end : Ending) → MayEnd a net stated end → IsLawfulEnding files a end
+MayEnd-lawful files a net stated read end may = record {
   m = read.m;
   s = read.s;
   texts = read.texts;
@@ -214,7 +219,7 @@ module _ (P : Ending → Type 0) (old_steps new_steps work : ℕ) (texts : List 
 
 -- memory that was refused, or a stop with nothing told before its line, is why nothing was written
 pub stops_failed : (P : Ending → Type 0) (old_steps new_steps : ℕ) (out : SinkView) (r : Refusal)
-    → Stops (StoppedFor P old_steps new_steps []) r → IsFailed P old_steps new_steps out out r
+    → IsMemoryOrStop (StoppedFor P old_steps new_steps []) r → IsFailed P old_steps new_steps out out r
 stops_failed P old_steps new_steps out OutOfMemory h = refl
 stops_failed P old_steps new_steps out Usage h = h
 stops_failed P old_steps new_steps out NoModel h = h

@@ -2,7 +2,7 @@
 use Rattle.std.proofs.Common.{◌≡◌, ◌≢◌, ◌⊎◌, inl, inr, refl, sym, subst, ◌∙◌, ℕ}
 use Rattle.std.proofs.Common.{◌≤◌, ◌+◌, arith, List, [], ◌∷◌, length, Option, Some, None, Ok}
 use Rattle.sim_base.specs.Clones.{Clone}
-use Rattle.sim_outer.specs.Causes.{HasRisen}
+use Rattle.sim_outer.specs.Counts.{HasRisen}
 use Rattle.sim_outer.specs.Files.{Files}
 use Rattle.trace_report.specs.Outputs.{report}
 use Rattle.net_model.specs.Net.{Net}
@@ -26,7 +26,7 @@ use Rattle.cloner_top.specs.Endings.{Ending, MayEnd, MayEndByTexts, MayLive, May
 use Rattle.cloner_top.specs.Endings.{StoppedFor, early_stop, overrun, run_texts, study_texts, whole_output}
 use Rattle.cloner_top.specs.Endings as ends
 use Rattle.cloner_top.specs.Outsides.{ArePut, ArePutOrCut}
-use Rattle.cloner_top.specs.Plans.{IsRead}
+use Rattle.cloner_top.specs.Plans.{IsReadStudy}
 use Rattle.cloner_top.specs.Refusals.{line_of, status_of}
 use Rattle.cloner_top.specs.Facts.{ArePreceded, Completes, IsCutFor, IsStoppedFor, IsStudy, IsToldFor, IsUnreadFor}
 use Rattle.cloner_top.specs.Facts.{IsWritten, IsStatusOf, Writes, WritesAll, WritesLive, WritesOne}
@@ -292,7 +292,7 @@ writes_by before after a net s put work Live source study may are steps = absurd
 
 -- a live study writes its journal and the texts of all clones
 writes_live : (before after : Outside) (a : Assignment) (net : Net) (s : ScriptView) (put : List (List ℕ)) (work : ℕ)
-    → IsRead a.source before.inputs.files net s → MayLive net s (whole_output put work)
+    → IsReadStudy a.source before.inputs.files net s → MayLive net s (whole_output put work)
     → ArePut put before.output after.output → after.steps ≡ before.steps + work → WritesLive before after a
 writes_live before after a net s put work read (ends.finished book looks journal last seen within) are steps = record {
   net = net;

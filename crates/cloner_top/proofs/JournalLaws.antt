@@ -64,8 +64,7 @@ calls_are : (many n : ℕ) (calls : List Call)
 calls_are many n [] callers each = tt
 calls_are many n (c ∷ calls) callers each = (
   record {
-    low = callers.0.0;
-    high = callers.0.1;
+    analyst = callers.0;
     decision = first_is (nat_eq c.caller c.caller) n c (calls_from c.caller (n + 1) calls) (grind arith)
         (each c.caller callers.0.0 callers.0.1);
   },

@@ -9,16 +9,16 @@ use Rattle.net_model.specs.Net.{Net}
 use Rattle.decision_script.specs.Stating.{ScriptView}
 use Rattle.decision_book.specs.Journal.{after}
 use Rattle.decision_book.specs.Plans.{ArePlanned}
-use Rattle.world_core.specs.Overs.{NoneBeyond}
+use Rattle.world_core.specs.Overs.{NoneBeyond, most_handled}
 use Rattle.world_core.specs.Worlds.{WorldView, total_handled}
 use Rattle.study_run.specs.declared.fault.StudyFault.{StudyFault}
 use Rattle.study_run.specs.declared.fault.StudyFault.TheVariants.{NoMemory, LimitMet}
 use Rattle.study_run.specs.Limits.{AreWithin}
-use Rattle.study_run.specs.Work.{most_handled}
 use Rattle.study_run.proofs.Meeting.{none_within}
 use Rattle.rolling_text.specs.WorldTraces.{AreShort}
 use Rattle.journal_text.specs.JournalText.{journal_text}
-use Rattle.live_study.specs.Lives.{IsAtHorizon, IsStopped, all_looks}
+use Rattle.live_study.specs.Engines.{StopsEngine}
+use Rattle.live_study.specs.Lives.{IsAtHorizon, all_looks}
 use Rattle.live_study.specs.Looks.{AreLooks}
 use Rattle.live_study.specs.declared.run.LiveRun.{LiveRun}
 use Rattle.cloner_top.specs.declared.halt.Halt.{Halt}
@@ -66,8 +66,10 @@ module _ (net : Net) (s : ScriptView) (old_steps new_steps : ℕ) (live : LiveRu
         let all : ArePlanned net (after net live.book.events).clones =
         subst (λ (n : Net). ArePlanned n (after n live.book.events).clones) ran.journal.net_is planned in
         record {
-          may_report = record { net = net_is; ended = front_is; few = few; within = within };
-          short = subst AreShort (sym clones_are) (short_planned net (after net live.book.events).clones all);
+          may_put = record {
+            may_report = record { net = net_is; ended = front_is; few = few; within = within };
+            short = subst AreShort (sym clones_are) (short_planned net (after net live.book.events).clones all);
+          };
           may = subst (λ x. MayLive net s (whole_output (x ∷ run_texts net w.clones)
               (total_handled net w.clones net.horizon))) (sym (same ∙ ran.text_is))
               (subst (λ cs. MayLive net s (whole_output
@@ -94,11 +96,11 @@ module _ (net : Net) (s : ScriptView) (old_steps new_steps : ℕ) (live : LiveRu
       → ((e : StudyFault) × ((live.run ≡ Err e) × HaltsFor told live.book.events text e h))
       → StopsLive net s old_steps new_steps h
   live_stops told same h why =
-      by_fault why.0 h (IfErr-at_err (IsStopped net live.book) why.1.0 ran.stopped)
+      by_fault why.0 h (IfErr-at_err (StopsEngine net live.book.events) why.1.0 ran.stopped)
       (IfErr-at_err (λ (e : StudyFault). new_steps ≡ old_steps) why.1.0 ran.idle)
       (subst (λ (n : Net). HaltsFor n live.book.events text why.0 h) same why.1.1)
     where
-      told_limit : (station who : ℕ) (h : Halt) → IsStopped net live.book (LimitMet station who)
+      told_limit : (station who : ℕ) (h : Halt) → StopsEngine net live.book.events (LimitMet station who)
           → new_steps ≡ old_steps
           → IsOverrun text (limit_stop net station (clone_at (after net live.book.events).clones who).name) h
           → StopsLive net s old_steps new_steps h
@@ -110,7 +112,7 @@ module _ (net : Net) (s : ScriptView) (old_steps new_steps : ℕ) (live : LiveRu
           (at_limit (most_handled net (length (after net live.book.events).clones))
           (over live.book (all_looks live.looks.items) station who ran.journal ran.made stopped) (omega (arith, idle))))
 
-      by_fault : (e : StudyFault) (h : Halt) → IsStopped net live.book e → new_steps ≡ old_steps
+      by_fault : (e : StudyFault) (h : Halt) → StopsEngine net live.book.events e → new_steps ≡ old_steps
           → HaltsFor net live.book.events text e h → StopsLive net s old_steps new_steps h
       by_fault NoMemory h stopped idle is = subst (StopsLive net s old_steps new_steps) (sym is) tt
       by_fault (LimitMet station who) h stopped idle is = told_limit station who h stopped idle is

@@ -2,7 +2,7 @@
 use Rattle.std.proofs.Common.{◌≡◌, ℕ, refl, sym, ap, subst, ◌∙◌, arith}
 use Rattle.std.proofs.Common.{[], ◌∷◌, Option, Some, None, Result, Ok, Err, IfErr, OnOk}
 use Rattle.std.proofs.lemmas.Result.{IfErr-weaker, on_ok_weaker}
-use Rattle.sim_outer.specs.Causes.{AreCounted}
+use Rattle.sim_outer.specs.Counts.{AreCounted}
 use Rattle.sim_outer.specs.Files.{Files}
 use Rattle.sim_outer.specs.Views.{SinkView}
 use Rattle.sim_outer.proofs.Counts.{none_counted}
@@ -21,9 +21,10 @@ use Rattle.cloner_top.specs.Deciding.{IsDecided, clones_of_book}
 use Rattle.cloner_top.specs.Endings.{Ending, MayEnd, MayLive, MaySimulate, live}
 use Rattle.cloner_top.specs.Facts.{AreFewFetches}
 use Rattle.cloner_top.specs.Outsides.{ArePutOrCut, IsFailed, IsStudyPut, IsHalted}
-use Rattle.cloner_top.specs.Plans.{IsRead}
+use Rattle.cloner_top.specs.Plans.{IsReadStudy}
 use Rattle.cloner_top.specs.Refusals.{line_of, status_of, words_refusal}
-use Rattle.cloner_top.proofs.Endings.{comes, decided_end, failed_on, finished_on, halted_is, halted_on, unread_words}
+use Rattle.cloner_top.proofs.Endings.{MayEnd-lawful, decided_end, failed_on, finished_on, halted_is, halted_on}
+use Rattle.cloner_top.proofs.Endings.{unread_words}
 
 -- ---- IsDecided
 
@@ -75,16 +76,16 @@ module _ (a : Assignment) (net : Net) (stated : ScriptView) (is : a.mode ≡ Liv
   live_not_put r h = IfErr-weaker r _ _ (halted_on (MayLive net stated) (MayEnd a net stated)
       (λ end may. live end is may) old_steps new_steps old new) h
 
--- ---- IsRead
+-- ---- IsReadStudy
 
 module _ (files : Option Files) (a : Assignment) (net : Net) (stated : ScriptView)
-    (read : IsRead a.source files net stated) where
+    (read : IsReadStudy a.source files net stated) where
   -- how the study of its texts ends is what is asked
   pub obeyed : (old_steps new_steps : ℕ) (old new : SinkView) {T : Type 0} (r : Result T Halt)
       → OnOk r (IsStudyPut (MayEnd a net stated) old_steps new_steps old new)
       → OnOk r (IsStudyPut (IsLawfulEnding files a) old_steps new_steps old new)
   obeyed old_steps new_steps old new r h =
-      on_ok_weaker r (finished_on (MayEnd a net stated) (IsLawfulEnding files a) (comes files a net stated read)
+      on_ok_weaker r (finished_on (MayEnd a net stated) (IsLawfulEnding files a) (MayEnd-lawful files a net stated read)
       old_steps new_steps old new) h
 
   -- and why nothing is written
@@ -93,8 +94,8 @@ module _ (files : Option Files) (a : Assignment) (net : Net) (stated : ScriptVie
       → IfErr r (λ e. IsDisobeyed rose files a old_steps new_steps old new e)
   not_obeyed rose old_steps new_steps old new r h =
       IfErr-weaker r _ _ (λ e halts. halted_is rose files a old_steps new_steps old new e
-      (halted_on (MayEnd a net stated) (IsLawfulEnding files a) (comes files a net stated read) old_steps new_steps
-      old new e halts)) h
+      (halted_on (MayEnd a net stated) (IsLawfulEnding files a) (MayEnd-lawful files a net stated read)
+      old_steps new_steps old new e halts)) h
 
 -- ---- OnOk
 

@@ -12,8 +12,8 @@ use Rattle.decision_book.proofs.ClonesByName.{clone_named-place, clone_named-non
 use Rattle.decision_book.proofs.OwnScripts.{own_script_suffices}
 use Rattle.stations.specs.Runs.{trace_of}
 use Rattle.trace_report.specs.Outputs.{clone_text}
+use Rattle.world_core.specs.Overs.{most_handled}
 use Rattle.study_run.specs.Limits.{IsWithin, MeetsLimitAlone}
-use Rattle.study_run.specs.Work.{most_handled}
 use Rattle.command_words.specs.declared.request.Mode.TheVariants.{One, Live}
 use Rattle.command_words.specs.Requests.{SourceView}
 use Rattle.cloner_top.specs.declared.stop.Stop.TheVariants.{NoClone}

@@ -1,15 +1,14 @@
 -- Texts that are put one after the other.
 use Rattle.std.proofs.Common.{◌≡◌, ◌≤◌, inl, inr, ℕ, zero, suc, ◌+◌, refl, sym, ap, ap₂, ◌∙◌, subst, arith, min}
-use Rattle.std.proofs.Common.{List, [], ◌∷◌, ◌++◌, append-nil, length, length-append, map, take, Option, Some, None}
-use Rattle.std.proofs.lemmas.List.{append_assoc, length-map}
+use Rattle.std.proofs.Common.{List, [], ◌∷◌, ◌++◌, append-nil, length, length-append, map, Option, Some, None}
+use Rattle.std.proofs.lemmas.List.{length-map}
 use Rattle.std.proofs.lemmas.List.Concat.{concat_is}
 use Rattle.std.proofs.lemmas.List.Folds.{concat-append, flat_map-map}
 use Rattle.std.specs.List.{concat, flat_map}
-use Rattle.std.proofs.Math.Seq.{take-append-add}
 use Rattle.sim_outer.specs.Bytes.{IsAppended, IsPrefixAppended}
-use Rattle.sim_outer.specs.Causes.{AreCounted, IsCounted, HasRisen, counts_after, next_count}
+use Rattle.sim_outer.specs.Counts.{AreCounted, IsCounted, HasRisen, counts_after, next_count}
 use Rattle.sim_outer.specs.Views.{SinkView}
-use Rattle.sim_outer.proofs.Appending.{appended_then, take-append-prefix}
+use Rattle.sim_outer.proofs.Appending.{appended_then, part_then, take-append-prefix}
 use Rattle.sim_outer.proofs.Counts.{counted_more}
 use Rattle.rolling_text.specs.Counting.{AreCountedTo}
 use Rattle.cloner_top.specs.declared.refusal.Refusal.{Refusal}
@@ -24,13 +23,8 @@ part_first a b (Some o) new h = (min h.0 (length a), h.1 ∙ ap (λ t. Some (o +
 -- the first text, and a prefix of the second
 part_second : (a b : List ℕ) (old mid new : Option (List ℕ)) → IsAppended old a mid → IsPrefixAppended mid b new
     → IsPrefixAppended old (a ++ b) new
-part_second a b None mid new h k = let m : mid ≡ None = h in (rw m at k)
-part_second a b (Some o) mid new h k =
-    let k2 : IsPrefixAppended (Some (o ++ a)) b new = rw h at k in (
-      length a + k2.0,
-      k2.1 ∙ (ap Some (append_assoc o a (take k2.0 b)
-          ∙ ap (λ t. o ++ t) (sym (take-append-add a b k2.0)))),
-    )
+part_second a b old mid new h k =
+    subst (λ t. IsPrefixAppended old (a ++ t) new) (append-nil b) (part_then a b [] old mid new h k)
 
 -- a call that was counted is one call
 counted_one : (old new : Option ℕ) → IsCounted old new → AreCounted 1 old new

@@ -4,7 +4,7 @@ use Rattle.std.proofs.Common.{◌∷◌, ◌++◌, length, map, Result, Ok, Err,
 use Rattle.std.proofs.lemmas.Result.{on_ok_weaker}
 use Rattle.sim_base.specs.Clones.{Clone}
 use Rattle.sim_outer.specs.Bytes.{IsAppended, IsPrefixAppended}
-use Rattle.sim_outer.specs.Causes.{AreCounted, HasRisen}
+use Rattle.sim_outer.specs.Counts.{AreCounted, HasRisen}
 use Rattle.sim_outer.specs.Views.{SinkView}
 use Rattle.net_model.specs.Net.{Net}
 use Rattle.trace_report.specs.Outputs.{clone_text, clone_texts, report}

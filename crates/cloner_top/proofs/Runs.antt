@@ -7,13 +7,13 @@ use Rattle.sim_base.specs.Clones.{Clone, clone_at, place_of}
 use Rattle.sim_outer.specs.Views.{SinkView}
 use Rattle.net_model.specs.Net.{Net}
 use Rattle.stations.specs.Runs.{trace_of}
+use Rattle.world_core.specs.Overs.{most_handled}
 use Rattle.world_core.specs.Worlds.{total_handled}
 use Rattle.trace_report.specs.Outputs.{clone_text}
 use Rattle.decision_book.specs.Plans.{ArePlanned, IsPlanned}
 use Rattle.rolling_text.specs.WorldTraces.{AreShort}
 use Rattle.study_run.specs.Faults.{StopsAll, StopsAlone}
 use Rattle.study_run.specs.Limits.{AreWithin, IsWithin}
-use Rattle.study_run.specs.Work.{most_handled}
 use Rattle.cloner_top.specs.declared.refusal.Refusal.{Refusal}
 use Rattle.cloner_top.specs.declared.stop.Stop.{Stop}
 use Rattle.command_words.specs.declared.request.Mode.{Mode}

@@ -1,6 +1,6 @@
 -- What the program answers: its status, with what became of the outside.
 use Rattle.std.specs.Prelude.{◌≡◌, ℕ, List, [], ◌∷◌, ◌++◌, Option, Some, None, option_map}
-use Rattle.sim_outer.specs.Causes.{AreCounted, HasRisen}
+use Rattle.sim_outer.specs.Counts.{AreCounted, HasRisen}
 use Rattle.sim_outer.specs.Files.{Files}
 use Rattle.sim_outer.specs.Views.{InputsView, SinkView}
 use Rattle.command_words.specs.Requests.{Assignment, form}
@@ -12,7 +12,7 @@ use Rattle.cloner_top.specs.declared.refusal.Refusal.TheVariants.{OutOfMemory, U
 use Rattle.cloner_top.specs.declared.refusal.Refusal.TheVariants.{NoScript, Stopped, CannotWrite}
 use Rattle.cloner_top.specs.declared.stop.Stop.{Stop}
 use Rattle.cloner_top.specs.Endings.{Ending, MayEndByTexts, StoppedFor}
-use Rattle.cloner_top.specs.Outsides.{ArePutOrCut, IsStudyCut, IsFailed, IsStudyPut}
+use Rattle.cloner_top.specs.Outsides.{ArePutOrCut, IsFailed, IsHalted, IsStudyCut, IsStudyPut}
 use Rattle.cloner_top.specs.Plans.{HasModel}
 use Rattle.cloner_top.specs.Refusals.{line_of}
 use Rattle.cloner_top.specs.Stops.{stop_status}
@@ -91,4 +91,4 @@ abbrev pub IsDisobeyed : Type 0 → Option Files → Assignment → ℕ → ℕ 
 IsDisobeyed rose files a old_steps new_steps old new (Refused refusal) =
     IsUnobeyed rose files a old_steps new_steps old new refusal
 IsDisobeyed rose files a old_steps new_steps old new (Overrun journal stop) =
-    StoppedFor (IsLawfulEnding files a) old_steps new_steps (journal.items ∷ []) stop × (new ≡ old)
+    IsHalted (IsLawfulEnding files a) old_steps new_steps old new (Overrun journal stop)

@@ -11,10 +11,10 @@ use Rattle.decision_book.specs.declared.call.Reply.{Reply}
 use Rattle.decision_book.specs.Books.{BookView}
 use Rattle.decision_book.specs.Journal.{after}
 use Rattle.stations.specs.Runs.{trace_of}
+use Rattle.world_core.specs.Overs.{most_handled}
 use Rattle.world_core.specs.Worlds.{total_handled}
 use Rattle.trace_report.specs.Outputs.{clone_text, report}
 use Rattle.study_run.specs.Limits.{AreWithin, IsWithin, MeetsLimit, MeetsLimitAlone}
-use Rattle.study_run.specs.Work.{most_handled}
 use Rattle.journal_text.specs.declared.looked.Looked.{Looked}
 use Rattle.journal_text.specs.JournalText.{journal_text}
 use Rattle.live_study.specs.Engines.{MeetsLimitLast}

@@ -1,7 +1,7 @@
 -- What an answer of the program says, one fact at a time.
 use Rattle.std.specs.Prelude.{◌≡◌, ◌⊎◌, ℕ, ◌+◌, ◌≤◌, List, [], ◌∷◌, ◌++◌, length, Option, Some, None}
 use Rattle.sim_base.specs.Clones.{Clone, clone_at, place_of}
-use Rattle.sim_outer.specs.Causes.{AreCounted, HasRisen}
+use Rattle.sim_outer.specs.Counts.{AreCounted, HasRisen}
 use Rattle.sim_outer.specs.Files.{Files}
 use Rattle.net_model.specs.Net.{Net}
 use Rattle.decision_script.specs.Stating.{ScriptView}
@@ -25,14 +25,14 @@ use Rattle.cloner_top.specs.Answers.{InputsFailed, IsLawfulEnding, Outside}
 use Rattle.cloner_top.specs.Deciding.{clones_of, first_refused}
 use Rattle.cloner_top.specs.Endings.{Ending, StoppedFor, early_stop, overrun, run_texts, whole_output}
 use Rattle.cloner_top.specs.Outsides.{ArePut, ArePutOrCut, IsStudyCut}
-use Rattle.cloner_top.specs.Plans.{IsRead}
+use Rattle.cloner_top.specs.Plans.{IsReadStudy}
 use Rattle.cloner_top.specs.Refusals.{line_of, status_of}
 use Rattle.cloner_top.specs.Stops.{stop_line, stop_status}
 use Rattle.cloner_top.specs.Texts.{IsUnread, all_fetches}
 
 -- the study's two texts are a model and a script whose decisions are all accepted
 pub record IsStudy (files : Option Files) (a : Assignment) (net : Net) (stated : ScriptView) : Type 0 where
-  pub read : IsRead a.source files net stated
+  pub read : IsReadStudy a.source files net stated
   pub accepted : first_refused net stated ≡ None
 
 -- all clones were run, no log of any is beyond the limit, and these texts were put, each in one call; a step for each
@@ -62,7 +62,7 @@ pub record WritesOne (name : List ℕ) (before after : Outside) (a : Assignment)
 pub record WritesLive (before after : Outside) (a : Assignment) : Type 0 where
   pub net : Net
   pub stated : ScriptView
-  pub read : IsRead a.source before.inputs.files net stated
+  pub read : IsReadStudy a.source before.inputs.files net stated
   pub book : BookView
   pub looks : List Looked
   pub journal : IsJournalOf net stated book

@@ -1,16 +1,15 @@
 -- What a live study leaves, for its texts.
-use Rattle.std.specs.Prelude.{◌≡◌, ℕ, ◌+◌, ◌<◌, ◌≤◌, List, [], ◌∷◌, length, IfOk, IfErr}
+use Rattle.std.specs.Prelude.{◌≡◌, ℕ, ◌+◌, ◌<◌, List, [], ◌∷◌, length, IfOk, IfErr}
 use Rattle.sim_base.specs.Clones.{clone_at}
-use Rattle.net_model.specs.Net.{Net}
+use Rattle.net_model.specs.Net.{Net, HasStation}
 use Rattle.decision_script.specs.Stating.{ScriptView}
 use Rattle.decision_book.specs.Journal.{Event, after}
 use Rattle.world_core.specs.Worlds.{WorldView, total_handled}
-use Rattle.study_run.specs.Reports.{MayReport}
 use Rattle.study_run.specs.declared.fault.StudyFault.{StudyFault}
 use Rattle.study_run.specs.declared.fault.StudyFault.TheVariants.{NoMemory, LimitMet}
-use Rattle.rolling_text.specs.WorldTraces.{AreShort}
 use Rattle.journal_text.specs.JournalText.{journal_text}
-use Rattle.live_study.specs.Lives.{IsAtHorizon, IsStopped, all_looks}
+use Rattle.live_study.specs.Engines.{StopsEngine}
+use Rattle.live_study.specs.Lives.{IsAtHorizon, all_looks}
 use Rattle.live_study.specs.Looks.{AreLooks, HasMadeLooks}
 use Rattle.live_study.specs.Scripts.{IsJournalOf}
 use Rattle.live_study.specs.declared.run.LiveRun.{LiveRun}
@@ -19,6 +18,7 @@ use Rattle.cloner_top.specs.declared.halt.Halt.TheVariants.{Refused, Overrun}
 use Rattle.cloner_top.specs.declared.refusal.Refusal.TheVariants.{OutOfMemory}
 use Rattle.cloner_top.specs.declared.stop.Stop.{Stop}
 use Rattle.cloner_top.specs.Endings.{MayLive, StoppedFor, limit_stop, run_texts, whole_output}
+use Rattle.cloner_top.specs.RunTexts.{MayPutRun}
 
 -- a live study of a script was run, and this is the text of its journal
 pub record IsJournaledRun (net : Net) (s : ScriptView) (old_steps new_steps : ℕ) (live : LiveRun) (text : List ℕ) :
@@ -27,16 +27,16 @@ pub record IsJournaledRun (net : Net) (s : ScriptView) (old_steps new_steps : �
   pub made : HasMadeLooks s (all_looks live.looks.items)
   pub looks : IfOk live.run (λ w. AreLooks net s live.book.events (all_looks live.looks.items))
   pub finished : IfOk live.run (λ w. IsAtHorizon net live.book w)
-  pub stopped : IfErr live.run (λ e. IsStopped net live.book e)
+  pub stopped : IfErr live.run (λ e. StopsEngine net live.book.events e)
   pub steps : IfOk live.run (λ w. new_steps ≡ old_steps + total_handled net w.clones net.horizon)
   pub idle : IfErr live.run (λ e. new_steps ≡ old_steps)
   pub text_is : text ≡ journal_text s.analysts live.book.events (all_looks live.looks.items)
 
 -- the station and the clone of a limit are there
-abbrev pub IsPlaced : Net → List Event → StudyFault → Type 0
-IsPlaced net events NoMemory = Unit {0}
-IsPlaced net events (LimitMet station who) =
-    (1 ≤ station) × (station ≤ length net.sites) × (who < length (after net events).clones)
+abbrev pub NamesStationAndClone : Net → List Event → StudyFault → Type 0
+NamesStationAndClone net events NoMemory = Unit {0}
+NamesStationAndClone net events (LimitMet station who) =
+    HasStation net station × (who < length (after net events).clones)
 
 -- it halts with this text and this stop
 abbrev pub IsOverrun : List ℕ → Stop → Halt → Type 0
@@ -52,8 +52,7 @@ HaltsFor net events text (LimitMet station who) halt =
 -- the world of a live study at the horizon, and the text of its journal
 pub record IsLiveWorld (net : Net) (s : ScriptView) (old_steps new_steps : ℕ) (world : WorldView) (text : List ℕ) :
     Type 0 where
-  pub may_report : MayReport net world
-  pub short : AreShort world.clones
+  pub may_put : MayPutRun net world
   pub may : MayLive net s (whole_output (text ∷ run_texts net world.clones)
       (total_handled net world.clones net.horizon))
   pub steps : new_steps ≡ old_steps + total_handled net world.clones net.horizon

@@ -2,7 +2,7 @@
 use Rattle.std.specs.Prelude.{◌≡◌, ◌⊎◌, ℕ, List, [], ◌∷◌, length}
 use Rattle.std.specs.List.{concat}
 use Rattle.sim_outer.specs.Bytes.{IsAppended, IsPrefixAppended}
-use Rattle.sim_outer.specs.Causes.{AreCounted, HasRisen}
+use Rattle.sim_outer.specs.Counts.{AreCounted, HasRisen}
 use Rattle.sim_outer.specs.Views.{SinkView}
 use Rattle.rolling_text.specs.Counting.{AreCountedTo}
 use Rattle.cloner_top.specs.declared.halt.Halt.{Halt}

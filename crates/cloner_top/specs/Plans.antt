@@ -11,10 +11,10 @@ use Rattle.cloner_top.specs.declared.refusal.Refusal.{Refusal}
 use Rattle.cloner_top.specs.declared.refusal.Refusal.TheVariants.{OutOfMemory, NoModel, NoScript, Stopped}
 use Rattle.cloner_top.specs.declared.stop.Stop.{Stop}
 use Rattle.cloner_top.specs.Endings.{MayEndByTexts, early_stop}
-use Rattle.cloner_top.specs.Texts.{AreTexts, IsText, IsUnread, text_of}
+use Rattle.cloner_top.specs.Texts.{AreTexts, IsText, IsUnread, known_text}
 
 -- the network and the script of a study's texts
-pub record IsRead (source : SourceView) (files : Option Files) (net : Net) (stated : ScriptView) : Type 0 where
+pub record IsReadStudy (source : SourceView) (files : Option Files) (net : Net) (stated : ScriptView) : Type 0 where
   pub m : List ℕ
   pub s : List ℕ
   pub texts : AreTexts source files m s
@@ -25,7 +25,7 @@ pub record IsRead (source : SourceView) (files : Option Files) (net : Net) (stat
 pub record HasModel (source : SourceView) (files : Option Files) : Type 0 where
   pub m : List ℕ
   pub net : Net
-  pub text : IsText (text_of source Model files) m
+  pub text : IsText (known_text source Model files) m
   pub is_model : model m ≡ Ok net
 
 -- the study stops before anything is simulated, whatever is asked of it

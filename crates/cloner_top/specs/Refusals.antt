@@ -28,10 +28,10 @@ line_of (Stopped stop) = stop_line stop
 line_of CannotWrite = codes "cloner: cannot write\n"
 
 -- memory was refused, or a study stopped, for which this holds
-abbrev pub Stops : (Stop → Type 0) → Refusal → Type 0
-Stops P OutOfMemory = Unit {0}
-Stops P (Stopped stop) = P stop
-Stops P refusal = ⊥
+abbrev pub IsMemoryOrStop : (Stop → Type 0) → Refusal → Type 0
+IsMemoryOrStop P OutOfMemory = Unit {0}
+IsMemoryOrStop P (Stopped stop) = P stop
+IsMemoryOrStop P refusal = ⊥
 
 -- why words are not read
 abbrev pub words_refusal : WordsFault → Refusal

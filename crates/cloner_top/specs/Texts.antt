@@ -42,10 +42,10 @@ abbrev pub made_text : Text → ℕ → List ℕ
 made_text Model n = model_text n
 made_text Script n = canonical_text made_script
 
--- a text of a study: in a file, or made of a number
-abbrev pub text_of : SourceView → Text → Option Files → KnownText
-text_of (FileNames model script) text files = known_in files (name_of text model script)
-text_of (Number n) text files = bytes (made_text text n)
+-- what is known of a text of a study: it is in a file, or made of a number
+abbrev pub known_text : SourceView → Text → Option Files → KnownText
+known_text (FileNames model script) text files = known_in files (name_of text model script)
+known_text (Number n) text files = bytes (made_text text n)
 
 -- these bytes may be the text
 abbrev pub IsText : KnownText → List ℕ → Type 0
@@ -55,8 +55,8 @@ IsText (bytes known) found = found ≡ known
 
 -- the model's text, and where that is a model the script's
 pub record AreTexts (source : SourceView) (files : Option Files) (m s : List ℕ) : Type 0 where
-  pub model_is : IsText (text_of source Model files) m
-  pub script_is : (net : Net) → model m ≡ Ok net → IsText (text_of source Script files) s
+  pub model_is : IsText (known_text source Model files) m
+  pub script_is : (net : Net) → model m ≡ Ok net → IsText (known_text source Script files) s
 
 -- a text was not read: the inputs had a fault, or the files are known and lack it; a made text is always there
 abbrev pub IsUnread : Type 0 → SourceView → Text → Option Files → Type 0

@@ -3,7 +3,7 @@ ghost use Rattle.std.specs.Prelude.{◌≡◌, IfErr, IfOk, OnOk};
 ghost use Rattle.decision_book.specs.Journal.{after};
 ghost use Rattle.cloner_top.specs.Deciding.{AcceptsAct, IsDecided, IsRefusal, RefusesAct, journal_after};
 ghost use Rattle.study_run.specs.Accepted.{IsAcceptedJournal};
-ghost use Rattle.cloner_top.specs.Refusals.{Stops};
+ghost use Rattle.cloner_top.specs.Refusals.{IsMemoryOrStop};
 
 use crate::refusal::Refusal;
 use crate::stop::Stop;
@@ -43,7 +43,7 @@ pub(crate) fn decide_script(
     script: &Script,
 ) -> Result<Book, Refusal>
     ensures ok { IfOk result (λ book. IsDecided model.value script.now book) }
-    ensures err { IfErr result (λ r. Stops (IsRefusal model.value script.now) r) }
+    ensures err { IfErr result (λ r. IsMemoryOrStop (IsRefusal model.value script.now) r) }
 {
     let Ok(mut book) = Book::begin(alloc, model) else {
         return Err(Refusal::OutOfMemory);

@@ -1,6 +1,7 @@
 //! The one line that tells why there is no output.
 ghost use Rattle.std.specs.Prelude.{◌≡◌, ◌+◌, ◌≤◌, ◌++◌, [], decimal, length};
 ghost use Rattle.cloner_top.specs.declared.error_line.TheConstants.{LONGEST_LINE};
+ghost use Rattle.trace_report.specs.declared.digits.TheConstants.{LONGEST_NUMBER};
 
 use arrayvec::ArrayString;
 use itoa::Buffer;
@@ -45,9 +46,9 @@ impl ErrorLine {
 
     /// Appends a number in decimal.
     pub fn push_number(&mut self, number: u64)
-        requires free { length self.old + 20 ≤ LONGEST_LINE }
+        requires free { length self.old + LONGEST_NUMBER ≤ LONGEST_LINE }
         ensures value { self.new ≡ self.old ++ decimal number }
-        ensures short { length self.new ≤ length self.old + 20 }
+        ensures short { length self.new ≤ length self.old + LONGEST_NUMBER }
     {
         let mut buffer = Buffer::new();
         self.push(buffer.format(number));

@@ -1,4 +1,4 @@
-//! Laws of what the program answers.
+//! Laws of what the program answers: a branch's own script, and a live study's journal, write the same.
 ghost use Rattle.cloner_top.specs.Journals.{JournalRunsTheSame};
 ghost use Rattle.cloner_top.specs.OwnScripts.{OwnScriptWritesTheSame};
 

@@ -5,7 +5,7 @@ ghost use Rattle.decision_book.specs.Plans.{ArePlanned};
 ghost use Rattle.world_core.specs.Overs.{NoneBeyond};
 ghost use Rattle.cloner_top.specs.Deciding.{clones_of_book};
 ghost use Rattle.cloner_top.specs.Endings.{MayLive};
-ghost use Rattle.cloner_top.specs.LiveRuns.{HaltsFor, IsJournaledRun, IsLiveWorld, IsPlaced, StopsLive};
+ghost use Rattle.cloner_top.specs.LiveRuns.{HaltsFor, IsJournaledRun, IsLiveWorld, NamesStationAndClone, StopsLive};
 ghost use Rattle.cloner_top.specs.Outsides.{IsStudyPut, IsHalted};
 
 use crate::halt::Halt;
@@ -29,7 +29,7 @@ use world_core::World;
 // The world at the horizon with the text of the journal, or why there is none.
 fn world_or_halt(model: &Model, live: LiveRun, journal: Vec<u8>) -> Result<(World, Vec<u8>), Halt>
     requires net { live.book.net ≡ model.now }
-    requires there { IfErr live.run (λ e. IsPlaced model.now live.book.events e) }
+    requires there { IfErr live.run (λ e. NamesStationAndClone model.now live.book.events e) }
     // the world at the horizon, with the text of the journal
     ensures ok { IfOk result (λ r. (live.run ≡ Ok r.0) × (r.1.items ≡ journal.items)) }
     // what holds of the clones then

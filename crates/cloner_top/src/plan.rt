@@ -1,10 +1,10 @@
 //! Reads a study, and plans it: makes its decisions.
 ghost use Rattle.std.specs.Prelude.{◌≡◌, ◌≤◌, ℕ, IfErr, IfOk, OnOk};
-ghost use Rattle.sim_outer.specs.Causes.{AreCounted, HasRisen};
+ghost use Rattle.sim_outer.specs.Counts.{AreCounted, HasRisen};
 ghost use Rattle.command_words.specs.Requests.{source_view};
 ghost use Rattle.cloner_top.specs.Deciding.{IsDecided, IsRefusal};
-ghost use Rattle.cloner_top.specs.Plans.{IsRead, IsUnreadStudy};
-ghost use Rattle.cloner_top.specs.Refusals.{Stops};
+ghost use Rattle.cloner_top.specs.Plans.{IsReadStudy, IsUnreadStudy};
+ghost use Rattle.cloner_top.specs.Refusals.{IsMemoryOrStop};
 ghost use Rattle.cloner_top.specs.Texts.{all_fetches};
 
 use crate::deciding::decide_script;
@@ -37,7 +37,7 @@ pub(crate) struct Plan {
 pub(crate) fn plan_study(alloc: Global, study: &Study) -> Result<Plan, Refusal>
     ensures model { IfOk result (λ plan. plan.model.value ≡ study.now.model.value) }
     ensures book { IfOk result (λ plan. IsDecided study.now.model.value study.now.script plan.book) }
-    ensures err { IfErr result (λ r. Stops (IsRefusal study.now.model.value study.now.script) r) }
+    ensures err { IfErr result (λ r. IsMemoryOrStop (IsRefusal study.now.model.value study.now.script) r) }
 {
     let Ok(model) = Arc::try_clone(&study.model) else {
         return Err(Refusal::OutOfMemory);
@@ -57,7 +57,7 @@ pub(crate) fn read_study<I: Inputs>(
     inputs: &mut I,
     source: &Source,
 ) -> Result<Study, Refusal>
-    ensures ok { IfOk result (λ study. IsRead (source_view source.now) (I.view inputs.old).files study.model.value
+    ensures ok { IfOk result (λ study. IsReadStudy (source_view source.now) (I.view inputs.old).files study.model.value
         study.script) }
     ensures err { IfErr result (λ r.
         IsUnreadStudy (HasRisen (I.view inputs.old).faults (I.view inputs.new).faults) (source_view source.now)

@@ -1,6 +1,6 @@
-//! The program.
+//! From the words of a command line to a status: reads a study, simulates its branches, and writes their texts.
 ghost use Rattle.std.specs.Prelude.{◌≡◌, ◌≢◌, ◌⊎◌, ◌≤◌, ◌∷◌, [], ℕ, IfErr, None, MatchBool, OnOk};
-ghost use Rattle.sim_outer.specs.Causes.{AreCounted, HasRisen};
+ghost use Rattle.sim_outer.specs.Counts.{AreCounted, HasRisen};
 ghost use Rattle.command_words.specs.Requests.{request_view, source_view};
 ghost use Rattle.cloner_top.specs.Answers.{IsAnswer, IsDisobeyed, IsLawfulEnding, assignment_of, outside_of};
 ghost use Rattle.cloner_top.specs.Endings.{DecidesFirst, MayEnd};

@@ -2,11 +2,10 @@
 ghost use Rattle.std.specs.Prelude.{◌≡◌, ◌≤◌, ◌∷◌, [], IfErr, IfOk, OnOk};
 ghost use Rattle.trace_report.specs.Outputs.{report};
 ghost use Rattle.trace_report.specs.TraceText.{trace_text};
-ghost use Rattle.rolling_text.specs.WorldTraces.{AreShort};
 ghost use Rattle.study_run.specs.Reports.{MayReport};
 ghost use Rattle.cloner_top.specs.Endings.{run_texts};
 ghost use Rattle.cloner_top.specs.Outsides.{ArePut, ArePutOrCut, IsNotPut};
-ghost use Rattle.cloner_top.specs.RunTexts.{IsReadyRun};
+ghost use Rattle.cloner_top.specs.RunTexts.{IsReadyRun, MayPutRun};
 
 use crate::refusal::Refusal;
 use log_chain::Log;
@@ -79,8 +78,7 @@ struct RunTexts<'a> {
 
 // Takes all memory that the texts of a world at the horizon need.
 fn prepare_run<'a>(alloc: Global, model: &Model, world: &'a World) -> Result<RunTexts<'a>, NoMemory>
-    requires may_report { MayReport model.now world.now }
-    requires short { AreShort world.now.clones }
+    requires may_put { MayPutRun model.now world.now }
     ensures ready { IfOk result (λ run. IsReadyRun model.now world.now.clones run) }
 {
     let traces = WorldTraces::of(world);
@@ -128,8 +126,7 @@ pub(crate) fn put_run<O: Sink, R: Threads + Wait + Sync>(
     world: &World,
     out: &mut O,
 ) -> Result<(), Refusal>
-    requires may_report { MayReport model.now world.now }
-    requires short { AreShort world.now.clones }
+    requires may_put { MayPutRun model.now world.now }
     ensures ok { OnOk result (ArePut (run_texts model.now world.now.clones) (O.view out.old) (O.view out.new)) }
     ensures err { IfErr result (λ r. IsNotPut (run_texts model.now world.now.clones)
         (O.view out.old) (O.view out.new) r) }
@@ -150,8 +147,7 @@ pub(crate) fn put_live<O: Sink, R: Threads + Wait + Sync>(
     journal: &[u8],
     out: &mut O,
 ) -> Result<(), Refusal>
-    requires may_report { MayReport model.now world.now }
-    requires short { AreShort world.now.clones }
+    requires may_put { MayPutRun model.now world.now }
     ensures ok { OnOk result (ArePut (journal.now ∷ run_texts model.now world.now.clones)
         (O.view out.old) (O.view out.new)) }
     ensures err { IfErr result (λ r. IsNotPut (journal.now ∷ run_texts model.now world.now.clones)

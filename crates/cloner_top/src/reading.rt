@@ -1,12 +1,12 @@
 //! Reads the two texts of a study: out of files, or made of a number.
 ghost use Rattle.std.specs.Prelude.{◌≡◌, ◌≤◌, IfErr, IfOk, Ok, Err};
-ghost use Rattle.sim_outer.specs.Causes.{AreCounted, HasRisen};
+ghost use Rattle.sim_outer.specs.Counts.{AreCounted, HasRisen};
 ghost use Rattle.net_model.specs.Text.{model};
 ghost use Rattle.decision_script.specs.Reading.{script};
 ghost use Rattle.command_words.specs.Requests.{source_view};
-ghost use Rattle.cloner_top.specs.Refusals.{Stops};
+ghost use Rattle.cloner_top.specs.Refusals.{IsMemoryOrStop};
 ghost use Rattle.cloner_top.specs.Texts.{IsBadModel, IsBadScript, IsNotRead, IsText, fetches_of};
-ghost use Rattle.cloner_top.specs.Texts.{made_text, name_of as name_of_text, text_of, unread_refusal};
+ghost use Rattle.cloner_top.specs.Texts.{made_text, name_of as name_of_text, known_text, unread_refusal};
 
 use crate::refusal::Refusal;
 use crate::stop::Stop;
@@ -30,7 +30,7 @@ pub enum Text {
 /// Reads the model that a text is.
 pub(crate) fn read_model_text(alloc: Global, text: &[u8]) -> Result<Model, Refusal>
     ensures ok { IfOk result (λ m. model text.now ≡ Ok m) }
-    ensures err { IfErr result (λ r. Stops (IsBadModel text.now) r) }
+    ensures err { IfErr result (λ r. IsMemoryOrStop (IsBadModel text.now) r) }
 {
     match read_model(alloc, text) {
         Ok(model) => Ok(model),
@@ -42,7 +42,7 @@ pub(crate) fn read_model_text(alloc: Global, text: &[u8]) -> Result<Model, Refus
 /// Reads the script that a text is.
 pub(crate) fn read_script_text(alloc: Global, text: &[u8]) -> Result<Script, Refusal>
     ensures ok { IfOk result (λ s. script text.now ≡ Ok s) }
-    ensures err { IfErr result (λ r. Stops (IsBadScript text.now) r) }
+    ensures err { IfErr result (λ r. IsMemoryOrStop (IsBadScript text.now) r) }
 {
     match read_script(alloc, text) {
         Ok(script) => Ok(script),
@@ -78,7 +78,8 @@ pub(crate) fn fetch_text<I: Inputs>(
     source: &Source,
     text: Text,
 ) -> Result<Vec<u8>, Refusal>
-    ensures ok { IfOk result (λ v. IsText (text_of (source_view source.now) text (I.view inputs.old).files) v.items) }
+    ensures ok { IfOk result (λ v.
+        IsText (known_text (source_view source.now) text (I.view inputs.old).files) v.items) }
     ensures err { IfErr result (λ r. IsNotRead (HasRisen (I.view inputs.old).faults (I.view inputs.new).faults)
         (source_view source.now) text (I.view inputs.old).files r) }
     ensures later { (I.view inputs.old).faults ≤ (I.view inputs.new).faults }
@@ -87,8 +88,8 @@ pub(crate) fn fetch_text<I: Inputs>(
         (I.view inputs.new).calls }
 {
     let name = match *source {
-        Source::Named { model, script } => name_of(text, model, script),
-        Source::Made(number) => {
+        Source::FileNames { model, script } => name_of(text, model, script),
+        Source::Number(number) => {
             return match make_text(alloc, text, number) {
                 Ok(bytes) => Ok(bytes),
                 Err(NoMemory) => Err(Refusal::OutOfMemory),

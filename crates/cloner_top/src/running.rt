@@ -1,5 +1,6 @@
 //! Runs a planned study, and puts its texts.
-ghost use Rattle.std.specs.Prelude.{◌≡◌, ◌+◌, ◌≤◌, ℕ, List, [], ◌∷◌, length, IfErr, IfOk, OnOk};
+ghost use Rattle.std.specs.Prelude.{◌≡◌, ◌+◌, ℕ, List, [], ◌∷◌, IfErr, IfOk, OnOk};
+ghost use Rattle.net_model.specs.Net.{HasStation};
 ghost use Rattle.rolling_text.specs.WorldTraces.{AreShort};
 ghost use Rattle.world_core.specs.Worlds.{total_handled};
 ghost use Rattle.study_run.specs.Accepted.{IsAcceptedJournal};
@@ -9,7 +10,7 @@ ghost use Rattle.cloner_top.specs.Deciding.{clones_of_book};
 ghost use Rattle.cloner_top.specs.Endings.{DecidesFirst, MayRun, MayRunAlone, MaySimulate};
 ghost use Rattle.cloner_top.specs.Endings.{StoppedFor, limit_stop, run_texts};
 ghost use Rattle.cloner_top.specs.Outsides.{IsFailed, IsStudyPut};
-ghost use Rattle.cloner_top.specs.Refusals.{Stops};
+ghost use Rattle.cloner_top.specs.Refusals.{IsMemoryOrStop};
 ghost use Rattle.trace_report.specs.Outputs.{report};
 
 use crate::plan::Plan;
@@ -30,8 +31,7 @@ use world_core::World;
 
 /// The stop where a log would get longer than the limit: at this station, in the clone of this name.
 pub(crate) fn stop_at(model: &Model, station: u32, clone: Name) -> Stop
-    requires first { 1 ≤ station }
-    requires last { station ≤ length model.now.sites }
+    requires is_station { HasStation model.now station }
     ensures { result ≡ limit_stop model.now station clone }
 {
     Stop::LimitMet {
@@ -57,7 +57,7 @@ fn run_world<G: Gate, L: Ledger, R: Threads + Wait + Sync>(
     ensures steps { IfOk result (λ w.
         steps.new ≡ steps.old + total_handled plan.now.model.value w.clones plan.now.model.value.horizon) }
     ensures err { IfErr result (λ r. (texts : List (List ℕ))
-        → Stops (StoppedFor (MayRun plan.now.model.value (clones_of_book plan.now.book) texts)
+        → IsMemoryOrStop (StoppedFor (MayRun plan.now.model.value (clones_of_book plan.now.book) texts)
         steps.old steps.new []) r) }
 {
     let lists = plan.book.lists();
@@ -185,8 +185,10 @@ pub(crate) fn write_study<O: Sink, G: Gate, L: Ledger, R: Threads + Wait + Sync>
         (clones_of_book plan.now.book)) steps.old steps.new (O.view out.old) (O.view out.new) r) }
 {
     match (request.mode, request.source) {
-        (Mode::All, Source::Named { .. }) => write_run(rt, alloc, gate, request, plan, out, steps),
-        (Mode::All, Source::Made(_)) => write_report(rt, alloc, gate, request, plan, out, steps),
+        (Mode::All, Source::FileNames { .. }) => write_run(
+            rt, alloc, gate, request, plan, out, steps,
+        ),
+        (Mode::All, Source::Number(_)) => write_report(rt, alloc, gate, request, plan, out, steps),
         (Mode::One(name), _) => write_alone(alloc, &name, plan, out, steps),
         (Mode::Live, _) => unreachable!(),
     }

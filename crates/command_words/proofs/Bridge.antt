@@ -25,14 +25,14 @@ use Rattle.command_words.proofs.ClapRows.{HaveValues, Stage, at_start, fault-mis
 use Rattle.command_words.proofs.ClapRows.{no_fault-option}
 use Rattle.command_words.proofs.ClapRows.{no_fault-place, none, one, place, three, two, values_at, values_in-have}
 use Rattle.command_words.proofs.ClapRows.{with_clone, with_first, with_mode, with_second, with_workers}
-use Rattle.command_words.proofs.ClapSteps.{IsPlain, at, end_of, fault_at_end, fault_behind}
+use Rattle.command_words.proofs.ClapSteps.{IsPlain, end_of, fault_at_end, fault_behind, walk_between}
 use Rattle.command_words.proofs.ClapSteps.{fault_of_fourth}
 use Rattle.command_words.proofs.ClapSteps.{fault_of_fourth_behind, fault_of_name, fault_of_next, fault_of_plain}
-use Rattle.command_words.proofs.ClapSteps.{fault_of_value, first, found, found-refused, found-taken, id_of, long}
-use Rattle.command_words.proofs.ClapSteps.{mode}
+use Rattle.command_words.proofs.ClapSteps.{fault_of_value, first, id_of, long, values_from, values_from-refused}
+use Rattle.command_words.proofs.ClapSteps.{mode, values_from-taken}
 use Rattle.command_words.proofs.ClapSteps.{pending_fault, repeated, rows_with, second, shape, used, walk_at_end}
 use Rattle.command_words.proofs.ClapSteps.{walk_behind, walk_of_name, walk_of_next, walk_of_plain, walk_of_value}
-use Rattle.command_words.proofs.WordShapes.{Says, plain, says}
+use Rattle.command_words.proofs.WordShapes.{IsPlain-of_undashed, Says, Says-dashed_word}
 
 -- ---- more than three positionals
 
@@ -100,7 +100,7 @@ too_many (word ∷ rest) x y z u (Some name) w c more =
 
 -- what is pending is settled
 at_last : (rows : List Row) (p : Option (Text × List Text)) (waiting : Waiting) (position : ℕ) (ended : Bool)
-    → found (at rows p waiting position ended) []
+    → values_from (walk_between rows p waiting position ended) []
     ≡ unless_fault (pending_fault rows p) (Some (values_in (rows_with rows p)))
 unfolding walk_fault
 at_last rows p waiting position ended = refl
@@ -121,10 +121,11 @@ up_to_three-end w c (two a b) = refl
 up_to_three-end w c (three a b d) = refl
 
 -- clap finds what its rows tell
-found-end : (rows : List Row) (p : Option (Text × List Text)) (waiting : Waiting) (ended : Bool) (w c : Option Text)
+values_from-end : (rows : List Row) (p : Option (Text × List Text)) (waiting : Waiting) (ended : Bool)
+    (w c : Option Text)
     (s : Stage) → pending_fault rows p ≡ [] → HaveValues (rows_with rows p) w c s
-    → found (at rows p waiting (place s) ended) [] ≡ Some (values_at w c s)
-found-end rows p waiting ended w c s clear st =
+    → values_from (walk_between rows p waiting (place s) ended) [] ≡ Some (values_at w c s)
+values_from-end rows p waiting ended w c s clear st =
     at_last rows p waiting (place s) ended
     ∙ ap (λ k. unless_fault k (Some (values_in (rows_with rows p)))) clear
     ∙ ap (λ (v : GivenView). Some v) (values_in-have (rows_with rows p) w c s st)
@@ -134,96 +135,107 @@ found-end rows p waiting ended w c s clear st =
 -- each word is a positional, and a fourth is refused
 behind : (rest : List Text) (rows : List Row) (p : Option (Text × List Text)) (waiting : Waiting) (w c : Option Text)
     (s : Stage) → pending_fault rows p ≡ [] → HaveValues (rows_with rows p) w c s
-    → found (at rows p waiting (place s) true) rest ≡ up_to_three (with_positionals rest (values_at w c s))
+    → values_from (walk_between rows p waiting (place s) true) rest
+    ≡ up_to_three (with_positionals rest (values_at w c s))
 behind [] rows p waiting w c s clear st =
-    found-end rows p waiting true w c s clear st ∙ sym (up_to_three-end w c s)
+    values_from-end rows p waiting true w c s clear st ∙ sym (up_to_three-end w c s)
 behind (word ∷ rest) rows p waiting w c none clear st =
-    found-taken (at rows p waiting 1 true) (at (rows_with rows p) (Some (codes "mode", word ∷ [])) idle 2 true)
+    values_from-taken (walk_between rows p waiting 1 true)
+    (walk_between (rows_with rows p) (Some (codes "mode", word ∷ [])) idle 2 true)
     word rest (fault_behind mode word rows p waiting ∙ clear) (walk_behind mode word rows p waiting)
     ∙ behind rest (rows_with rows p) (Some (codes "mode", word ∷ [])) idle w c (one word)
     (no_fault-place mode word (rows_with rows p) st.mode_row.there) (with_mode word (rows_with rows p) w c st)
 behind (word ∷ rest) rows p waiting w c (one a) clear st =
-    found-taken (at rows p waiting 2 true) (at (rows_with rows p) (Some (codes "first", word ∷ [])) idle 3 true)
+    values_from-taken (walk_between rows p waiting 2 true)
+    (walk_between (rows_with rows p) (Some (codes "first", word ∷ [])) idle 3 true)
     word rest (fault_behind first word rows p waiting ∙ clear) (walk_behind first word rows p waiting)
     ∙ behind rest (rows_with rows p) (Some (codes "first", word ∷ [])) idle w c (two a word)
     (no_fault-place first word (rows_with rows p) st.first_row.there) (with_first word a (rows_with rows p) w c st)
 behind (word ∷ rest) rows p waiting w c (two a b) clear st =
-    found-taken (at rows p waiting 3 true) (at (rows_with rows p) (Some (codes "second", word ∷ [])) idle 4 true)
+    values_from-taken (walk_between rows p waiting 3 true)
+    (walk_between (rows_with rows p) (Some (codes "second", word ∷ [])) idle 4 true)
     word rest (fault_behind second word rows p waiting ∙ clear) (walk_behind second word rows p waiting)
     ∙ behind rest (rows_with rows p) (Some (codes "second", word ∷ [])) idle w c (three a b word)
     (no_fault-place second word (rows_with rows p) st.second_row.there)
     (with_second word a b (rows_with rows p) w c st)
 behind (word ∷ rest) rows p waiting w c (three a b d) clear st =
-    found-refused (at rows p waiting 4 true) word rest kind.UnknownArgument []
+    values_from-refused (walk_between rows p waiting 4 true) word rest kind.UnknownArgument []
     (fault_of_fourth_behind word rows p waiting) ∙ sym (more_than_three w c a b d word rest)
 
 -- ---- where what is pending has a fault, clap refuses the words, whatever follows
 
 -- at the end of the words
 doomed_end : (rows : List Row) (p : Option (Text × List Text)) (waiting : Waiting) (position : ℕ) (ended : Bool)
-    (k : ErrorKind) (ks : Kinds) → pending_fault rows p ≡ k ∷ ks → found (at rows p waiting position ended) [] ≡ None
+    (k : ErrorKind) (ks : Kinds) → pending_fault rows p ≡ k ∷ ks
+    → values_from (walk_between rows p waiting position ended) [] ≡ None
 doomed_end rows p waiting position ended k ks fault =
     at_last rows p waiting position ended
     ∙ ap (λ x. unless_fault x (Some (values_in (rows_with rows p)))) fault
 
 -- behind `--`
 doomed_behind : (rest : List Text) (rows : List Row) (p : Option (Text × List Text)) (waiting : Waiting) (s : Stage)
-    (k : ErrorKind) (ks : Kinds) → pending_fault rows p ≡ k ∷ ks → found (at rows p waiting (place s) true) rest ≡ None
+    (k : ErrorKind) (ks : Kinds) → pending_fault rows p ≡ k ∷ ks
+    → values_from (walk_between rows p waiting (place s) true) rest ≡ None
 doomed_behind [] rows p waiting s k ks fault = doomed_end rows p waiting (place s) true k ks fault
 doomed_behind (word ∷ rest) rows p waiting none k ks fault =
-    found-refused (at rows p waiting 1 true) word rest k ks (fault_behind mode word rows p waiting ∙ fault)
+    values_from-refused (walk_between rows p waiting 1 true) word rest k ks
+    (fault_behind mode word rows p waiting ∙ fault)
 doomed_behind (word ∷ rest) rows p waiting (one a) k ks fault =
-    found-refused (at rows p waiting 2 true) word rest k ks (fault_behind first word rows p waiting ∙ fault)
+    values_from-refused (walk_between rows p waiting 2 true) word rest k ks
+    (fault_behind first word rows p waiting ∙ fault)
 doomed_behind (word ∷ rest) rows p waiting (two a b) k ks fault =
-    found-refused (at rows p waiting 3 true) word rest k ks (fault_behind second word rows p waiting ∙ fault)
+    values_from-refused (walk_between rows p waiting 3 true) word rest k ks
+    (fault_behind second word rows p waiting ∙ fault)
 doomed_behind (word ∷ rest) rows p waiting (three a b d) k ks fault =
-    found-refused (at rows p waiting 4 true) word rest kind.UnknownArgument []
+    values_from-refused (walk_between rows p waiting 4 true) word rest kind.UnknownArgument []
     (fault_of_fourth_behind word rows p waiting)
 
 -- at a word with a dash
 doomed_dashed : (d : DashedWord) (word : Text) (rest : List Text) (rows : List Row) (p : Option (Text × List Text))
     (waiting : Waiting) (s : Stage) (k : ErrorKind) (ks : Kinds) → Says d word → pending_fault rows p ≡ k ∷ ks
-    → found (at rows p waiting (place s) false) (word ∷ rest) ≡ None
+    → values_from (walk_between rows p waiting (place s) false) (word ∷ rest) ≡ None
 doomed_dashed ending word rest rows p waiting s k ks e fault =
-    ap (λ x. found (at rows p waiting (place s) false) (x ∷ rest)) e
-    ∙ found-taken (at rows p waiting (place s) false) (at rows p waiting (place s) true) (codes "--") rest
+    ap (λ x. values_from (walk_between rows p waiting (place s) false) (x ∷ rest)) e
+    ∙ values_from-taken (walk_between rows p waiting (place s) false)
+    (walk_between rows p waiting (place s) true) (codes "--") rest
     (fault_at_end rows p waiting (place s)) (walk_at_end rows p waiting (place s))
     ∙ doomed_behind rest rows p waiting s k ks fault
 doomed_dashed (bare_option name) word rest rows p waiting s k ks e fault =
-    ap (λ x. found (at rows p waiting (place s) false) (x ∷ rest)) e
-    ∙ found-refused (at rows p waiting (place s) false) (long name) rest k ks
+    ap (λ x. values_from (walk_between rows p waiting (place s) false) (x ∷ rest)) e
+    ∙ values_from-refused (walk_between rows p waiting (place s) false) (long name) rest k ks
     (fault_of_name name rows p waiting (place s) ∙ ap (λ x. or_else x []) fault)
 doomed_dashed (option_with_value name v) word rest rows p waiting s k ks e fault =
-    ap (λ x. found (at rows p waiting (place s) false) (x ∷ rest)) e
-    ∙ found-refused (at rows p waiting (place s) false) (long name ++ (61 ∷ v)) rest k ks
+    ap (λ x. values_from (walk_between rows p waiting (place s) false) (x ∷ rest)) e
+    ∙ values_from-refused (walk_between rows p waiting (place s) false) (long name ++ (61 ∷ v)) rest k ks
     (fault_of_value name v rows p waiting (place s)
     ∙ ap (λ x. or_else (or_else x (or_else (repeated (id_of name) (rows_with rows p)) [])) []) fault)
 doomed_dashed unknown word rest rows p waiting s k ks refuses fault =
-    found-refused (at rows p waiting (place s) false) word rest kind.UnknownArgument []
+    values_from-refused (walk_between rows p waiting (place s) false) word rest kind.UnknownArgument []
     (refuses rows p waiting (place s))
 
 -- at a word without one
 doomed_plain : (word : Text) (rest : List Text) (rows : List Row) (p : Option (Text × List Text)) (s : Stage)
     (k : ErrorKind) (ks : Kinds) → IsPlain word → pending_fault rows p ≡ k ∷ ks
-    → found (at rows p idle (place s) false) (word ∷ rest) ≡ None
+    → values_from (walk_between rows p idle (place s) false) (word ∷ rest) ≡ None
 doomed_plain word rest rows p none k ks is fault =
-    found-refused (at rows p idle 1 false) word rest k ks (fault_of_plain mode word rows p is ∙ fault)
+    values_from-refused (walk_between rows p idle 1 false) word rest k ks (fault_of_plain mode word rows p is ∙ fault)
 doomed_plain word rest rows p (one a) k ks is fault =
-    found-refused (at rows p idle 2 false) word rest k ks (fault_of_plain first word rows p is ∙ fault)
+    values_from-refused (walk_between rows p idle 2 false) word rest k ks (fault_of_plain first word rows p is ∙ fault)
 doomed_plain word rest rows p (two a b) k ks is fault =
-    found-refused (at rows p idle 3 false) word rest k ks (fault_of_plain second word rows p is ∙ fault)
+    values_from-refused (walk_between rows p idle 3 false) word rest k ks (fault_of_plain second word rows p is ∙ fault)
 doomed_plain word rest rows p (three a b d) k ks is fault =
-    found-refused (at rows p idle 4 false) word rest kind.UnknownArgument [] (fault_of_fourth word rows p is)
+    values_from-refused (walk_between rows p idle 4 false) word rest kind.UnknownArgument []
+    (fault_of_fourth word rows p is)
 
 -- so at any words
 doomed : (words : List Text) → AllByRecursion IsUtf8 words → (rows : List Row) (p : Option (Text × List Text))
     (s : Stage) (k : ErrorKind) (ks : Kinds) → pending_fault rows p ≡ k ∷ ks
-    → found (at rows p idle (place s) false) words ≡ None
+    → values_from (walk_between rows p idle (place s) false) words ≡ None
 doomed [] u rows p s k ks fault = doomed_end rows p idle (place s) false k ks fault
 doomed (word ∷ rest) u rows p s k ks fault = ⊎_elim
     (λ (yes : is_dashed word ≡ true).
-    doomed_dashed (dashed_word word) word rest rows p idle s k ks (says word u.0 yes) fault)
-    (λ (no : is_dashed word ≡ false). doomed_plain word rest rows p s k ks (plain word no) fault)
+    doomed_dashed (dashed_word word) word rest rows p idle s k ks (Says-dashed_word word u.0 yes) fault)
+    (λ (no : is_dashed word ≡ false). doomed_plain word rest rows p s k ks (IsPlain-of_undashed word no) fault)
     (cases_Bool (is_dashed word))
 
 -- ---- where nothing is due, and where the value of an option is due
@@ -232,12 +244,13 @@ doomed (word ∷ rest) u rows p s k ks fault = ⊎_elim
 abbrev Free : List Text → Type 0
 Free words = (rows : List Row) (p : Option (Text × List Text)) (w c : Option Text) (s : Stage)
     → pending_fault rows p ≡ [] → HaveValues (rows_with rows p) w c s
-    → found (at rows p idle (place s) false) words ≡ option_and_then up_to_three (read words None (values_at w c s))
+    → values_from (walk_between rows p idle (place s) false) words
+    ≡ option_and_then up_to_three (read words None (values_at w c s))
 
 -- and so where the value of an option is due
 abbrev Due : List Text → Type 0
 Due words = (name : OptionName) (rows : List Row) (w c : Option Text) (s : Stage) → HaveValues rows w c s
-    → found (at rows (Some (id_of name, [])) (option (id_of name)) (place s) false) words
+    → values_from (walk_between rows (Some (id_of name, [])) (option (id_of name)) (place s) false) words
     ≡ option_and_then up_to_three (read words (Some name) (values_at w c s))
 
 -- an option without a row is not there twice
@@ -252,11 +265,12 @@ repeat id rows h = rw h refl
 value_step : (name : OptionName) (v : Text) (rest : List Text) → Free rest → (rows : List Row)
     (p : Option (Text × List Text)) (w c : Option Text) (s : Stage) → pending_fault rows p ≡ []
     → HaveValues (rows_with rows p) w c s
-    → found (at rows p idle (place s) false) ((long name ++ (61 ∷ v)) ∷ rest)
+    → values_from (walk_between rows p idle (place s) false) ((long name ++ (61 ∷ v)) ∷ rest)
     ≡ option_and_then up_to_three (option_and_then (read rest None) (with_value name v (values_at w c s)))
 value_step workers v rest free rows p None c s clear st =
-    found-taken (at rows p idle (place s) false)
-    (at (used (codes "workers") v (rows_with rows p)) None idle (place s) false) (long workers ++ (61 ∷ v)) rest
+    values_from-taken (walk_between rows p idle (place s) false)
+    (walk_between (used (codes "workers") v (rows_with rows p)) None idle (place s) false)
+    (long workers ++ (61 ∷ v)) rest
     (fault_of_value workers v rows p idle (place s)
     ∙ ap₂ (λ a b. or_else (or_else a (or_else b [])) []) clear
     (no_repeat (codes "workers") (rows_with rows p) st.workers_row.there))
@@ -264,13 +278,14 @@ value_step workers v rest free rows p None c s clear st =
     ∙ free (used (codes "workers") v (rows_with rows p)) None (Some v) c s refl
     (with_workers v (rows_with rows p) c s st)
 value_step workers v rest free rows p (Some o) c s clear st =
-    found-refused (at rows p idle (place s) false) (long workers ++ (61 ∷ v)) rest kind.ArgumentConflict []
+    values_from-refused (walk_between rows p idle (place s) false)
+    (long workers ++ (61 ∷ v)) rest kind.ArgumentConflict []
     (fault_of_value workers v rows p idle (place s)
     ∙ ap₂ (λ a b. or_else (or_else a (or_else b [])) []) clear
     (repeat (codes "workers") (rows_with rows p) st.workers_row.there))
 value_step clone v rest free rows p w None s clear st =
-    found-taken (at rows p idle (place s) false)
-    (at (used (codes "clone") v (rows_with rows p)) None idle (place s) false) (long clone ++ (61 ∷ v)) rest
+    values_from-taken (walk_between rows p idle (place s) false)
+    (walk_between (used (codes "clone") v (rows_with rows p)) None idle (place s) false) (long clone ++ (61 ∷ v)) rest
     (fault_of_value clone v rows p idle (place s)
     ∙ ap₂ (λ a b. or_else (or_else a (or_else b [])) []) clear
     (no_repeat (codes "clone") (rows_with rows p) st.clone_row.there))
@@ -278,7 +293,8 @@ value_step clone v rest free rows p w None s clear st =
     ∙ free (used (codes "clone") v (rows_with rows p)) None w (Some v) s refl
     (with_clone v (rows_with rows p) w s st)
 value_step clone v rest free rows p w (Some o) s clear st =
-    found-refused (at rows p idle (place s) false) (long clone ++ (61 ∷ v)) rest kind.ArgumentConflict []
+    values_from-refused (walk_between rows p idle (place s) false)
+    (long clone ++ (61 ∷ v)) rest kind.ArgumentConflict []
     (fault_of_value clone v rows p idle (place s)
     ∙ ap₂ (λ a b. or_else (or_else a (or_else b [])) []) clear
     (repeat (codes "clone") (rows_with rows p) st.clone_row.there))
@@ -287,49 +303,55 @@ value_step clone v rest free rows p w (Some o) s clear st =
 free_dashed : (d : DashedWord) (word : Text) (rest : List Text) → Free rest → Due rest → Says d word → (rows : List Row)
     (p : Option (Text × List Text)) (w c : Option Text) (s : Stage) → pending_fault rows p ≡ []
     → HaveValues (rows_with rows p) w c s
-    → found (at rows p idle (place s) false) (word ∷ rest)
+    → values_from (walk_between rows p idle (place s) false) (word ∷ rest)
     ≡ option_and_then up_to_three (after_dashed d rest (read rest) (values_at w c s))
 free_dashed ending word rest free due e rows p w c s clear st =
-    ap (λ x. found (at rows p idle (place s) false) (x ∷ rest)) e
-    ∙ found-taken (at rows p idle (place s) false) (at rows p idle (place s) true) (codes "--") rest
+    ap (λ x. values_from (walk_between rows p idle (place s) false) (x ∷ rest)) e
+    ∙ values_from-taken (walk_between rows p idle (place s) false)
+    (walk_between rows p idle (place s) true) (codes "--") rest
     (fault_at_end rows p idle (place s)) (walk_at_end rows p idle (place s))
     ∙ behind rest rows p idle w c s clear st
 free_dashed (bare_option name) word rest free due e rows p w c s clear st =
-    ap (λ x. found (at rows p idle (place s) false) (x ∷ rest)) e
-    ∙ found-taken (at rows p idle (place s) false)
-    (at (rows_with rows p) (Some (id_of name, [])) (option (id_of name)) (place s) false) (long name) rest
+    ap (λ x. values_from (walk_between rows p idle (place s) false) (x ∷ rest)) e
+    ∙ values_from-taken (walk_between rows p idle (place s) false)
+    (walk_between (rows_with rows p) (Some (id_of name, [])) (option (id_of name)) (place s) false) (long name) rest
     (fault_of_name name rows p idle (place s) ∙ ap (λ x. or_else x []) clear) (walk_of_name name rows p (place s))
     ∙ due name (rows_with rows p) w c s st
 free_dashed (option_with_value name v) word rest free due e rows p w c s clear st =
-    ap (λ x. found (at rows p idle (place s) false) (x ∷ rest)) e
+    ap (λ x. values_from (walk_between rows p idle (place s) false) (x ∷ rest)) e
     ∙ value_step name v rest free rows p w c s clear st
 free_dashed unknown word rest free due refuses rows p w c s clear st =
-    found-refused (at rows p idle (place s) false) word rest kind.UnknownArgument [] (refuses rows p idle (place s))
+    values_from-refused (walk_between rows p idle (place s) false) word rest kind.UnknownArgument []
+    (refuses rows p idle (place s))
 
 -- a word without one, where nothing is due: a positional
 free_plain : (word : Text) (rest : List Text) → Free rest → IsPlain word → (rows : List Row)
     (p : Option (Text × List Text)) (w c : Option Text) (s : Stage) → pending_fault rows p ≡ []
     → HaveValues (rows_with rows p) w c s
-    → found (at rows p idle (place s) false) (word ∷ rest)
+    → values_from (walk_between rows p idle (place s) false) (word ∷ rest)
     ≡ option_and_then up_to_three (read rest None (with_positionals (word ∷ []) (values_at w c s)))
 free_plain word rest free is rows p w c none clear st =
-    found-taken (at rows p idle 1 false) (at (rows_with rows p) (Some (codes "mode", word ∷ [])) idle 2 false)
+    values_from-taken (walk_between rows p idle 1 false)
+    (walk_between (rows_with rows p) (Some (codes "mode", word ∷ [])) idle 2 false)
     word rest (fault_of_plain mode word rows p is ∙ clear) (walk_of_plain mode word rows p is)
     ∙ free (rows_with rows p) (Some (codes "mode", word ∷ [])) w c (one word)
     (no_fault-place mode word (rows_with rows p) st.mode_row.there) (with_mode word (rows_with rows p) w c st)
 free_plain word rest free is rows p w c (one a) clear st =
-    found-taken (at rows p idle 2 false) (at (rows_with rows p) (Some (codes "first", word ∷ [])) idle 3 false)
+    values_from-taken (walk_between rows p idle 2 false)
+    (walk_between (rows_with rows p) (Some (codes "first", word ∷ [])) idle 3 false)
     word rest (fault_of_plain first word rows p is ∙ clear) (walk_of_plain first word rows p is)
     ∙ free (rows_with rows p) (Some (codes "first", word ∷ [])) w c (two a word)
     (no_fault-place first word (rows_with rows p) st.first_row.there) (with_first word a (rows_with rows p) w c st)
 free_plain word rest free is rows p w c (two a b) clear st =
-    found-taken (at rows p idle 3 false) (at (rows_with rows p) (Some (codes "second", word ∷ [])) idle 4 false)
+    values_from-taken (walk_between rows p idle 3 false)
+    (walk_between (rows_with rows p) (Some (codes "second", word ∷ [])) idle 4 false)
     word rest (fault_of_plain second word rows p is ∙ clear) (walk_of_plain second word rows p is)
     ∙ free (rows_with rows p) (Some (codes "second", word ∷ [])) w c (three a b word)
     (no_fault-place second word (rows_with rows p) st.second_row.there)
     (with_second word a b (rows_with rows p) w c st)
 free_plain word rest free is rows p w c (three a b d) clear st =
-    found-refused (at rows p idle 4 false) word rest kind.UnknownArgument [] (fault_of_fourth word rows p is)
+    values_from-refused (walk_between rows p idle 4 false) word rest kind.UnknownArgument []
+    (fault_of_fourth word rows p is)
     ∙ sym (too_many rest a b d word None w c [])
 
 -- any word, where nothing is due
@@ -339,38 +361,38 @@ free_step word rest u free due rows p w c s clear st =
     let text : Option GivenView = read rest None (with_positionals (word ∷ []) (values_at w c s)) in
     ⊎_elim
     (λ (yes : is_dashed word ≡ true).
-    free_dashed (dashed_word word) word rest free due (says word u yes) rows p w c s clear st
+    free_dashed (dashed_word word) word rest free due (Says-dashed_word word u yes) rows p w c s clear st
     ∙ ap (λ (t : Bool). option_and_then up_to_three (cond t dash text)) (sym yes))
-    (λ (no : is_dashed word ≡ false). free_plain word rest free (plain word no) rows p w c s clear st
+    (λ (no : is_dashed word ≡ false). free_plain word rest free (IsPlain-of_undashed word no) rows p w c s clear st
     ∙ ap (λ (t : Bool). option_and_then up_to_three (cond t dash text)) (sym no))
     (cases_Bool (is_dashed word))
 
 -- a word without a dash, where a value is due: the value
 due_plain : (name : OptionName) (word : Text) (rest : List Text) → AllByRecursion IsUtf8 rest → Free rest
     → IsPlain word → (rows : List Row) (w c : Option Text) (s : Stage) → HaveValues rows w c s
-    → found (at rows (Some (id_of name, [])) (option (id_of name)) (place s) false) (word ∷ rest)
+    → values_from (walk_between rows (Some (id_of name, [])) (option (id_of name)) (place s) false) (word ∷ rest)
     ≡ option_and_then up_to_three (option_and_then (read rest None) (with_value name word (values_at w c s)))
 due_plain workers word rest us free is rows None c s st =
-    found-taken (at rows (Some (codes "workers", [])) (option (codes "workers")) (place s) false)
-    (at rows (Some (codes "workers", word ∷ [])) idle (place s) false) word rest
+    values_from-taken (walk_between rows (Some (codes "workers", [])) (option (codes "workers")) (place s) false)
+    (walk_between rows (Some (codes "workers", word ∷ [])) idle (place s) false) word rest
     (fault_of_next workers word rows (place s) is) (walk_of_next workers word rows (place s) is)
     ∙ free rows (Some (codes "workers", word ∷ [])) (Some word) c s
     (no_fault-option workers word rows st.workers_row.there) (with_workers word rows c s st)
 due_plain workers word rest us free is rows (Some o) c s st =
-    found-taken (at rows (Some (codes "workers", [])) (option (codes "workers")) (place s) false)
-    (at rows (Some (codes "workers", word ∷ [])) idle (place s) false) word rest
+    values_from-taken (walk_between rows (Some (codes "workers", [])) (option (codes "workers")) (place s) false)
+    (walk_between rows (Some (codes "workers", word ∷ [])) idle (place s) false) word rest
     (fault_of_next workers word rows (place s) is) (walk_of_next workers word rows (place s) is)
     ∙ doomed rest us rows (Some (codes "workers", word ∷ [])) s kind.ArgumentConflict []
     (fault-twice workers word rows st.workers_row.there)
 due_plain clone word rest us free is rows w None s st =
-    found-taken (at rows (Some (codes "clone", [])) (option (codes "clone")) (place s) false)
-    (at rows (Some (codes "clone", word ∷ [])) idle (place s) false) word rest
+    values_from-taken (walk_between rows (Some (codes "clone", [])) (option (codes "clone")) (place s) false)
+    (walk_between rows (Some (codes "clone", word ∷ [])) idle (place s) false) word rest
     (fault_of_next clone word rows (place s) is) (walk_of_next clone word rows (place s) is)
     ∙ free rows (Some (codes "clone", word ∷ [])) w (Some word) s
     (no_fault-option clone word rows st.clone_row.there) (with_clone word rows w s st)
 due_plain clone word rest us free is rows w (Some o) s st =
-    found-taken (at rows (Some (codes "clone", [])) (option (codes "clone")) (place s) false)
-    (at rows (Some (codes "clone", word ∷ [])) idle (place s) false) word rest
+    values_from-taken (walk_between rows (Some (codes "clone", [])) (option (codes "clone")) (place s) false)
+    (walk_between rows (Some (codes "clone", word ∷ [])) idle (place s) false) word rest
     (fault_of_next clone word rows (place s) is) (walk_of_next clone word rows (place s) is)
     ∙ doomed rest us rows (Some (codes "clone", word ∷ [])) s kind.ArgumentConflict []
     (fault-twice clone word rows st.clone_row.there)
@@ -383,15 +405,15 @@ due_step word rest u us free name rows w c s st =
     ⊎_elim
     (λ (yes : is_dashed word ≡ true).
     doomed_dashed (dashed_word word) word rest rows (Some (id_of name, [])) (option (id_of name)) s kind.InvalidValue []
-    (says word u yes) (fault-missing name rows)
+    (Says-dashed_word word u yes) (fault-missing name rows)
     ∙ ap (λ (t : Bool). option_and_then up_to_three (cond t None text)) (sym yes))
-    (λ (no : is_dashed word ≡ false). due_plain name word rest us free (plain word no) rows w c s st
+    (λ (no : is_dashed word ≡ false). due_plain name word rest us free (IsPlain-of_undashed word no) rows w c s st
     ∙ ap (λ (t : Bool). option_and_then up_to_three (cond t None text)) (sym no))
     (cases_Bool (is_dashed word))
 
 -- no word more
 free_end : Free []
-free_end rows p w c s clear st = found-end rows p idle false w c s clear st ∙ sym (up_to_three-at w c s)
+free_end rows p w c s clear st = values_from-end rows p idle false w c s clear st ∙ sym (up_to_three-at w c s)
 
 -- the value is missing
 due_end : Due []
@@ -471,23 +493,23 @@ cloner_has_no_default = (refl, (refl, (refl, (refl, (refl, tt)))))
 
 -- the faults of a whole command line are those of the walk and of its end
 fault-start : (words : List Text) → fault_of cloner_app words
-    ≡ or_else (walk_fault shape [] (at [] None idle 1 false) words)
-    (settle_fault shape.rules false (end_of (at [] None idle 1 false) words))
-fault-start words = walk_and_end (walk_fault shape [] (at [] None idle 1 false) words) _
-    (settle_fault shape.rules false (end_of (at [] None idle 1 false) words)) _ _
+    ≡ or_else (walk_fault shape [] (walk_between [] None idle 1 false) words)
+    (settle_fault shape.rules false (end_of (walk_between [] None idle 1 false) words))
+fault-start words = walk_and_end (walk_fault shape [] (walk_between [] None idle 1 false) words) _
+    (settle_fault shape.rules false (end_of (walk_between [] None idle 1 false) words)) _ _
     (none_below _)
-    (no_defaults_fault shape.rules (settled shape.rules (end_of (at [] None idle 1 false) words)).rows
+    (no_defaults_fault shape.rules (settled shape.rules (end_of (walk_between [] None idle 1 false) words)).rows
     cloner_has_no_default)
-    (none_checked (finished shape.rules (end_of (at [] None idle 1 false) words)) _)
+    (none_checked (finished shape.rules (end_of (walk_between [] None idle 1 false) words)) _)
 
 -- its rows are those of the walk, settled
 rows-start : (words : List Text)
-    → matches_of cloner_app words ≡ (settled shape.rules (end_of (at [] None idle 1 false) words)).rows
-rows-start words = no_defaults shape.rules (settled shape.rules (end_of (at [] None idle 1 false) words)).rows
+    → matches_of cloner_app words ≡ (settled shape.rules (end_of (walk_between [] None idle 1 false) words)).rows
+rows-start words = no_defaults shape.rules (settled shape.rules (end_of (walk_between [] None idle 1 false) words)).rows
     cloner_has_no_default
 
 -- what clap finds in the words is what it finds from the walk's start
-clap_values-start : (words : List Text) → clap_values words ≡ found (at [] None idle 1 false) words
+clap_values-start : (words : List Text) → clap_values words ≡ values_from (walk_between [] None idle 1 false) words
 unfolding clap_values
 clap_values-start words =
     ap₂ (λ k r. unless_fault k (Some (values_in r))) (fault-start words) (rows-start words)

@@ -10,7 +10,7 @@ use Rattle.clap.specs.declared.parser.matches.ValueSource.TheVariants.{CommandLi
 use Rattle.command_words.specs.Clap.{values_in}
 use Rattle.command_words.specs.Rules.{OptionName, workers, clone}
 use Rattle.command_words.specs.Values.{GivenView, positionals_of}
-use Rattle.command_words.proofs.ClapSteps.{Place, first, id_of, mode, name_of, pending_fault, second, used}
+use Rattle.command_words.proofs.ClapSteps.{Place, first, id_of, mode, pending_fault, positional_name, second, used}
 
 -- ---- a use of what was not used yet is a row more
 
@@ -244,8 +244,8 @@ fault-twice workers v rows h = rw h refl
 fault-twice clone v rows h = rw h refl
 
 -- a positional has none
-pub no_fault-place : (k : Place) (v : Text) (rows : List Row) → has_row (name_of k) rows ≡ false
-    → pending_fault rows (Some (name_of k, v ∷ [])) ≡ []
+pub no_fault-place : (k : Place) (v : Text) (rows : List Row) → has_row (positional_name k) rows ≡ false
+    → pending_fault rows (Some (positional_name k, v ∷ [])) ≡ []
 no_fault-place mode v rows h = rw h refl
 no_fault-place first v rows h = rw h refl
 no_fault-place second v rows h = rw h refl

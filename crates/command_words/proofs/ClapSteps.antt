@@ -26,13 +26,13 @@ abbrev pub shape : Shape
 shape = (built cloner_app).top
 
 -- what the walk holds
-abbrev pub held : List Row → Option (Text × List Text) → Held
-held rows pending = record { rows = rows; pending = pending; skip = 0 }
+abbrev pub walk_holds : List Row → Option (Text × List Text) → Held
+walk_holds rows pending = record { rows = rows; pending = pending; skip = 0 }
 
 -- clap's walk between two words
-abbrev pub at : List Row → Option (Text × List Text) → Waiting → ℕ → Bool → Walk
-at rows pending waiting position ended = record {
-  held = held rows pending;
+abbrev pub walk_between : List Row → Option (Text × List Text) → Waiting → ℕ → Bool → Walk
+walk_between rows pending waiting position ended = record {
+  held = walk_holds rows pending;
   waiting = waiting;
   position = position;
   is_trailing = ended;
@@ -44,13 +44,14 @@ abbrev pub end_of : Walk → List Text → Held
 end_of w words = (fold (walked shape.rules []) w words).held
 
 -- what clap finds, from where its walk stands
-abbrev pub found : Walk → List Text → Option GivenView
-found w words = unless_fault (or_else (walk_fault shape [] w words) (settle_fault shape.rules false (end_of w words)))
+abbrev pub values_from : Walk → List Text → Option GivenView
+values_from w words =
+    unless_fault (or_else (walk_fault shape [] w words) (settle_fault shape.rules false (end_of w words)))
     (Some (values_in (settled shape.rules (end_of w words)).rows))
 
 -- the fault of what is pending
 abbrev pub pending_fault : List Row → Option (Text × List Text) → Kinds
-pending_fault rows pending = settle_fault shape.rules false (held rows pending)
+pending_fault rows pending = settle_fault shape.rules false (walk_holds rows pending)
 
 -- the rows with what is pending
 abbrev pub rows_with : List Row → Option (Text × List Text) → List Row
@@ -60,7 +61,7 @@ rows_with rows pending = settled_rows shape.rules pending rows
 abbrev pub used : Text → Text → List Row → List Row
 used id value rows = with_values id AsWritten CommandLine (value ∷ []) (without id rows)
 
--- ---- found
+-- ---- values_from
 
 -- two steps, one after the other
 two_faults : (a b c : Kinds) (v : Option GivenView)
@@ -69,36 +70,37 @@ two_faults [] b c v = refl
 two_faults (k ∷ ks) b c v = refl
 
 -- a word, and then the others
-found-cons : (w : Walk) (word : Text) (rest : List Text) → found w (word ∷ rest)
-    ≡ unless_fault (turn_fault shape [] w word) (found (walked shape.rules [] w word) rest)
+values_from-cons : (w : Walk) (word : Text) (rest : List Text) → values_from w (word ∷ rest)
+    ≡ unless_fault (turn_fault shape [] w word) (values_from (walked shape.rules [] w word) rest)
 unfolding walk_fault
-found-cons w word rest = two_faults (turn_fault shape [] w word) _ _ _
+values_from-cons w word rest = two_faults (turn_fault shape [] w word) _ _ _
 
 -- a word that clap takes
-pub found-taken : (w v : Walk) (word : Text) (rest : List Text) → turn_fault shape [] w word ≡ []
-    → walked shape.rules [] w word ≡ v → found w (word ∷ rest) ≡ found v rest
-found-taken w v word rest none walks =
-    found-cons w word rest ∙ ap (λ k. unless_fault k (found (walked shape.rules [] w word) rest)) none
-    ∙ ap (λ x. found x rest) walks
+pub values_from-taken : (w v : Walk) (word : Text) (rest : List Text) → turn_fault shape [] w word ≡ []
+    → walked shape.rules [] w word ≡ v → values_from w (word ∷ rest) ≡ values_from v rest
+values_from-taken w v word rest none walks =
+    values_from-cons w word rest ∙ ap (λ k. unless_fault k (values_from (walked shape.rules [] w word) rest)) none
+    ∙ ap (λ x. values_from x rest) walks
 
 -- a word that it refuses
-pub found-refused : (w : Walk) (word : Text) (rest : List Text) (k : ErrorKind) (ks : Kinds)
-    → turn_fault shape [] w word ≡ k ∷ ks → found w (word ∷ rest) ≡ None
-found-refused w word rest k ks some =
-    found-cons w word rest ∙ ap (λ x. unless_fault x (found (walked shape.rules [] w word) rest)) some
+pub values_from-refused : (w : Walk) (word : Text) (rest : List Text) (k : ErrorKind) (ks : Kinds)
+    → turn_fault shape [] w word ≡ k ∷ ks → values_from w (word ∷ rest) ≡ None
+values_from-refused w word rest k ks some =
+    values_from-cons w word rest ∙ ap (λ x. unless_fault x (values_from (walked shape.rules [] w word) rest)) some
 
 -- ---- `--`
 
 -- it has no fault of its own
 pub fault_at_end : (rows : List Row) (p : Option (Text × List Text)) (waiting : Waiting) (position : ℕ)
-    → turn_fault shape [] (at rows p waiting position false) (codes "--") ≡ []
+    → turn_fault shape [] (walk_between rows p waiting position false) (codes "--") ≡ []
 fault_at_end rows p idle position = refl
 fault_at_end rows p (option id) position = refl
 fault_at_end rows p positional position = refl
 
 -- from here on all words are positionals
 pub walk_at_end : (rows : List Row) (p : Option (Text × List Text)) (waiting : Waiting) (position : ℕ)
-    → walked shape.rules [] (at rows p waiting position false) (codes "--") ≡ at rows p waiting position true
+    → walked shape.rules [] (walk_between rows p waiting position false) (codes "--")
+    ≡ walk_between rows p waiting position true
 unfolding walked
 walk_at_end rows p idle position = refl
 walk_at_end rows p (option id) position = refl
@@ -117,7 +119,7 @@ long name = 45 ∷ 45 ∷ id_of name
 
 -- what was pending before may fail
 pub fault_of_name : (name : OptionName) (rows : List Row) (p : Option (Text × List Text)) (waiting : Waiting)
-    (position : ℕ) → turn_fault shape [] (at rows p waiting position false) (long name)
+    (position : ℕ) → turn_fault shape [] (walk_between rows p waiting position false) (long name)
     ≡ or_else (pending_fault rows p) []
 fault_of_name workers rows p idle position = refl
 fault_of_name workers rows p (option id) position = refl
@@ -128,8 +130,8 @@ fault_of_name clone rows p positional position = refl
 
 -- the option waits for its value
 pub walk_of_name : (name : OptionName) (rows : List Row) (p : Option (Text × List Text)) (position : ℕ)
-    → walked shape.rules [] (at rows p idle position false) (long name)
-    ≡ at (rows_with rows p) (Some (id_of name, [])) (option (id_of name)) position false
+    → walked shape.rules [] (walk_between rows p idle position false) (long name)
+    ≡ walk_between (rows_with rows p) (Some (id_of name, [])) (option (id_of name)) position false
 unfolding walked
 walk_of_name workers rows p position = refl
 walk_of_name clone rows p position = refl
@@ -143,7 +145,7 @@ repeated id rows = cond (has_row id rows && true) (kind.ArgumentConflict ∷ [])
 -- what was pending may fail, or the option has a value already
 pub fault_of_value : (name : OptionName) (v : Text) (rows : List Row) (p : Option (Text × List Text))
     (waiting : Waiting) (position : ℕ)
-    → turn_fault shape [] (at rows p waiting position false) (long name ++ (61 ∷ v))
+    → turn_fault shape [] (walk_between rows p waiting position false) (long name ++ (61 ∷ v))
     ≡ or_else (or_else (pending_fault rows p) (or_else (repeated (id_of name) (rows_with rows p)) [])) []
 fault_of_value workers v rows p idle position = refl
 fault_of_value workers v rows p (option id) position = refl
@@ -154,8 +156,8 @@ fault_of_value clone v rows p positional position = refl
 
 -- the option is used
 pub walk_of_value : (name : OptionName) (v : Text) (rows : List Row) (p : Option (Text × List Text)) (position : ℕ)
-    → walked shape.rules [] (at rows p idle position false) (long name ++ (61 ∷ v))
-    ≡ at (used (id_of name) v (rows_with rows p)) None idle position false
+    → walked shape.rules [] (walk_between rows p idle position false) (long name ++ (61 ∷ v))
+    ≡ walk_between (used (id_of name) v (rows_with rows p)) None idle position false
 unfolding walked
 walk_of_value workers v rows p position = refl
 walk_of_value clone v rows p position = refl
@@ -170,14 +172,14 @@ pub record IsPlain (word : Text) : Type 0 where
 
 -- as the value that an option waits for
 pub fault_of_next : (name : OptionName) (word : Text) (rows : List Row) (position : ℕ) → IsPlain word
-    → turn_fault shape [] (at rows (Some (id_of name, [])) (option (id_of name)) position false) word ≡ []
+    → turn_fault shape [] (walk_between rows (Some (id_of name, [])) (option (id_of name)) position false) word ≡ []
 fault_of_next workers word rows position plain = rw (plain.no_end, plain.no_long, plain.no_short) refl
 fault_of_next clone word rows position plain = rw (plain.no_end, plain.no_long, plain.no_short) refl
 
 -- it is pending with the option
 pub walk_of_next : (name : OptionName) (word : Text) (rows : List Row) (position : ℕ) → IsPlain word
-    → walked shape.rules [] (at rows (Some (id_of name, [])) (option (id_of name)) position false) word
-    ≡ at rows (Some (id_of name, word ∷ [])) idle position false
+    → walked shape.rules [] (walk_between rows (Some (id_of name, [])) (option (id_of name)) position false) word
+    ≡ walk_between rows (Some (id_of name, word ∷ [])) idle position false
 unfolding walked
 walk_of_next workers word rows position plain = rw (plain.no_end, plain.no_long, plain.no_short) refl
 walk_of_next clone word rows position plain = rw (plain.no_end, plain.no_long, plain.no_short) refl
@@ -189,22 +191,22 @@ pub data Place : Type 0 where
   second : Place
 
 -- its name
-abbrev pub name_of : Place → Text
-name_of mode = codes "mode"
-name_of first = codes "first"
-name_of second = codes "second"
+abbrev pub positional_name : Place → Text
+positional_name mode = codes "mode"
+positional_name first = codes "first"
+positional_name second = codes "second"
 
 -- its number
-abbrev pub place_of : Place → ℕ
-place_of mode = 1
-place_of first = 2
-place_of second = 3
+abbrev pub positional_number : Place → ℕ
+positional_number mode = 1
+positional_number first = 2
+positional_number second = 3
 
 -- the number after it
-abbrev pub next_of : Place → ℕ
-next_of mode = 2
-next_of first = 3
-next_of second = 4
+abbrev pub next_positional : Place → ℕ
+next_positional mode = 2
+next_positional first = 3
+next_positional second = 4
 
 -- no positional takes several words
 not_several : (id : Text) (p : Option (Text × List Text))
@@ -213,7 +215,7 @@ not_several id p = and_right (option_map_or (λ q. bytes_eq q.0 id) p false) fal
 
 -- what was pending before may fail
 pub fault_of_plain : (k : Place) (word : Text) (rows : List Row) (p : Option (Text × List Text)) → IsPlain word
-    → turn_fault shape [] (at rows p idle (place_of k) false) word ≡ pending_fault rows p
+    → turn_fault shape [] (walk_between rows p idle (positional_number k) false) word ≡ pending_fault rows p
 fault_of_plain mode word rows p plain =
     rw (plain.no_end, plain.no_long, plain.no_short, not_several (codes "mode") p) refl
 fault_of_plain first word rows p plain =
@@ -223,8 +225,8 @@ fault_of_plain second word rows p plain =
 
 -- the word is pending
 pub walk_of_plain : (k : Place) (word : Text) (rows : List Row) (p : Option (Text × List Text)) → IsPlain word
-    → walked shape.rules [] (at rows p idle (place_of k) false) word
-    ≡ at (rows_with rows p) (Some (name_of k, word ∷ [])) idle (next_of k) false
+    → walked shape.rules [] (walk_between rows p idle (positional_number k) false) word
+    ≡ walk_between (rows_with rows p) (Some (positional_name k, word ∷ [])) idle (next_positional k) false
 unfolding walked
 walk_of_plain mode word rows p plain =
     rw (plain.no_end, plain.no_long, plain.no_short, not_several (codes "mode") p) refl
@@ -235,22 +237,22 @@ walk_of_plain second word rows p plain =
 
 -- there is no fourth
 pub fault_of_fourth : (word : Text) (rows : List Row) (p : Option (Text × List Text)) → IsPlain word
-    → turn_fault shape [] (at rows p idle 4 false) word ≡ kind.UnknownArgument ∷ []
+    → turn_fault shape [] (walk_between rows p idle 4 false) word ≡ kind.UnknownArgument ∷ []
 fault_of_fourth word rows p plain = rw (plain.no_end, plain.no_long, plain.no_short) refl
 
 -- ---- behind `--`
 
 -- what was pending before may fail
 pub fault_behind : (k : Place) (word : Text) (rows : List Row) (p : Option (Text × List Text)) (waiting : Waiting)
-    → turn_fault shape [] (at rows p waiting (place_of k) true) word ≡ pending_fault rows p
+    → turn_fault shape [] (walk_between rows p waiting (positional_number k) true) word ≡ pending_fault rows p
 fault_behind mode word rows p waiting = rw (not_several (codes "mode") p) refl
 fault_behind first word rows p waiting = rw (not_several (codes "first") p) refl
 fault_behind second word rows p waiting = rw (not_several (codes "second") p) refl
 
 -- the word is pending
 pub walk_behind : (k : Place) (word : Text) (rows : List Row) (p : Option (Text × List Text)) (waiting : Waiting)
-    → walked shape.rules [] (at rows p waiting (place_of k) true) word
-    ≡ at (rows_with rows p) (Some (name_of k, word ∷ [])) idle (next_of k) true
+    → walked shape.rules [] (walk_between rows p waiting (positional_number k) true) word
+    ≡ walk_between (rows_with rows p) (Some (positional_name k, word ∷ [])) idle (next_positional k) true
 unfolding walked
 walk_behind mode word rows p waiting = rw (not_several (codes "mode") p) refl
 walk_behind first word rows p waiting = rw (not_several (codes "first") p) refl
@@ -258,7 +260,7 @@ walk_behind second word rows p waiting = rw (not_several (codes "second") p) ref
 
 -- there is no fourth
 pub fault_of_fourth_behind : (word : Text) (rows : List Row) (p : Option (Text × List Text)) (waiting : Waiting)
-    → turn_fault shape [] (at rows p waiting 4 true) word ≡ kind.UnknownArgument ∷ []
+    → turn_fault shape [] (walk_between rows p waiting 4 true) word ≡ kind.UnknownArgument ∷ []
 fault_of_fourth_behind word rows p waiting = refl
 
 -- ---- a flag that there is not
@@ -266,7 +268,7 @@ fault_of_fourth_behind word rows p waiting = refl
 -- clap refuses the word wherever an option may stand
 abbrev pub IsRefused : Text → Type 0
 IsRefused word = (rows : List Row) (p : Option (Text × List Text)) (waiting : Waiting) (position : ℕ)
-    → turn_fault shape [] (at rows p waiting position false) word ≡ kind.UnknownArgument ∷ []
+    → turn_fault shape [] (walk_between rows p waiting position false) word ≡ kind.UnknownArgument ∷ []
 
 -- NAME in NAME or NAME=V
 abbrev pub long_name : Text → Text
@@ -303,8 +305,8 @@ refused_by a b k e = ap (λ x. or_else x b) e
 pub refused_short : (x c : ℕ) (text : Text) → (x == 45) ≡ false → slice_get (chars (x ∷ text)) 0 ≡ Some c
     → IsRefused (45 ∷ x ∷ text)
 refused_short x c text no_dash begins rows p idle position =
-    refused_by _ _ kind.UnknownArgument (short_word_fault x c text (held rows p) refl no_dash begins)
+    refused_by _ _ kind.UnknownArgument (short_word_fault x c text (walk_holds rows p) refl no_dash begins)
 refused_short x c text no_dash begins rows p (option id) position =
-    refused_by _ _ kind.UnknownArgument (short_word_fault x c text (held rows p) refl no_dash begins)
+    refused_by _ _ kind.UnknownArgument (short_word_fault x c text (walk_holds rows p) refl no_dash begins)
 refused_short x c text no_dash begins rows p positional position =
-    refused_by _ _ kind.UnknownArgument (short_word_fault x c text (held rows p) refl no_dash begins)
+    refused_by _ _ kind.UnknownArgument (short_word_fault x c text (walk_holds rows p) refl no_dash begins)

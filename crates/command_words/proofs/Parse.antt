@@ -32,11 +32,11 @@ simple_and_free = refl
 -- ---- HasKind
 
 -- clap refuses words only where they have a fault, or out of memory
-pub refused : (kinds : Kinds) (e : Error) (g : Option GivenView) → HasKind kinds e → (kind_of e ≡ OutOfMemory → ⊥)
-    → None ≡ unless_fault kinds g
-refused [] e g (inl memory) other = absurd (other memory)
-refused [] e g (inr among) other = absurd among
-refused (k ∷ ks) e g h other = refl
+pub HasKind-refused : (kinds : Kinds) (e : Error) (g : Option GivenView) → HasKind kinds e
+    → (kind_of e ≡ OutOfMemory → ⊥) → None ≡ unless_fault kinds g
+HasKind-refused [] e g (inl memory) other = absurd (other memory)
+HasKind-refused [] e g (inr among) other = absurd among
+HasKind-refused (k ∷ ks) e g h other = refl
 
 -- ---- first_of
 
@@ -72,7 +72,7 @@ first_is f id = first_in f.entries.items id
 pub refused_words : (words : List (List ℕ)) (e : Error) → HasKind (fault_of cloner_app words) e
     → (kind_of e ≡ OutOfMemory → ⊥) → None ≡ clap_values words
 unfolding clap_values
-refused_words words e h other = refused (fault_of cloner_app words) e _ h other
+refused_words words e h other = HasKind-refused (fault_of cloner_app words) e _ h other
 
 -- where it takes them, it finds what it gives
 pub read_words : (words : List (List ℕ)) (m : ArgMatches) → fault_of cloner_app words ≡ []

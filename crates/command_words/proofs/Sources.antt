@@ -4,7 +4,7 @@ use Rattle.std.proofs.Common.{Option, Some, None, bytes_eq, option_map, option_a
 use Rattle.sim_base.specs.Names.{is_name}
 use Rattle.command_words.specs.declared.request.Mode.{Mode}
 use Rattle.command_words.specs.declared.request.Mode.TheVariants.{All, One, Live}
-use Rattle.command_words.specs.declared.request.TheConstants.{MOST_NUMBER}
+use Rattle.command_words.specs.declared.request.TheConstants.{MOST_STUDY}
 use Rattle.command_words.specs.Numbers.{number_to}
 use Rattle.command_words.specs.Requests.{LiveIsNamed, RequestView, by_positionals, form_of, gen_form}
 use Rattle.command_words.specs.Requests.{FileNames, Number, form_of_one, form_of_two, is_text, solo_form, study_form}
@@ -70,7 +70,7 @@ gen_form-number (Some n) workers = of_number n workers
 -- `gen`
 gen_form-named : (number : List ℕ) (workers clone : Option (List ℕ)) → AreNamedIfLive (gen_form number workers clone)
 gen_form-named number workers (Some clone) = tt
-gen_form-named number workers None = gen_form-number (number_to MOST_NUMBER number) (workers_of workers)
+gen_form-named number workers None = gen_form-number (number_to MOST_STUDY number) (workers_of workers)
 
 -- the modes of two positionals more
 form_of_two-named : (mode model script : List ℕ) (workers clone : Option (List ℕ))

@@ -38,14 +38,14 @@ one_byte_end true = refl
 one_byte_end false = refl
 
 -- clap takes such words for no flag
-pub plain : (word : Text) → is_dashed word ≡ false → IsPlain word
-plain [] h = record { no_end = refl; no_long = refl; no_short = refl }
-plain (b ∷ []) h = record {
+pub IsPlain-of_undashed : (word : Text) → is_dashed word ≡ false → IsPlain word
+IsPlain-of_undashed [] h = record { no_end = refl; no_long = refl; no_short = refl }
+IsPlain-of_undashed (b ∷ []) h = record {
   no_end = one_byte_end (b == 45);
   no_long = one_byte_long (b == 45);
   no_short = one_byte_short (b == 45);
 }
-plain (b ∷ c ∷ rest) h = record { no_end = rw h refl; no_long = rw h refl; no_short = rw h refl }
+IsPlain-of_undashed (b ∷ c ∷ rest) h = record { no_end = rw h refl; no_long = rw h refl; no_short = rw h refl }
 
 -- ---- the name in `--NAME` and `--NAME=V`
 
@@ -145,8 +145,8 @@ Says (option_with_value name v) word = word ≡ long name ++ (61 ∷ v)
 Says unknown word = IsRefused word
 
 -- what the rules say of it is what clap makes of it
-pub says : (word : Text) → IsUtf8 word → is_dashed word ≡ true → Says (dashed_word word) word
-says word u h = at_end (bytes_eq word (codes "--")) refl
+pub Says-dashed_word : (word : Text) → IsUtf8 word → is_dashed word ≡ true → Says (dashed_word word) word
+Says-dashed_word word u h = at_end (bytes_eq word (codes "--")) refl
   where
     at_clone_value : (t : Bool) → bytes_eq word (codes "--") ≡ false → bytes_eq word (codes "--workers") ≡ false
         → bytes_eq word (codes "--clone") ≡ false → starts_with nat_eq word (codes "--workers=") ≡ false

@@ -7,8 +7,8 @@ use Rattle.command_words.specs.declared.request.Mode.{Mode}
 use Rattle.command_words.specs.declared.request.Mode.TheVariants.{All, One, Live}
 use Rattle.command_words.specs.declared.request.Request.{Request}
 use Rattle.command_words.specs.declared.request.Source.{Source}
-use Rattle.command_words.specs.declared.request.Source.TheVariants.{Named, Made}
-use Rattle.command_words.specs.declared.request.TheConstants.{MOST_NUMBER, MOST_WORKERS}
+use Rattle.command_words.specs.declared.request.Source.TheVariants as origin
+use Rattle.command_words.specs.declared.request.TheConstants.{MOST_STUDY, MOST_WORKERS}
 use Rattle.command_words.specs.Numbers.{number_to}
 use Rattle.command_words.specs.Rules.{values}
 use Rattle.command_words.specs.Values.{GivenView}
@@ -30,8 +30,8 @@ pub record RequestView : Type 0 where
 
 -- where a request's texts come from, as plain data
 abbrev pub source_view : Source → SourceView
-source_view (Named model script) = FileNames model.now script.now
-source_view (Made number) = Number number
+source_view (origin.FileNames model script) = FileNames model.now script.now
+source_view (origin.Number number) = Number number
 
 -- a request as plain data
 abbrev pub request_view : Request → RequestView
@@ -71,7 +71,7 @@ solo_form model script _ _ = None
 abbrev pub gen_form : List ℕ → Option (List ℕ) → Option (List ℕ) → Option RequestView
 gen_form number workers (Some clone) = None
 gen_form number workers None = option_and_then (λ n. option_map (study_of All (Number n)) (workers_of workers))
-    (number_to MOST_NUMBER number)
+    (number_to MOST_STUDY number)
 
 -- the modes of two positionals more; a later mode of two names is one `else if` more
 abbrev pub form_of_two : List ℕ → List ℕ → List ℕ → Option (List ℕ) → Option (List ℕ) → Option RequestView

@@ -1,4 +1,4 @@
-//! Laws of the command line.
+//! Laws of the command line: `clap` finds the values that the rules find, and a live study is two files.
 //!
 //! Each function's contract is a law; there is nothing to run.
 ghost use Rattle.command_words.specs.Clap.{ClapFindsTheValues};

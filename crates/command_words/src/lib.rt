@@ -6,7 +6,7 @@
 //! cloner run MODEL SCRIPT [--workers N]     all clones of a script
 //! cloner solo MODEL SCRIPT --clone NAME     one clone by itself
 //! cloner live MODEL SCRIPT [--workers N]    all clones of a script, while analysts decide
-//! cloner gen NUMBER [--workers N]           a made workload, all its clones
+//! cloner gen NUMBER [--workers N]           a made study, all its clones
 //! ```
 //!
 //! `read_words` gives a `Request`: the clones that are run, where the two texts come from, and the workers.
@@ -14,7 +14,7 @@
 //!
 //! ```text
 //! let request = read_words(alloc, words)?;      // run m.toml s.txt --workers=4
-//! request.source                                // Named { model: "m.toml", script: "s.txt" }
+//! request.source                                // FileNames { model: "m.toml", script: "s.txt" }
 //! request.workers                               // 4
 //! ```
 //!

@@ -6,7 +6,7 @@ ghost use Rattle.command_words.specs.Views.{given_view};
 
 use crate::given::{Given, given_words};
 use crate::number::number_to;
-use crate::request::{MOST_NUMBER, MOST_WORKERS, Mode, Request, Source, WordsFault};
+use crate::request::{MOST_STUDY, MOST_WORKERS, Mode, Request, Source, WordsFault};
 use sim_base::Name;
 use sim_outer::Word;
 use std::alloc::{AllocError, Global};
@@ -50,7 +50,7 @@ fn study_request<'a>(
     let workers = workers_of(workers)?;
     Some(Request {
         mode,
-        source: Source::Named { model, script },
+        source: Source::FileNames { model, script },
         workers,
     })
 }
@@ -72,7 +72,7 @@ fn solo_request<'a>(
     match Name::read(clone.as_bytes()) {
         Some(name) => Some(Request {
             mode: Mode::One(name),
-            source: Source::Named { model, script },
+            source: Source::FileNames { model, script },
             workers: 1,
         }),
         None => None,
@@ -87,11 +87,11 @@ fn gen_request<'a>(number: &str, workers: Option<&str>, clone: Option<&str>) -> 
     if clone.is_some() {
         return None;
     }
-    let number = number_to(MOST_NUMBER, number.as_bytes())?;
+    let number = number_to(MOST_STUDY, number.as_bytes())?;
     let workers = workers_of(workers)?;
     Some(Request {
         mode: Mode::All,
-        source: Source::Made(number),
+        source: Source::Number(number),
         workers,
     })
 }

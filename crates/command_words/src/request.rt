@@ -5,10 +5,10 @@ ghost use Rattle.command_words.specs.declared.request.TheConstants.{MOST_WORKERS
 use sim_base::Name;
 
 /// The most workers that may be asked for.
-pub const MOST_WORKERS: u32 = 16;
+pub const MOST_WORKERS: u32 = sim_base::limits::MOST_WORKERS;
 
-/// The greatest number that a workload may be made of.
-pub(crate) const MOST_NUMBER: u32 = 999_999;
+/// The greatest number that a study may be made of.
+pub(crate) const MOST_STUDY: u32 = 999_999;
 
 /// Which of a script's clones are run.
 #[derive(Clone, Copy, Debug, PartialEq, Eq)]
@@ -25,9 +25,9 @@ pub enum Mode {
 #[derive(Clone, Copy, Debug)]
 pub enum Source<'a> {
     /// Two files by their names, the model and the script.
-    Named { model: &'a str, script: &'a str },
+    FileNames { model: &'a str, script: &'a str },
     /// Both are made of this number.
-    Made(u32),
+    Number(u32),
 }
 
 /// What is to be done, and by how many workers.

@@ -20,7 +20,7 @@ use Rattle.std.proofs.Common.{
   get_or,
   remove,
 }
-use Rattle.std.proofs.lemmas.List.{get_or_default, map-append}
+use Rattle.std.proofs.lemmas.List.{map-append}
 use Rattle.crew_pool.specs.declared.task_deque.SeatView.{SeatView}
 use Rattle.crew_pool.specs.Deque.{seat_view, occurrences, one_if_same, numbers, EachPair, Without}
 
@@ -82,10 +82,3 @@ Without-remove asks (q ∷ qs) zero p less e =
 Without-remove asks (q ∷ qs) (suc k) p less e =
     let r = Without-remove asks qs k p (omega (arith, less)) e in
     ((λ y. omega (arith, r.0 y)), λ all. let s = r.1 all.1 in (s.0, (all.0, s.1)))
-
--- ---- get_or
-
--- what is read at one place twice is the same
-pub get_or-same : {X : Type 0} (l : List X) (k : ℕ) (a b : X) → k < length l → a ≡ get_or l k a → b ≡ get_or l k b
-    → a ≡ b
-get_or-same l k a b less e f = e ∙ (get_or_default l k a b less ∙ sym f)

@@ -3,7 +3,7 @@ ghost use Rattle.std.specs.Prelude.{◌≡◌, ◌≤◌, MatchOption};
 ghost use Rattle.crew_pool.specs.declared.workers.TheConstants.{MOST_WORKERS};
 
 /// The greatest number of workers of a crew.
-pub const MOST_WORKERS: u32 = 16;
+pub const MOST_WORKERS: u32 = sim_base::limits::MOST_WORKERS;
 
 /// How many workers a crew has: 1 to `MOST_WORKERS`.
 #[derive(Clone, Copy, Debug, PartialEq, Eq)]

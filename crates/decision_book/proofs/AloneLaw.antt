@@ -12,21 +12,22 @@ use Rattle.sim_base.specs.Clones.{Clone, clone_at, place_of, clones_with_fork, b
 use Rattle.sim_base.specs.declared.lists.TheConstants.{MOST_CLONES}
 use Rattle.net_model.specs.Net.{Net}
 use Rattle.decision_book.specs.declared.call.Reply.TheVariants.{Accepted, NameTaken, TooManyClones}
-use Rattle.decision_script.specs.Alone.{history, history_if, object}
+use Rattle.decision_script.specs.Alone.{history, history_if, changed_clone}
 use Rattle.sim_base.specs.Decisions.{subject}
 use Rattle.decision_book.specs.Journal.{Situation, clones_after, plan_of_set}
 use Rattle.decision_book.specs.Replies.{row, first_row, reply, rows, fork_rows}
-use Rattle.decision_book.specs.Scripts.{next, after_all, first_refusal_from}
+use Rattle.decision_book.specs.Scripts.{after_decision, after_all, first_refusal_from}
 use Rattle.decision_book.specs.Laws.{clone_named, AloneSuffices}
-use Rattle.decision_book.proofs.ClonesByName.{placed, place_of-none, clone_named-place, clone_named-none}
+use Rattle.decision_book.proofs.ClonesByName.{IsCloneNamed-clone_named, place_of-none}
+use Rattle.decision_book.proofs.ClonesByName.{clone_named-place, clone_named-none}
 use Rattle.decision_book.proofs.ClonesByName.{clone_named-push, clone_named-set, same_name, name_itself, name_at}
 use Rattle.decision_book.proofs.Rows.{IsOpen, IsOpen-accepted, first_row-Accepted, reply-IsOpen}
-use Rattle.decision_book.proofs.Scripts.{accepted_first, next_accepted}
+use Rattle.decision_book.proofs.Scripts.{accepted_first, after_decision-accepted}
 
--- ---- Same
+-- ---- HasSameClone
 
 -- two states, of which the second knows no other clones, no more of them, and the same clone of this name
-record Same (t : List ℕ) (full own : List Clone) : Type 0 where
+record HasSameClone (t : List ℕ) (full own : List Clone) : Type 0 where
   pub same : clone_named t full ≡ clone_named t own
   pub fewer : (n : List ℕ) → clone_named n full ≡ None → clone_named n own ≡ None
   pub shorter : length own ≤ length full
@@ -43,10 +44,11 @@ record InBoth (j k : Situation) (d : Decision) : Type 0 where
   pub clone : clone_at k.clones place ≡ clone_at j.clones found.clone
 
 -- where the clone of a name is the same in both states, an accepted decision finds it in the other too
-in_both : (j k : Situation) (d : Decision) → reply j d ≡ Accepted → Same (subject d) j.clones k.clones → InBoth j k d
+in_both : (j k : Situation) (d : Decision) → reply j d ≡ Accepted → HasSameClone (subject d) j.clones k.clones
+    → InBoth j k d
 in_both j k d h s =
     let found = IsOpen-accepted j d h in
-    let at = placed (subject d) k.clones (clone_at j.clones found.clone)
+    let at = IsCloneNamed-clone_named (subject d) k.clones (clone_at j.clones found.clone)
     (sym s.same ∙ clone_named-place (subject d) j.clones found.clone found.place) in
     record { found = found; place = at.at; placed = at.place; clone = at.clone }
 
@@ -79,7 +81,8 @@ fresh_from clones new h =
     record { fresh = is_none_from (place_of new clones) one.0; few = two.0 }
 
 -- and this is so in a state with no other clones, and no more of them
-fresh_again : {t : List ℕ} (full own : List Clone) (new : List ℕ) → Same t full own → IsFresh full new → IsFresh own new
+fresh_again : {t : List ℕ} (full own : List Clone) (new : List ℕ) → HasSameClone t full own → IsFresh full new
+    → IsFresh own new
 fresh_again full own new s f = record {
   fresh = place_of-none new own (s.fewer new (clone_named-none new full f.fresh));
   few = (let few = f.few in let less = s.shorter in grind (arith, nat_tests));
@@ -88,7 +91,7 @@ fresh_again full own new s f = record {
 -- ---- reply, in another state
 
 -- what an accepted decision passes in the one state it passes in the other
-rows_again : (net : Net) (n m : ℕ) (full own : List Clone) (d : Decision) (i k : ℕ) → Same (subject d) full own
+rows_again : (net : Net) (n m : ℕ) (full own : List Clone) (d : Decision) (i k : ℕ) → HasSameClone (subject d) full own
     → clone_at own k ≡ clone_at full i
     → first_row (rows (at_opening net n full) i d) ≡ Accepted → first_row (rows (at_opening net m own) k d) ≡ Accepted
 rows_again net n m full own (Fork new old) i k s e h =
@@ -98,9 +101,9 @@ rows_again net n m full own (Set who at station change) i k s e h = rw e h
 rows_again net n m full own (End who at) i k s e h = h
 
 -- what is accepted at front 0 is too after no more calls, among no more clones, none new, its subject the same
-again : (net : Net) (n m : ℕ) (full own : List Clone) (d : Decision) → m ≤ n → Same (subject d) full own
+reply-again : (net : Net) (n m : ℕ) (full own : List Clone) (d : Decision) → m ≤ n → HasSameClone (subject d) full own
     → reply (at_opening net n full) d ≡ Accepted → reply (at_opening net m own) d ≡ Accepted
-again net n m full own d less s h =
+reply-again net n m full own d less s h =
     let b = in_both (at_opening net n full) (at_opening net m own) d h s in
     reply-IsOpen (at_opening net m own) d (record {
       few = (let few = b.found.few in grind (arith, nat_tests));
@@ -120,17 +123,17 @@ made net (Set who at station change) k = record k { plans = k.plans ++ plan_of_s
 made net (End who at) k = record k { end = Some at }
 
 -- how many clones a decision adds
-abbrev grows : Decision → ℕ
-grows (Fork new old) = 1
-grows (Set who at station change) = 0
-grows (End who at) = 0
+abbrev clones_added : Decision → ℕ
+clones_added (Fork new old) = 1
+clones_added (Set who at station change) = 0
+clones_added (End who at) = 0
 
 -- what an accepted decision does to the clones, by their names
 record Effect (net : Net) (d : Decision) (before next : List Clone) (i : ℕ) : Type 0 where
-  pub self : clone_named (object d) next ≡ Some (made net d (clone_at before i))
-  pub others : (m : List ℕ) → bytes_eq (object d) m ≡ false → clone_named m next ≡ clone_named m before
-  pub none : (m : List ℕ) → clone_named m next ≡ None → bytes_eq (object d) m ≡ false
-  pub length_is : length next ≡ length before + grows d
+  pub self : clone_named (changed_clone d) next ≡ Some (made net d (clone_at before i))
+  pub others : (m : List ℕ) → bytes_eq (changed_clone d) m ≡ false → clone_named m next ≡ clone_named m before
+  pub none : (m : List ℕ) → clone_named m next ≡ None → bytes_eq (changed_clone d) m ≡ false
+  pub length_is : length next ≡ length before + clones_added d
 
 -- an option, or else none, is the option
 option_or-none : (o : Option Clone) → option_or o None ≡ o
@@ -164,18 +167,18 @@ fork_effect net clones new old i fresh =
     }
 
 -- what a set or an end does to them
-change_effect : (net : Net) (d : Decision) (clones : List Clone) (i : ℕ) → grows d ≡ 0
-    → place_of (object d) clones ≡ Some i → (made net d (clone_at clones i)).name ≡ object d
+change_effect : (net : Net) (d : Decision) (clones : List Clone) (i : ℕ) → clones_added d ≡ 0
+    → place_of (changed_clone d) clones ≡ Some i → (made net d (clone_at clones i)).name ≡ changed_clone d
     → Effect net d clones (slice_set clones i (made net d (clone_at clones i))) i
 change_effect net d clones i none place name =
     let k = made net d (clone_at clones i) in
     record {
-      self = clone_named-set (object d) (object d) clones i k place name
-          ∙ ap (λ b. cond b (Some k) (clone_named (object d) clones)) (name_itself (object d));
-      others = λ m other. clone_named-set m (object d) clones i k place name
+      self = clone_named-set (changed_clone d) (changed_clone d) clones i k place name
+          ∙ ap (λ b. cond b (Some k) (clone_named (changed_clone d) clones)) (name_itself (changed_clone d));
+      others = λ m other. clone_named-set m (changed_clone d) clones i k place name
           ∙ ap (λ b. cond b (Some k) (clone_named m clones)) other;
-      none = λ m gone. set_none (bytes_eq (object d) m) k (clone_named m clones)
-          (sym (clone_named-set m (object d) clones i k place name) ∙ gone);
+      none = λ m gone. set_none (bytes_eq (changed_clone d) m) k (clone_named m clones)
+          (sym (clone_named-set m (changed_clone d) clones i k place name) ∙ gone);
       length_is = omega (arith, length-set clones i k, none);
     }
 
@@ -200,11 +203,12 @@ effect net n clones (End who at) o =
 -- ---- history
 
 -- a decision of the history keeps the two states alike, at the clone that it makes or changes
-history_same : (net : Net) (n m : ℕ) (full own : List Clone) (d : Decision) → m ≤ n → Same (subject d) full own
-    → reply (at_opening net n full) d ≡ Accepted → Same (object d) (clones_after net full d) (clones_after net own d)
+history_same : (net : Net) (n m : ℕ) (full own : List Clone) (d : Decision) → m ≤ n → HasSameClone (subject d) full own
+    → reply (at_opening net n full) d ≡ Accepted
+    → HasSameClone (changed_clone d) (clones_after net full d) (clones_after net own d)
 history_same net n m full own d less s h =
     let b = in_both (at_opening net n full) (at_opening net m own) d h s in
-    let mine = IsOpen-accepted (at_opening net m own) d (again net n m full own d less s h) in
+    let mine = IsOpen-accepted (at_opening net m own) d (reply-again net n m full own d less s h) in
     let all = effect net n full d b.found in
     let part = effect net m own d mine in
     let place : mine.clone ≡ b.place = cc in
@@ -217,8 +221,9 @@ history_same net n m full own d less s h =
     }
 
 -- another decision leaves them alike
-dropped_same : (net : Net) (n : ℕ) (t : List ℕ) (full own : List Clone) (d : Decision) → bytes_eq (object d) t ≡ false
-    → Same t full own → reply (at_opening net n full) d ≡ Accepted → Same t (clones_after net full d) own
+dropped_same : (net : Net) (n : ℕ) (t : List ℕ) (full own : List Clone) (d : Decision)
+    → bytes_eq (changed_clone d) t ≡ false → HasSameClone t full own → reply (at_opening net n full) d ≡ Accepted
+    → HasSameClone t (clones_after net full d) own
 dropped_same net n t full own d other s h =
     let all = effect net n full d (IsOpen-accepted (at_opening net n full) d h) in
     record {
@@ -243,41 +248,41 @@ history_first net m k own d ds who end h on =
     record {
       accepted = rw h on.accepted;
       same = subst (λ (t : Situation). clone_named who (after_all t ds).clones ≡ clone_named who end)
-          (sym (next_accepted (at_opening net m own) d h)) on.same;
+          (sym (after_decision-accepted (at_opening net m own) d h)) on.same;
     }
 
 -- one decision before the others, whether it is of the history or not
 alone_by : (net : Net) (n m k : ℕ) (who : List ℕ) (full own end : List Clone) (d : Decision)
     (rest : List ℕ × List Decision) → m ≤ n → reply (at_opening net n full) d ≡ Accepted
-    → ((l j : ℕ) (mine : List Clone) → l ≤ n + 1 → Same rest.0 (clones_after net full d) mine
+    → ((l j : ℕ) (mine : List Clone) → l ≤ n + 1 → HasSameClone rest.0 (clones_after net full d) mine
     → IsAloneFrom net l j mine rest.1 who end)
-    → (b : Bool) → bytes_eq (object d) rest.0 ≡ b → Same (history_if b d (subject d) rest).0 full own
+    → (b : Bool) → bytes_eq (changed_clone d) rest.0 ≡ b → HasSameClone (history_if b d (subject d) rest).0 full own
     → IsAloneFrom net m k own (history_if b d (subject d) rest).1 who end
 alone_by net n m k who full own end d rest less h go true e s =
     let after = history_same net n m full own d less s h in
     let on = go (m + 1) (k + 1) (clones_after net own d) (omega arith)
-    (subst (λ (t : List ℕ). Same t (clones_after net full d) (clones_after net own d))
-    (same_name (object d) rest.0 e) after) in
-    history_first net m k own d rest.1 who end (again net n m full own d less s h) on
+    (subst (λ (t : List ℕ). HasSameClone t (clones_after net full d) (clones_after net own d))
+    (same_name (changed_clone d) rest.0 e) after) in
+    history_first net m k own d rest.1 who end (reply-again net n m full own d less s h) on
 alone_by net n m k who full own end d rest less h go false e s =
     go m k own (omega arith) (dropped_same net n rest.0 full own d e s h)
 
 -- where no decision is refused, those of one clone suffice, from a state the same for the clone it goes back to
 alone_from : (net : Net) (n i m k : ℕ) (who : List ℕ) (full own : List Clone) (ds : List Decision) → m ≤ n
-    → Same (history who ds).0 full own → first_refusal_from (at_opening net n full) i ds ≡ None
+    → HasSameClone (history who ds).0 full own → first_refusal_from (at_opening net n full) i ds ≡ None
     → IsAloneFrom net m k own (history who ds).1 who (after_all (at_opening net n full) ds).clones
 alone_from net n i m k who full own [] less s h = record { accepted = refl; same = sym s.same }
 alone_from net n i m k who full own (d ∷ ds) less s h =
     let one = accepted_first i (reply (at_opening net n full) d)
-    (first_refusal_from (next (at_opening net n full) d) (i + 1) ds) h in
-    let moved = next_accepted (at_opening net n full) d one.0 in
+    (first_refusal_from (after_decision (at_opening net n full) d) (i + 1) ds) h in
+    let moved = after_decision-accepted (at_opening net n full) d one.0 in
     let rest : first_refusal_from (at_opening net (n + 1) (clones_after net full d)) (i + 1) ds ≡ None =
     subst (λ (t : Situation). first_refusal_from t (i + 1) ds ≡ None) moved one.1 in
     let end = (after_all (at_opening net (n + 1) (clones_after net full d)) ds).clones in
     subst (λ (t : Situation). IsAloneFrom net m k own (history who (d ∷ ds)).1 who (after_all t ds).clones) (sym moved)
     (alone_by net n m k who full own end d (history who ds) less one.0
     (λ l j mine most alike. alone_from net (n + 1) (i + 1) l j who (clones_after net full d) mine ds most alike rest)
-    (bytes_eq (object d) (history who ds).0) refl s)
+    (bytes_eq (changed_clone d) (history who ds).0) refl s)
 
 -- where no decision is refused, those that reach a clone are all accepted and give it the same list and end
 pub alone_suffices : (net : Net) → AloneSuffices net

@@ -62,9 +62,11 @@ IsBook-call net lists then calls fronts last call h n e planned =
       few = h.few;
       early = h.early;
       soon = h.soon;
-      plans = planned;
-      reserved_clones = ap (λ l. l.reserved_clones) e ∙ h.reserved_clones;
-      reserved_plans = ap (λ l. l.reserved_plans) e ∙ h.reserved_plans;
+      lists_are = record {
+        planned = planned;
+        reserved_clones = ap (λ l. l.reserved_clones) e ∙ h.lists_are.reserved_clones;
+        reserved_plans = ap (λ l. l.reserved_plans) e ∙ h.lists_are.reserved_plans;
+      };
       reserved_calls = h.reserved_calls;
     }
 
@@ -103,9 +105,7 @@ IsBook-front net lists calls fronts last front h above within =
       few = omega (arith, longer, h.few, above);
       early = within;
       soon = h.soon;
-      plans = h.plans;
-      reserved_clones = h.reserved_clones;
-      reserved_plans = h.reserved_plans;
+      lists_are = h.lists_are;
       reserved_calls = h.reserved_calls;
     }
 

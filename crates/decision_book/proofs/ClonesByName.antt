@@ -50,26 +50,28 @@ place_of-cons m c cs = by (bytes_eq c.name m)
 pub place_of-bounds : (m : List ℕ) (clones : List Clone) (i : ℕ) → place_of m clones ≡ Some i → i < length clones
 place_of-bounds m clones i e = (position-Some (λ (c : Clone). bytes_eq c.name m) clones i nobody e).0
 
--- ---- IsPlaced
+-- ---- IsCloneNamed
 
 -- the place of a name, and the clone at it is this one
-pub record IsPlaced (m : List ℕ) (clones : List Clone) (k : Clone) : Type 0 where
+pub record IsCloneNamed (m : List ℕ) (clones : List Clone) (k : Clone) : Type 0 where
   pub at : ℕ
   pub place : place_of m clones ≡ Some at
   pub clone : clone_at clones at ≡ k
 
 -- a name has its place at the first clone or among the others
-placed_by : (m : List ℕ) (c : Clone) (cs : List Clone) (k : Clone) → (clone_named m cs ≡ Some k → IsPlaced m cs k)
-    → (b : Bool) → bytes_eq c.name m ≡ b → cond b (Some c) (clone_named m cs) ≡ Some k → IsPlaced m (c ∷ cs) k
-placed_by m c cs k again true e g = record { at = 0; place = place_of-cons m c cs ∙ rw e refl; clone = cc }
-placed_by m c cs k again false e g =
+named_by : (m : List ℕ) (c : Clone) (cs : List Clone) (k : Clone) → (clone_named m cs ≡ Some k → IsCloneNamed m cs k)
+    → (b : Bool) → bytes_eq c.name m ≡ b → cond b (Some c) (clone_named m cs) ≡ Some k → IsCloneNamed m (c ∷ cs) k
+named_by m c cs k again true e g = record { at = 0; place = place_of-cons m c cs ∙ rw e refl; clone = cc }
+named_by m c cs k again false e g =
     let rest = again g in
     record { at = suc rest.at; place = place_of-cons m c cs ∙ rw (e, rest.place) refl; clone = rest.clone }
 
 -- a name has a place where it has a clone
-pub placed : (m : List ℕ) (clones : List Clone) (k : Clone) → clone_named m clones ≡ Some k → IsPlaced m clones k
-placed m [] k h = absurd cc
-placed m (c ∷ cs) k h = placed_by m c cs k (placed m cs k) (bytes_eq c.name m) refl h
+pub IsCloneNamed-clone_named : (m : List ℕ) (clones : List Clone) (k : Clone) → clone_named m clones ≡ Some k
+    → IsCloneNamed m clones k
+IsCloneNamed-clone_named m [] k h = absurd cc
+IsCloneNamed-clone_named m (c ∷ cs) k h =
+    named_by m c cs k (IsCloneNamed-clone_named m cs k) (bytes_eq c.name m) refl h
 
 -- ---- place_of, clone_named
 
@@ -92,7 +94,7 @@ clone_named-place m clones i h = by (clone_named m clones) refl
     by : (o : Option Clone) → clone_named m clones ≡ o → clone_named m clones ≡ Some (clone_at clones i)
     by None e = let none = place_of-none m clones e in absurd cc
     by (Some k) e =
-        let at = placed m clones k e in
+        let at = IsCloneNamed-clone_named m clones k e in
         let same : at.at ≡ i = cc in
         e ∙ ap (λ c. Some c) (sym at.clone ∙ ap (clone_at clones) same)
 
@@ -102,7 +104,7 @@ clone_named-none m clones h = by (clone_named m clones) refl
   where
     by : (o : Option Clone) → clone_named m clones ≡ o → clone_named m clones ≡ None
     by None e = e
-    by (Some k) e = let at = placed m clones k e in absurd cc
+    by (Some k) e = let at = IsCloneNamed-clone_named m clones k e in absurd cc
 
 -- ---- clone_named: a clone more
 
@@ -114,9 +116,9 @@ clone_named-push m clones k = find-append (λ c. bytes_eq c.name m) clones (k �
 -- ---- clone_named: a clone in the place of another
 
 -- of two tests that are one the second makes no difference
-twice : {X : Type 0} (b : Bool) (x y z : X) → cond b x z ≡ cond b x (cond b y z)
-twice true x y z = refl
-twice false x y z = refl
+cond-twice : {X : Type 0} (b : Bool) (x y z : X) → cond b x z ≡ cond b x (cond b y z)
+cond-twice true x y z = refl
+cond-twice false x y z = refl
 
 -- a place behind the first is one more than a place among the others
 suc_place : (o : Option ℕ) (j : ℕ) → option_map (λ i. suc i) o ≡ Some (suc j) → o ≡ Some j
@@ -129,11 +131,11 @@ no_place None h = cc
 no_place (Some i) h = let bad : suc i ≡ 0 = cc in omega arith
 
 -- of two tests at most one holds
-swapped : {X : Type 0} (a b : Bool) (x y z : X) → (a ≡ true → b ≡ true → ⊥)
+cond-swapped : {X : Type 0} (a b : Bool) (x y z : X) → (a ≡ true → b ≡ true → ⊥)
     → cond a x (cond b y z) ≡ cond b y (cond a x z)
-swapped true true x y z other = absurd (other refl refl)
-swapped true false x y z other = refl
-swapped false b x y z other = refl
+cond-swapped true true x y z other = absurd (other refl refl)
+cond-swapped true false x y z other = refl
+cond-swapped false b x y z other = refl
 
 -- a clone is replaced at the first place or among the others
 set_by : (m who : List ℕ) (c : Clone) (cs : List Clone) (k : Clone) → k.name ≡ who
@@ -145,7 +147,7 @@ set_by : (m who : List ℕ) (c : Clone) (cs : List Clone) (k : Clone) → k.name
     (cond (bytes_eq c.name m) (Some c) (clone_named m cs))
 set_by m who c cs k e again true f zero g =
     let old : c.name ≡ who = same_name c.name who f in
-    ap (λ n. cond (bytes_eq n m) (Some k) (clone_named m cs)) e ∙ twice (bytes_eq who m) (Some k) (Some c)
+    ap (λ n. cond (bytes_eq n m) (Some k) (clone_named m cs)) e ∙ cond-twice (bytes_eq who m) (Some k) (Some c)
     (clone_named m cs)
     ∙ ap (λ n. cond (bytes_eq who m) (Some k) (cond (bytes_eq n m) (Some c) (clone_named m cs))) (sym old)
 set_by m who c cs k e again true f (suc j) g = let bad : 0 ≡ suc j = cc in absurd (omega arith)
@@ -155,7 +157,7 @@ set_by m who c cs k e again false f (suc j) g =
     λ x y. (let same : bytes_eq c.name who ≡ true = rw (same_name c.name m x, same_name who m y) (name_itself m) in
     cc) in
     ap (λ o. cond (bytes_eq c.name m) (Some c) o) (again j (suc_place _ j g))
-    ∙ swapped (bytes_eq c.name m) (bytes_eq who m) (Some c) (Some k) (clone_named m cs) apart
+    ∙ cond-swapped (bytes_eq c.name m) (bytes_eq who m) (Some c) (Some k) (clone_named m cs) apart
 
 -- where a clone is replaced by one of its name, this name finds the new one, and others what they did
 pub clone_named-set : (m who : List ℕ) (clones : List Clone) (i : ℕ) (k : Clone) → place_of who clones ≡ Some i

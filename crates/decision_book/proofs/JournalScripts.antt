@@ -15,10 +15,11 @@ use Rattle.decision_book.specs.Journal.{Event, Situation, NewFront, NewCall, aft
 use Rattle.decision_book.specs.Journal.{after_event, outset, clones_after, if_accepted, calls_of}
 use Rattle.decision_book.specs.Replies.{row, first_row, rows, reply}
 use Rattle.decision_book.specs.Right.{MayFollow, EachAfter}
-use Rattle.decision_book.specs.Scripts.{next, after_all, refusal_or, first_refusal_from, accepted_onto, accepted_of}
+use Rattle.decision_book.specs.Scripts.{after_decision, after_all, accepted_onto, accepted_of}
+use Rattle.decision_book.specs.Scripts.{refusal_or, first_refusal_from}
 use Rattle.decision_book.specs.Laws.{JournalIsScript, ClosedChangesNothing}
 use Rattle.decision_book.proofs.Rows.{IsOpen-accepted, reply-IsOpen}
-use Rattle.decision_book.proofs.Scripts.{next_accepted}
+use Rattle.decision_book.proofs.Scripts.{after_decision-accepted}
 
 -- ---- reply, at front 0
 
@@ -116,8 +117,8 @@ leads_on : (s : Situation) (m place : ℕ) (d : Decision) (ds : List Decision) (
 leads_on s m place d ds clones some_time few h more =
     let start = at_start s m in
     let ok : reply start d ≡ Accepted = accepted_at_start s m d some_time few h in
-    let step : next start d ≡ at_start (moved_by s d) (m + 1) = next_accepted start d ok in (
-      ap (λ r. refusal_or place r (first_refusal_from (next start d) (place + 1) ds)) ok
+    let step : after_decision start d ≡ at_start (moved_by s d) (m + 1) = after_decision-accepted start d ok in (
+      ap (λ r. refusal_or place r (first_refusal_from (after_decision start d) (place + 1) ds)) ok
           ∙ (ap (λ (x : Situation). first_refusal_from x (place + 1) ds) step ∙ more.0),
       ap (λ (x : Situation). (after_all x ds).clones) step ∙ more.1,
     )

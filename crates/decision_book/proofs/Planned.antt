@@ -10,7 +10,7 @@ use Rattle.sim_base.specs.declared.lists.TheConstants.{MOST_CLONES, MOST_DECISIO
 use Rattle.sim_base.proofs.ListLaws.{all_push, all_set}
 use Rattle.std.specs.Str.{bytes_eq}
 use Rattle.sim_base.specs.declared.message.Change.{Change}
-use Rattle.net_model.specs.Net.{Net, station_named, site_of}
+use Rattle.net_model.specs.Net.{Net, HasStation, station_named, site_of}
 use Rattle.stations.specs.declared.change.ChangeFault.{ChangeFault}
 use Rattle.stations.specs.Changes.{accepts}
 use Rattle.decision_book.specs.Laws.{PlansAreForStations}
@@ -18,8 +18,8 @@ use Rattle.decision_book.specs.Plans.{IsPlan, IsPlanned, ArePlanned}
 
 -- ---- ArePlanned
 
--- each clone is planned, and so is the one that stands for none
-planned_at : (net : Net) (clones : List Clone) (c : ℕ) → AllByRecursion (IsPlanned net) clones
+-- each clone is planned, and so is the one where there is none
+pub planned_at : (net : Net) (clones : List Clone) (c : ℕ) → AllByRecursion (IsPlanned net) clones
     → IsPlanned net (clone_at clones c)
 planned_at net [] c h = record { plans = tt; short = omega arith; end = tt }
 planned_at net (k ∷ ks) zero h = h.0
@@ -37,16 +37,17 @@ planned_forked net clones new old h few =
     }
 
 -- planned clones stay so where one is replaced by a planned one
-replaced : (net : Net) (clones : List Clone) (c : ℕ) (k : Clone) → ArePlanned net clones → IsPlanned net k
+planned_replaced : (net : Net) (clones : List Clone) (c : ℕ) (k : Clone) → ArePlanned net clones → IsPlanned net k
     → ArePlanned net (slice_set clones c k)
-replaced net clones c k h p = record { few = rw length-set h.few; each = all_set (IsPlanned net) clones c k h.each p }
+planned_replaced net clones c k h p =
+    record { few = rw length-set h.few; each = all_set (IsPlanned net) clones c k h.each p }
 
 -- so does an end before the horizon
 pub planned_ended : (net : Net) (clones : List Clone) (c at : ℕ) → ArePlanned net clones → at < net.horizon
     → ArePlanned net (clones_with_end clones c at)
 planned_ended net clones c at h early =
     let from = planned_at net clones c h.each in
-    replaced net clones c (record (clone_at clones c) { end = Some at }) h
+    planned_replaced net clones c (record (clone_at clones c) { end = Some at }) h
     (record { plans = from.plans; short = from.short; end = early })
 
 -- and so does one set more that may be planned, where the clone's list has a free place
@@ -55,7 +56,7 @@ pub planned_added : (net : Net) (clones : List Clone) (c : ℕ) (plan : Planned)
     → ArePlanned net (clones_with_plan clones c plan)
 planned_added net clones c plan h s p =
     let from = planned_at net clones c h.each in
-    replaced net clones c (with_plan (clone_at clones c) plan) h
+    planned_replaced net clones c (with_plan (clone_at clones c) plan) h
     (record {
       plans = all_push (IsPlan net) (clone_at clones c).plans plan from.plans p;
       short = omega (arith, s, length_push (clone_at clones c).plans plan);
@@ -84,8 +85,7 @@ pub plan_taken : (net : Net) (at s : ℕ) (station : List ℕ) (change : Change)
     → at < net.horizon → IsPlan net (record { at = at; station = s; change = change })
 plan_taken net at s station change u number last taken early = record {
   early = early;
-  first = station_named-low station net s number;
-  last = last;
+  is_station = record { low = station_named-low station net s number; high = last };
   taken = taken_from (accepts (site_of net s) change) u taken;
 }
 
@@ -93,9 +93,9 @@ plan_taken net at s station change u number last taken early = record {
 
 -- the sets of a planned list are for stations that are there
 for_stations : (net : Net) (plans : List Planned) → AllByRecursion (IsPlan net) plans
-    → AllByRecursion (λ p. (0 < p.station) × (p.station ≤ length net.sites)) plans
+    → AllByRecursion (λ p. HasStation net p.station) plans
 for_stations net [] h = tt
-for_stations net (p ∷ ps) h = let one = h.0 in ((omega (arith, one.first), one.last), for_stations net ps h.1)
+for_stations net (p ∷ ps) h = (h.0.is_station, for_stations net ps h.1)
 
 -- each set in a planned clone's list is for a station that is there
 pub plans_are_for_stations : (net : Net) → PlansAreForStations net

@@ -48,12 +48,12 @@ first_row-change net None change more h = h
 first_row-change net (Some s) change more h = first_row-fault (accepts (site_of net s) change) more h
 
 -- where a number is not at most another, the other is below it
-pub above : (a b : ℕ) → nat_le a b ≡ false → b < a
-above a b h = grind (arith, nat_tests)
+nat_le-false : (a b : ℕ) → nat_le a b ≡ false → b < a
+nat_le-false a b h = grind (arith, nat_tests)
 
 -- and where it is not below another, it is at least as much
-at_least : (a b : ℕ) → nat_lt a b ≡ false → b ≤ a
-at_least a b h = grind (arith, nat_tests)
+nat_lt-false : (a b : ℕ) → nat_lt a b ≡ false → b ≤ a
+nat_lt-false a b h = grind (arith, nat_tests)
 
 -- where the rows of the time do not refuse, it is at the front or later, and before the horizon
 pub first_row-times : (net : Net) (front at : ℕ) → first_row (time_rows net front at) ≡ Accepted
@@ -62,7 +62,7 @@ first_row-times net front at h =
     let a = first_row-Accepted (nat_le net.horizon at) PastHorizon (row (nat_lt at front) (Late front) ∷ [])
     (λ e. absurd cc) h in
     let b = first_row-Accepted (nat_lt at front) (Late front) [] (λ e. absurd cc) a.1 in
-    (at_least at front b.0, above net.horizon at a.0)
+    (nat_lt-false at front b.0, nat_le-false net.horizon at a.0)
 
 -- ---- EachRow
 

@@ -11,10 +11,11 @@ use Rattle.decision_book.specs.Journal.{Event, NewCall, calls_of, fronts_of, Sit
 use Rattle.decision_book.specs.Journal.{after_event, after, clones_after_reply, clones_after, with_reply}
 use Rattle.decision_book.specs.Replies.{reply}
 use Rattle.decision_book.specs.Right.{journal_with, MayFollow, IsRight}
-use Rattle.decision_book.specs.Scripts.{Question, calls_after, next, after_all}
+use Rattle.decision_book.specs.Scripts.{Question, calls_after, after_decision, after_all}
 use Rattle.decision_book.specs.Scripts.{refusal_or, first_refusal_from, first_refusal}
-use Rattle.decision_book.specs.Laws.{last_of, SituationOfJournal, AskingIsNext, SituationOfScript, ScriptIsRight}
-use Rattle.decision_book.specs.Laws.{AcceptedAdds, RefusedFirst, AcceptedGoesOn, RefusedIsFirst}
+use Rattle.decision_book.specs.Laws.{last_of, SituationOfJournal}
+use Rattle.decision_book.specs.Laws.{AskingIsAfterDecision, SituationOfScript, ScriptIsRight}
+use Rattle.decision_book.specs.Laws.{AcceptedAdds, RefusedFirst, AcceptedLeavesNoRefusal, RefusedIsFirst}
 use Rattle.decision_book.proofs.Growing.{each_push, situation_by_parts}
 
 -- ---- after
@@ -32,8 +33,8 @@ after-with_reply net es caller d r =
     (NewCall (record { caller = caller; fronts = length (fronts_of es); decision = d; reply = r }))
 
 -- asking a decision leads to the next situation, whoever asks
-pub asking_is_next : (net : Net) → AskingIsNext net
-asking_is_next net es caller d = after-with_reply net es caller d (reply (after net es) d)
+pub asking_is_after_decision : (net : Net) → AskingIsAfterDecision net
+asking_is_after_decision net es caller d = after-with_reply net es caller d (reply (after net es) d)
 
 -- after a journal the front is its last one, or 0, and the number of calls is how many it has
 pub situation_of_journal : (net : Net) → SituationOfJournal net
@@ -48,8 +49,9 @@ situation_from : (net : Net) (es : List Event) (s : Situation) (qs : List Questi
     → after net (fold (λ events q. journal_with net events q.caller q.decision) es qs) ≡ after_all s
     (map (λ q. q.decision) qs)
 situation_from net es s [] h = h
-situation_from net es s (q ∷ qs) h = situation_from net (journal_with net es q.caller q.decision) (next s q.decision) qs
-    (asking_is_next net es q.caller q.decision ∙ ap (λ t. next t q.decision) h)
+situation_from net es s (q ∷ qs) h =
+    situation_from net (journal_with net es q.caller q.decision) (after_decision s q.decision) qs
+    (asking_is_after_decision net es q.caller q.decision ∙ ap (λ t. after_decision t q.decision) h)
 
 -- the situation after the journal of a script is the one that its decisions lead to
 pub situation_of_script : (net : Net) → SituationOfScript net
@@ -75,23 +77,23 @@ right_from net es (q ∷ qs) h = right_from net (journal_with net es q.caller q.
 pub script_is_right : (net : Net) → ScriptIsRight net
 script_is_right net qs = right_from net [] qs tt
 
--- ---- next, after_all
+-- ---- after_decision, after_all
 
 -- a decision that is accepted
-pub next_accepted : (s : Situation) (d : Decision) → reply s d ≡ Accepted
-    → next s d ≡ record s { clones = clones_after s.net s.clones d; calls = s.calls + 1 }
-next_accepted s d h = ap (by_reply s d) h
+pub after_decision-accepted : (s : Situation) (d : Decision) → reply s d ≡ Accepted
+    → after_decision s d ≡ record s { clones = clones_after s.net s.clones d; calls = s.calls + 1 }
+after_decision-accepted s d h = ap (by_reply s d) h
 
 -- decisions leave the network as it is
 net_stays : (s : Situation) (ds : List Decision) → (after_all s ds).net ≡ s.net
 net_stays s [] = refl
-net_stays s (d ∷ ds) = net_stays (next s d) ds
+net_stays s (d ∷ ds) = net_stays (after_decision s d) ds
 
 -- one decision more that is accepted does to the clones what it says
 pub accepted_adds : (net : Net) → AcceptedAdds net
 accepted_adds net ds d h =
     let s = after_all (outset net) ds in
-    ap (λ t. t.clones) (fold_push next (outset net) ds d ∙ next_accepted s d h)
+    ap (λ t. t.clones) (fold_push after_decision (outset net) ds d ∙ after_decision-accepted s d h)
     ∙ ap (λ n. clones_after n s.clones d) (net_stays (outset net) ds)
 
 -- ---- first_refusal
@@ -110,11 +112,11 @@ refused_first_from s place [] more = let none : place ≡ place + 0 = omega arit
     ap (λ p. first_refusal_from s p more) none
 refused_first_from s place (d ∷ ds) more =
     let one : place + 1 + length ds ≡ place + length (d ∷ ds) = omega arith in
-    ap (refusal_or place (reply s d)) (refused_first_from (next s d) (place + 1) ds more
-    ∙ ap (λ p. option_or (first_refusal_from (next s d) (place + 1) ds)
-    (first_refusal_from (after_all (next s d) ds) p more)) one)
-    ∙ refusal_or-or place (reply s d) (first_refusal_from (next s d) (place + 1) ds)
-    (first_refusal_from (after_all (next s d) ds) (place + length (d ∷ ds)) more)
+    ap (refusal_or place (reply s d)) (refused_first_from (after_decision s d) (place + 1) ds more
+    ∙ ap (λ p. option_or (first_refusal_from (after_decision s d) (place + 1) ds)
+    (first_refusal_from (after_all (after_decision s d) ds) p more)) one)
+    ∙ refusal_or-or place (reply s d) (first_refusal_from (after_decision s d) (place + 1) ds)
+    (first_refusal_from (after_all (after_decision s d) ds) (place + length (d ∷ ds)) more)
 
 -- the first refusal is that of the decisions before, if there is one, and else that of the ones after them
 pub refused_first : (net : Net) → RefusedFirst net
@@ -142,8 +144,8 @@ first_refusal-none net ds more none = refused_first net ds more
     ∙ ap (λ o. option_or o (first_refusal_from (after_all (outset net) ds) (length ds) more)) none
 
 -- where none is refused, one more that is accepted leaves none refused
-pub accepted_goes_on : (net : Net) → AcceptedGoesOn net
-accepted_goes_on net ds d none accepted = first_refusal-none net ds (d ∷ []) none
+pub accepted_leaves_no_refusal : (net : Net) → AcceptedLeavesNoRefusal net
+accepted_leaves_no_refusal net ds d none accepted = first_refusal-none net ds (d ∷ []) none
     ∙ ap (λ r. refusal_or (length ds) r None) accepted
 
 -- and one more that is refused is the first refusal, whatever comes after it
@@ -151,4 +153,4 @@ pub refused_is_first : (net : Net) → RefusedIsFirst net
 refused_is_first net ds d more none other =
     let s = after_all (outset net) ds in
     first_refusal-none net ds (d ∷ more) none ∙ refusal_or-refusal (length ds) (reply s d)
-    (first_refusal_from (next s d) (length ds + 1) more) other
+    (first_refusal_from (after_decision s d) (length ds + 1) more) other

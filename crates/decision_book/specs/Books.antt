@@ -35,6 +35,12 @@ abbrev pub AreInOrder : ℕ → ℕ → List Call → Type 0
 AreInOrder n all [] = n ≤ all
 AreInOrder n all (c ∷ cs) = (n ≤ c.fronts) × AreInOrder c.fronts all cs
 
+-- the lists of a book: they are planned, and memory is reserved for all clones and decisions
+pub record AreBookLists (net : Net) (lists : ListsView) : Type 0 where
+  pub planned : ArePlanned net lists.clones
+  pub reserved_clones : lists.reserved_clones ≡ MOST_CLONES
+  pub reserved_plans : lists.reserved_plans ≡ MOST_DECISIONS
+
 -- lists, front and number of calls are those of the journal, which is right, and memory is reserved for all calls,
 -- clones and decisions
 pub record IsBook (net : Net) (lists : ListsView) (calls : ReservedView Call) (fronts : ReservedView ℕ) (last : ℕ) :
@@ -50,9 +56,7 @@ pub record IsBook (net : Net) (lists : ListsView) (calls : ReservedView Call) (f
   pub few : length fronts.items ≤ last
   pub early : last ≤ net.horizon
   pub soon : net.horizon ≤ MOST_HORIZON
-  pub plans : ArePlanned net lists.clones
-  pub reserved_clones : lists.reserved_clones ≡ MOST_CLONES
-  pub reserved_plans : lists.reserved_plans ≡ MOST_DECISIONS
+  pub lists_are : AreBookLists net lists
   pub reserved_calls : calls.reserved ≡ MOST_CALLS
 
 -- the call of a decision with this reply, and the book, whose last entry it is

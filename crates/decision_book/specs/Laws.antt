@@ -1,11 +1,11 @@
 -- Laws of decisions in words: `src/laws.rt` shows that they hold.
-use Rattle.std.specs.Prelude.{◌≡◌, ◌≢◌, Some, ℕ, ◌<◌, ◌≤◌, fold, List, [], ◌∷◌, ◌++◌, length, map, Option, None}
+use Rattle.std.specs.Prelude.{◌≡◌, ◌≢◌, Some, ℕ, ◌<◌, fold, List, [], ◌∷◌, ◌++◌, length, map, Option, None}
 use Rattle.std.specs.List.{find, AllByRecursion}
 use Rattle.std.specs.Option.{option_or}
 use Rattle.std.specs.Str.{bytes_eq}
 use Rattle.sim_base.specs.declared.decision.Decision.{Decision}
 use Rattle.sim_base.specs.Clones.{Clone, clone_at}
-use Rattle.net_model.specs.Net.{Net}
+use Rattle.net_model.specs.Net.{Net, HasStation}
 use Rattle.decision_book.specs.declared.call.Call.{Call}
 use Rattle.decision_book.specs.declared.call.Reply.TheVariants.{Accepted}
 use Rattle.decision_script.specs.Alone.{alone, alone_of, decisions}
@@ -14,7 +14,7 @@ use Rattle.decision_book.specs.Journal.{Event, NewCall, outset, clones_after, af
 use Rattle.decision_book.specs.Plans.{ArePlanned}
 use Rattle.decision_book.specs.Replies.{reply}
 use Rattle.decision_book.specs.Right.{journal_with, IsRight}
-use Rattle.decision_book.specs.Scripts.{Question, journal_of_script, script_of, next}
+use Rattle.decision_book.specs.Scripts.{Question, journal_of_script, script_of, after_decision}
 use Rattle.decision_book.specs.Scripts.{after_all, lists_of, first_refusal, first_refusal_from}
 
 -- the last of these numbers, or 0
@@ -34,12 +34,12 @@ SituationOfJournal net = (events : List Event)
 -- the decisions of a planned clone are for stations that are there
 abbrev pub PlansAreForStations : Net → Type 0
 PlansAreForStations net = (clones : List Clone) (c : ℕ) → ArePlanned net clones
-    → AllByRecursion (λ p. (0 < p.station) × (p.station ≤ length net.sites)) (clone_at clones c).plans
+    → AllByRecursion (λ p. HasStation net p.station) (clone_at clones c).plans
 
--- a decision that is asked takes things to where they stand next, whoever asks
-abbrev pub AskingIsNext : Net → Type 0
-AskingIsNext net = (events : List Event) (caller : ℕ) (d : Decision)
-    → after net (journal_with net events caller d) ≡ next (after net events) d
+-- the situation behind a decision that is asked, whoever asks, is the one after that decision
+abbrev pub AskingIsAfterDecision : Net → Type 0
+AskingIsAfterDecision net = (events : List Event) (caller : ℕ) (d : Decision)
+    → after net (journal_with net events caller d) ≡ after_decision (after net events) d
 
 -- the situation after the journal of a script is the one that its decisions lead to
 abbrev pub SituationOfScript : Net → Type 0
@@ -62,8 +62,8 @@ RefusedFirst net = (ds more : List Decision) → first_refusal net (ds ++ more) 
     (first_refusal_from (after_all (outset net) ds) (length ds) more)
 
 -- so a decision more that is accepted leaves no refusal, where there was none
-abbrev pub AcceptedGoesOn : Net → Type 0
-AcceptedGoesOn net = (ds : List Decision) (d : Decision) → first_refusal net ds ≡ None
+abbrev pub AcceptedLeavesNoRefusal : Net → Type 0
+AcceptedLeavesNoRefusal net = (ds : List Decision) (d : Decision) → first_refusal net ds ≡ None
     → reply (after_all (outset net) ds) d ≡ Accepted → first_refusal net (ds ++ d ∷ []) ≡ None
 
 -- and one that is refused is the first, whatever comes after it

@@ -4,14 +4,13 @@ use Rattle.std.specs.List.{AllByRecursion}
 use Rattle.sim_base.specs.declared.decision.Planned.{Planned}
 use Rattle.sim_base.specs.declared.lists.TheConstants.{MOST_CLONES, MOST_DECISIONS}
 use Rattle.sim_base.specs.Clones.{Clone}
-use Rattle.net_model.specs.Net.{Net, site_of}
+use Rattle.net_model.specs.Net.{Net, HasStation, site_of}
 use Rattle.stations.specs.Changes.{is_accepted}
 
 -- a decision of a list: at a time before the horizon, for a station that is there, a change that it takes
 pub record IsPlan (net : Net) (plan : Planned) : Type 0 where
   pub early : plan.at < net.horizon
-  pub first : 1 ≤ plan.station
-  pub last : plan.station ≤ length net.sites
+  pub is_station : HasStation net plan.station
   pub taken : is_accepted (site_of net plan.station) plan.change ≡ true
 
 -- a clone with such decisions, of which there are not too many, and with an end before the horizon if it has one

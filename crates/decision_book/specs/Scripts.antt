@@ -25,15 +25,15 @@ calls_after Full calls = calls
 calls_after _ calls = calls + 1
 
 -- the situation after a decision; who asked makes no difference
-abbrev pub next : Situation → Decision → Situation
-next s d = record s {
+abbrev pub after_decision : Situation → Decision → Situation
+after_decision s d = record s {
   clones = clones_after_reply s.net s.clones d (reply s d);
   calls = calls_after (reply s d) s.calls;
 }
 
 -- the situation after these decisions
 abbrev pub after_all : Situation → List Decision → Situation
-after_all s ds = fold next s ds
+after_all s ds = fold after_decision s ds
 
 -- the clones that the decisions of a script leave
 abbrev pub lists_of : Net → List Decision → List Clone
@@ -47,7 +47,8 @@ refusal_or place refusal later = Some (place, refusal)
 -- the first of the decisions that is refused, where the first of them has this place: its place and the refusal
 abbrev pub first_refusal_from : Situation → ℕ → List Decision → Option (ℕ × Reply)
 first_refusal_from s place [] = None
-first_refusal_from s place (d ∷ ds) = refusal_or place (reply s d) (first_refusal_from (next s d) (place + 1) ds)
+first_refusal_from s place (d ∷ ds) =
+    refusal_or place (reply s d) (first_refusal_from (after_decision s d) (place + 1) ds)
 
 -- the first decision of a script that is refused: its place, from 0, and the refusal
 abbrev pub first_refusal : Net → List Decision → Option (ℕ × Reply)

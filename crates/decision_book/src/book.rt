@@ -1,6 +1,6 @@
 //! The book: the journal of decisions and fronts, and the lists that it leaves.
 ghost use Rattle.std.specs.Prelude.{◌≡◌};
-ghost use Rattle.decision_book.specs.Journal.{is_full};
+ghost use Rattle.decision_book.specs.Journal.{is_full as is_full'};
 
 use crate::call::{Call, MOST_CALLS, Reply};
 use crate::reply::decide_by_table;
@@ -29,8 +29,8 @@ impl std::marker::Model for Book {
     ghost invariant = { λ b. IsBook b.model.value b.lists b.calls b.fronts b.front };
 }
 
-fn fills_up(reply: Reply) -> bool
-    ensures value { result ≡ is_full reply }
+fn is_full(reply: Reply) -> bool
+    ensures value { result ≡ is_full' reply }
 {
     match reply {
         Reply::Full => true,
@@ -47,7 +47,7 @@ impl Book {
     ghost use Rattle.decision_book.specs.Replies.{reply};
     ghost use Rattle.decision_book.specs.Right.{journal_with, IsRight};
     ghost use Rattle.decision_book.specs.Plans.{ArePlanned};
-    ghost use Rattle.decision_book.specs.Scripts.{next};
+    ghost use Rattle.decision_book.specs.Scripts.{after_decision};
 
     /// No calls and no fronts: the base clone alone, at front 0.
     ///
@@ -69,7 +69,7 @@ impl Book {
     }
 
     /// The reply to a decision, which is in the journal from now on, unless it is Full. Takes no memory.
-    #[tactic(auto, using(crate::proofs::Scripts::asking_is_next))]
+    #[tactic(auto, using(crate::proofs::Scripts::asking_is_after_decision))]
     pub fn decide(&mut self, caller: u32, d: Decision) -> Reply
         // the reply of the table
         ensures reply { result ≡ reply (after self.old.net self.old.events) d }
@@ -78,7 +78,7 @@ impl Book {
           events = journal_with self.old.net self.old.events caller d;
         } }
         // and the situation is the one that the decision leads to
-        ensures next { after self.old.net self.new.events ≡ next (after self.old.net self.old.events) d }
+        ensures next { after self.old.net self.new.events ≡ after_decision (after self.old.net self.old.events) d }
         // it is Full exactly where the journal holds as many calls as it may
         ensures full { (result ≡ Full) ↔ (MOST_CALLS ≤ length (calls_of self.old.events)) }
         // and else the call is the last entry
@@ -87,7 +87,7 @@ impl Book {
     {
         let calls = self.calls.len();
         let reply = decide_by_table(&self.model, &mut self.lists, self.front, calls, &d);
-        if !fills_up(reply) {
+        if !is_full(reply) {
             let call = Call {
                 caller,
                 fronts: self.fronts.len() as u32,
@@ -110,7 +110,7 @@ impl Book {
     {
         let fronts = self.fronts.len() as u32;
         let reply = self.decide(caller, *d);
-        if fills_up(reply) {
+        if is_full(reply) {
             return (reply, None);
         }
         let call = Call {

@@ -2,15 +2,17 @@
 //!
 //! `specs/Laws.antt` has the laws in words.
 ghost use Rattle.net_model.specs.Net.{Net};
-ghost use Rattle.decision_book.specs.Laws.{SituationOfJournal, PlansAreForStations, AskingIsNext, SituationOfScript};
-ghost use Rattle.decision_book.specs.Laws.{ScriptIsRight, AcceptedAdds, RefusedFirst, AcceptedGoesOn, RefusedIsFirst};
+ghost use Rattle.decision_book.specs.Laws.{SituationOfJournal, PlansAreForStations};
+ghost use Rattle.decision_book.specs.Laws.{AskingIsAfterDecision, SituationOfScript};
+ghost use Rattle.decision_book.specs.Laws.{ScriptIsRight, AcceptedAdds, RefusedFirst};
+ghost use Rattle.decision_book.specs.Laws.{AcceptedLeavesNoRefusal, RefusedIsFirst};
 ghost use Rattle.decision_book.specs.Laws.{AloneSuffices, OwnScriptSuffices, JournalIsScript, ClosedChangesNothing};
 
 /// The situation after a journal, and how a decision changes it.
-#[tactic(auto, using(crate::proofs::Scripts::situation_of_journal, crate::proofs::Scripts::asking_is_next))]
+#[tactic(auto, using(crate::proofs::Scripts::situation_of_journal, crate::proofs::Scripts::asking_is_after_decision))]
 pub fn situations_of_journals()
     ensures situation { (net : Net) → SituationOfJournal net }
-    ensures journal_with { (net : Net) → AskingIsNext net }
+    ensures journal_with { (net : Net) → AskingIsAfterDecision net }
 {}
 
 /// The decisions of a book's lists are for stations of the network.
@@ -25,7 +27,7 @@ pub fn scripts_are_decided()
     ensures right { (net : Net) → ScriptIsRight net }
     ensures accepted { (net : Net) → AcceptedAdds net }
     ensures refused { (net : Net) → RefusedFirst net }
-    ensures goes_on { (net : Net) → AcceptedGoesOn net }
+    ensures none { (net : Net) → AcceptedLeavesNoRefusal net }
     ensures first { (net : Net) → RefusedIsFirst net }
 {}
 

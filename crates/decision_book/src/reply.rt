@@ -1,6 +1,7 @@
 //! The reply to a decision, and what the decision does to the lists.
 ghost use Rattle.std.specs.Prelude.{◌≡◌, ◌<◌, length};
 ghost use Rattle.sim_base.specs.Clones.{clone_at, clones_with_fork, clones_with_plan, clones_with_end};
+ghost use Rattle.decision_book.specs.Books.{AreBookLists};
 ghost use Rattle.decision_book.specs.Journal.{clones_after_reply, if_accepted, plan_of_set};
 ghost use Rattle.decision_book.specs.Plans.{ArePlanned};
 ghost use Rattle.decision_book.specs.Replies.{first_row, fork_rows, set_rows, time_rows, reply as reply_of};
@@ -13,9 +14,7 @@ use stations::change::{ChangeFault, accepts};
 #[tactic(auto, using(crate::proofs::Planned::planned_forked))]
 fn decide_fork(model: &Model, lists: &mut Lists, clone: u32, new: Name) -> Reply
     requires there { clone < length lists.old.clones }
-    requires clones { lists.old.reserved_clones ≡ MOST_CLONES }
-    requires plans { lists.old.reserved_plans ≡ MOST_DECISIONS }
-    requires planned { ArePlanned model.now lists.old.clones }
+    requires lists { AreBookLists model.now lists.old }
     ensures reply { result ≡ first_row (fork_rows lists.old.clones new) }
     // the lists, which stay as they are where it is refused
     ensures lists { lists.new ≡ record lists.old {
@@ -75,8 +74,7 @@ fn decide_set(
     change: &Change,
 ) -> Reply
     requires there { clone < length lists.old.clones }
-    requires plans { lists.old.reserved_plans ≡ MOST_DECISIONS }
-    requires planned { ArePlanned model.now lists.old.clones }
+    requires lists { AreBookLists model.now lists.old }
     ensures reply { result ≡
         first_row (set_rows model.now lists.old.clones front clone at station.now change.now) }
     // the lists, which stay as they are where it is refused
@@ -119,9 +117,7 @@ pub fn decide_by_table(
     calls: usize,
     d: &Decision,
 ) -> Reply
-    requires clones { lists.old.reserved_clones ≡ MOST_CLONES }
-    requires plans { lists.old.reserved_plans ≡ MOST_DECISIONS }
-    requires planned { ArePlanned model.now lists.old.clones }
+    requires lists { AreBookLists model.now lists.old }
     // the first row of the table whose condition holds
     ensures reply { result ≡ reply_of (record {
       net = model.now;

@@ -50,10 +50,12 @@ has_turn m m1 m2 a t j rest drew begins few right turn rises =
     let e = waits_with_ticket m m1 a t rest drew in
     record {
       ticket = t;
-      begins = subst (λ (x : Hand). Begins x.0.seen j) e begins;
-      rises = subst (λ (x : Hand). front_of x.0.seen ≤ front_of j) e rises;
-      right = subst (λ (x : Hand). AreAccounts j x.0.accounts) e right;
-      few = few;
+      comes = record {
+        begins = subst (λ (x : Hand). Begins x.0.seen j) e begins;
+        rises = subst (λ (x : Hand). front_of x.0.seen ≤ front_of j) e rises;
+        right = subst (λ (x : Hand). AreAccounts j x.0.accounts) e right;
+        few = few;
+      };
       is = comes_to_turn m m1 m2 a t j rest drew turn;
     }
 
@@ -88,7 +90,7 @@ places_left caller receipts desk m new d receipt j p t some_entry = ⊎_elim
     ))).
     let a = first_account m.0.accounts in
     let items : length receipts.items ≡ length a.calls = ap length p.receipts_are ∙ length-map a.calls receipt_of in
-    let own : length a.calls ≡ length (calls_by a.caller j) = ap length t.right.0.calls in
+    let own : length a.calls ≡ length (calls_by a.caller j) = ap length t.comes.right.0.calls in
     omega (arith, items, own, by_short a.caller 0 (calls_of j), h.2, p.reserved))
     (λ (h : (receipt.reply ≡ Full) × (receipt.entry ≡ None) × (length (calls_of j) ≡ MOST_CALLS)
     × (new ≡ (pass_view m.0.net j (full_account (first_account m.0.accounts)), []))).
@@ -105,17 +107,18 @@ helm_waits_with_ticket : (m m1 : Hand) (t : ℕ)
       view_with_turn (helm_view m.0.net m.0.parts m.0.seen m.0.helm m.0.made m.0.accounts) true t false m.0.seen,
       [],
     )
-helm_waits_with_ticket m m1 t rest drew = drew ∙ ap (λ (x : Hand). (view_with_turn x.0 true t false x.0.seen, x.1)) rest
+helm_waits_with_ticket m m1 t rest drew =
+    drew ∙ ap (λ (x : Hand). (view_with_turn x.0 true t false x.0.seen, x.1)) rest.is
 
 -- a helm at rest that has drawn a ticket waits without the turn, and has a part as before
 pub helm_waits : (m m1 : Hand) (t : ℕ) → IsHelmAtRest m
-    → m1 ≡ (view_with_turn m.0 true t false m.0.seen, m.1) → 0 < m.0.parts
+    → m1 ≡ (view_with_turn m.0 true t false m.0.seen, m.1)
     → IsWaiting m1.0
-helm_waits m m1 t rest drew part =
+helm_waits m m1 t rest drew =
     let e = helm_waits_with_ticket m m1 t rest drew in (
       ap (λ (x : Hand). x.0.waits) e,
       ap (λ (x : Hand). x.0.turn) e,
-      subst (λ n. 0 < n) (sym (ap (λ (x : Hand). x.0.parts) e)) part,
+      subst (λ n. 0 < n) (sym (ap (λ (x : Hand). x.0.parts) e)) rest.part,
     )
 
 -- and once it is served, it has come to its turn

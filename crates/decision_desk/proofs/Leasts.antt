@@ -158,7 +158,7 @@ changes_end s p who at valid place going time =
     let within : at ≤ end_of sim k = omega (arith, time.1, ends) in
     sym (ap (λ i. map L (slice_set s.clones i (with_end (clone_at s.clones i) at))) place
     ∙ (map-set L s.clones p (with_end k at) ∙ ap (λ t. slice_set (map L s.clones) p t)
-    (least_of-with_end (lawful-stations s.net valid) k at s.front time.0 within)))
+    (least_of-with_end (lawful-stations s.net valid) k at s.front (record { late = time.0; within = within }))))
 
 -- an accepted decision changes the least times so
 changes : (s : Situation) (d : Decision) → IsNet s.net → (o : IsOpen s d) → Changes s o.clone d

@@ -8,29 +8,31 @@ use Rattle.decision_book.specs.declared.call.Call.{Call}
 use Rattle.decision_book.specs.declared.call.Reply.{Reply}
 use Rattle.decision_book.specs.Journal.{Event, NewFront, NewCall}
 use Rattle.decision_book.proofs.Growing.{each_push}
-use Rattle.decision_desk.specs.Legal.{IsNextFront, GoesOn}
+use Rattle.decision_desk.specs.Legal.{IsNextFront, FrontsAreNext}
 
--- a journal whose fronts are the next ones goes on so with one call more
-goes_on_asked : (net : Net) (es : List Event) (c : Call) → GoesOn net es → GoesOn net (es ++ NewCall c ∷ [])
-goes_on_asked net es c h = each_push (IsNextFront net) [] es (NewCall c) h tt
+-- a journal whose fronts are the next ones stays so with one call more
+fronts_are_next-asked : (net : Net) (es : List Event) (c : Call) → FrontsAreNext net es
+    → FrontsAreNext net (es ++ NewCall c ∷ [])
+fronts_are_next-asked net es c h = each_push (IsNextFront net) [] es (NewCall c) h tt
 
 -- so does one that a decision was asked of
-pub goes_on_told : (old new : BookView) (caller : ℕ) (d : Decision) (r : Reply) (told : Option Call)
-    → GoesOn old.net old.events → IsCallUnlessFull old caller d r told new → GoesOn new.net new.events
-goes_on_told old new caller d r None h t = subst (λ (b : BookView). GoesOn b.net b.events) (sym t.1) h
-goes_on_told old new caller d r (Some c) h t = subst (λ (b : BookView). GoesOn b.net b.events) (sym t.1.new_is)
-    (goes_on_asked old.net old.events c h)
+pub fronts_are_next-told : (old new : BookView) (caller : ℕ) (d : Decision) (r : Reply) (told : Option Call)
+    → FrontsAreNext old.net old.events → IsCallUnlessFull old caller d r told new → FrontsAreNext new.net new.events
+fronts_are_next-told old new caller d r None h t = subst (λ (b : BookView). FrontsAreNext b.net b.events) (sym t.1) h
+fronts_are_next-told old new caller d r (Some c) h t =
+    subst (λ (b : BookView). FrontsAreNext b.net b.events) (sym t.1.new_is)
+    (fronts_are_next-asked old.net old.events c h)
 
--- a journal whose fronts are the next ones goes on so with one front more that is the next
-goes_on_raised : (net : Net) (es : List Event) (f : ℕ) → IsNextFront net es (NewFront f) → GoesOn net es
-    → GoesOn net (es ++ NewFront f ∷ [])
-goes_on_raised net es f is h = each_push (IsNextFront net) [] es (NewFront f) h is
+-- a journal whose fronts are the next ones stays so with one front more that is the next
+fronts_are_next-raised : (net : Net) (es : List Event) (f : ℕ) → IsNextFront net es (NewFront f) → FrontsAreNext net es
+    → FrontsAreNext net (es ++ NewFront f ∷ [])
+fronts_are_next-raised net es f is h = each_push (IsNextFront net) [] es (NewFront f) h is
 
 -- and so does a book whose front was to be raised to the next, whether it was or not
-pub goes_on_if : {E : Type 0} (net : Net) (es : List Event) (f : ℕ) (new : BookView) (r : Result (Unit {0}) E)
-    → IsNextFront net es (NewFront f) → GoesOn net es
+pub fronts_are_next-if : {E : Type 0} (net : Net) (es : List Event) (f : ℕ) (new : BookView) (r : Result (Unit {0}) E)
+    → IsNextFront net es (NewFront f) → FrontsAreNext net es
     → OnOk r (new ≡ record { net = net; events = es ++ NewFront f ∷ [] })
-    → OnErr r (new ≡ record { net = net; events = es }) → GoesOn new.net new.events
-goes_on_if net es f new (Ok u) is h ok err =
-    subst (λ (b : BookView). GoesOn b.net b.events) (sym ok) (goes_on_raised net es f is h)
-goes_on_if net es f new (Err e) is h ok err = subst (λ (b : BookView). GoesOn b.net b.events) (sym err) h
+    → OnErr r (new ≡ record { net = net; events = es }) → FrontsAreNext new.net new.events
+fronts_are_next-if net es f new (Ok u) is h ok err =
+    subst (λ (b : BookView). FrontsAreNext b.net b.events) (sym ok) (fronts_are_next-raised net es f is h)
+fronts_are_next-if net es f new (Err e) is h ok err = subst (λ (b : BookView). FrontsAreNext b.net b.events) (sym err) h

@@ -11,10 +11,10 @@ IsNextFront net before (NewFront f) = f ≡ next_front net (after net before).cl
 IsNextFront net before (NewCall call) = Unit {0}
 
 -- each front is the next one
-abbrev pub GoesOn : Net → List Event → Type 0
-GoesOn net events = EachAfter (IsNextFront net) [] events
+abbrev pub FrontsAreNext : Net → List Event → Type 0
+FrontsAreNext net events = EachAfter (IsNextFront net) [] events
 
 -- a journal that is right, and whose fronts are the next ones
 pub record IsLegal (net : Net) (events : List Event) : Type 0 where
   pub right : IsRight net events
-  pub goes_on : GoesOn net events
+  pub fronts : FrontsAreNext net events

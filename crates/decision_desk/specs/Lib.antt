@@ -3,3 +3,4 @@ pub mod Turns
 pub mod Legal
 pub mod Leasts
 pub mod Passes
+pub mod Desks

@@ -11,7 +11,7 @@ use Rattle.decision_book.specs.declared.call.TheConstants.{MOST_CALLS}
 use Rattle.decision_book.specs.declared.call.Reply.{Reply}
 use Rattle.decision_book.specs.declared.call.Reply.TheVariants.{Full}
 use Rattle.decision_book.specs.Journal.{Event, NewCall, NewFront, call_of, calls_of, after}
-use Rattle.decision_book.specs.Books.{BookView}
+use Rattle.decision_book.specs.Books.{BookView, IsEntry}
 use Rattle.decision_book.specs.Replies.{reply}
 use Rattle.decision_book.specs.Scripts.{accepted_of}
 use Rattle.decision_book.specs.Right.{IsRight}
@@ -24,6 +24,8 @@ use Rattle.decision_desk.specs.declared.view.View.{View}
 use Rattle.stations.specs.Runs.{next_front}
 use Rattle.decision_desk.specs.declared.pass.Receipt.{Receipt}
 use Rattle.decision_desk.specs.declared.helm.Turn.{Turn}
+
+-- ---- pass
 
 -- what contracts see of a pass: its desk and network, the journal as far as it was seen, and the caller's account
 pub record PassView : Type 0 where
@@ -66,37 +68,32 @@ pub record IsPass (caller : ℕ) (receipts : ReservedView Receipt) (desk : Table
   pub receipts_are : receipts.items ≡ map receipt_of (first_account me.0.accounts).calls
   pub reserved : receipts.reserved ≡ MOST_CALLS
 
--- the call is that of this decision and this reply, and the last of the new book; the old one had a free place for it
-pub record IsLastEntry (old : BookView) (caller : ℕ) (d : Decision) (answer : Reply) (call : Call) (new : BookView) :
-    Type 0 where
-  pub is : call ≡ call_of caller old.events d answer
-  pub new_is : new ≡ record old { events = old.events ++ NewCall call ∷ [] }
-  pub free : length (calls_of old.events) < MOST_CALLS
-  pub not_full : answer ≢ Full
+-- ---- turns of a pass
 
--- the reply of the table of refusals to a decision, with its call as the last of the book, or with none where the book
--- is full, and stays as it was
+-- the reply of the table of refusals to a decision, with its call as the last of the book, which had a free place for
+-- it, or with none where the book is full, and stays as it was
 abbrev pub HasAnswered : BookView → ℕ → Decision → Reply → Option Call → BookView → Type 0
 HasAnswered old caller d answer told new = (answer ≡ reply (after old.net old.events) d)
     × MatchOption told ((answer ≡ Full) × (MOST_CALLS ≤ length (calls_of old.events)) × (new ≡ old))
-    (λ call. IsLastEntry old caller d answer call new)
+    (λ call. (answer ≢ Full) × (length (calls_of old.events) < MOST_CALLS) × IsEntry old caller d answer call new)
 
--- a pass that came to its turn, behind the events j
-pub record PassHasTurn (net : Net) (seen : List Event) (a : Account) (me : Me Slot View) (j : List Event) : Type 0 where
-  pub ticket : ℕ
+-- a pass that saw some events and has an account comes behind the events j
+pub record ComesBehind (seen : List Event) (a : Account) (j : List Event) : Type 0 where
   pub begins : Begins seen j
   pub rises : front_of seen ≤ front_of j
   pub right : AreAccounts j (a ∷ [])
   pub few : length (calls_of j) ≤ MOST_CALLS
+
+-- a pass that came to its turn, behind the events j
+pub record PassHasTurn (net : Net) (seen : List Event) (a : Account) (me : Me Slot View) (j : List Event) : Type 0 where
+  pub ticket : ℕ
+  pub comes : ComesBehind seen a j
   pub is : me ≡ (turn_view net j a ticket, (0, book_of net j) ∷ [])
 
 -- the result of a pass's turn, behind the events j: the call is in the journal, or the reply was Full
 pub record IsPassTurn (net : Net) (seen : List Event) (a : Account) (d : Decision) (receipt : Receipt)
     (new : Me Slot View) (j : List Event) : Type 0 where
-  pub begins : Begins seen j
-  pub rises : front_of seen ≤ front_of j
-  pub right : AreAccounts j (a ∷ [])
-  pub few : length (calls_of j) ≤ MOST_CALLS
+  pub comes : ComesBehind seen a j
   pub reply_is : receipt.reply ≡ reply (after net j) d
   pub outcome :
       ((receipt.reply ≢ Full) × (receipt.entry ≡ Some (length (calls_of j))) × (length (calls_of j) < MOST_CALLS)
@@ -124,6 +121,8 @@ pub record IsAsked (old : PassView) (d : Decision) (receipt : Receipt) (new : Pa
       ⊎ ((receipt.reply ≡ Full) × (receipt.entry ≡ None) × (length (calls_of j) ≡ MOST_CALLS)
       × (new ≡ record old { seen = j; account = full_account old.account }))
 
+-- ---- helm
+
 -- what contracts see of a helm: the journal as far as it was seen, the journal when it last raised the front, its
 -- parts, how many passes were made, and the accounts that came back
 pub record HelmView : Type 0 where
@@ -147,9 +146,10 @@ view_of_helm desk v = record {
   accounts = v.accounts;
 }
 
--- the helm at rest: its parts of the desk, what it saw, and the accounts that came back
-abbrev pub IsHelmAtRest : Me Slot View → Type 0
-IsHelmAtRest me = me ≡ (helm_view me.0.net me.0.parts me.0.seen me.0.helm me.0.made me.0.accounts, [])
+-- the helm at rest: its parts of the desk, of which it has some, what it saw, and the accounts that came back
+pub record IsHelmAtRest (me : Me Slot View) : Type 0 where
+  pub is : me ≡ (helm_view me.0.net me.0.parts me.0.seen me.0.helm me.0.made me.0.accounts, [])
+  pub part : 0 < me.0.parts
 
 -- the view of the helm in its turn
 abbrev pub helm_turn_view : Net → ℕ → List Event → List Event → ℕ → List Account → ℕ → View
@@ -157,22 +157,24 @@ helm_turn_view net parts j helm made accounts ticket =
     view_with_turn (helm_view net parts j helm made accounts) true ticket true j
 
 -- the helm in its turn, while the book is out of the slot
-abbrev pub IsHelmInTurn : Me Slot View → Type 0
-IsHelmInTurn me = me ≡ (
-  helm_turn_view me.0.net me.0.parts me.0.seen me.0.helm me.0.made me.0.accounts me.0.ticket,
-  (0, None) ∷ [],
-)
+pub record IsHelmInTurn (me : Me Slot View) : Type 0 where
+  pub is : me ≡ (
+    helm_turn_view me.0.net me.0.parts me.0.seen me.0.helm me.0.made me.0.accounts me.0.ticket,
+    (0, None) ∷ [],
+  )
+  pub part : 0 < me.0.parts
 
--- a helm at rest: some parts of the desk, the number of passes made, and what it knew at its last turn
+-- a helm at rest: the number of passes made, and what it knew at its last turn
 pub record IsHelm (made known front : ℕ) (desk : TableId) (me : Me Slot View) : Type 0 where
   pub sized : IsDeskTable desk
   pub rest : IsHelmAtRest me
-  pub some_part : 0 < me.0.parts
   pub made_is : me.0.made ≡ made
   -- how many calls there were when it last raised the front
   pub known_is : known ≡ length (calls_of me.0.helm)
   -- and that front
   pub front_is : front ≡ front_of me.0.helm
+
+-- ---- passes and helm of a new desk
 
 -- the pass of a caller that has asked nothing
 abbrev pub new_pass : TableId → Net → ℕ → PassView
@@ -195,6 +197,8 @@ new_helm desk net n = record {
   accounts = [];
 }
 
+-- ---- looks of a pass
+
 -- the front was seen, behind the events j
 abbrev pub pass_after_look : PassView → List Event → PassView
 pass_after_look p j = record p { seen = j; account = record p.account { fronts = p.account.fronts ++ front_of j ∷ [] } }
@@ -202,6 +206,8 @@ pass_after_look p j = record p { seen = j; account = record p.account { fronts =
 -- the front, where this time is below it, and else none
 abbrev pub late_front : ℕ → ℕ → Option ℕ
 late_front front time = if nat_lt time front then Some front else None
+
+-- ---- the book at the end
 
 -- what the book is that a desk leaves
 pub record IsFinalBook (helm : HelmView) (book : BookView) : Type 0 where
@@ -212,6 +218,8 @@ pub record IsFinalBook (helm : HelmView) (book : BookView) : Type 0 where
   pub accounts : AreAccounts book.events helm.accounts
   -- nobody else has calls
   pub others : (x : ℕ) → accounts_of x helm.accounts ≡ 0 → calls_by x book.events ≡ []
+
+-- ---- turns of the helm
 
 -- a helm that came to its turn: only calls were made since it last raised the front
 pub record HelmHasTurn (old : View) (me : Me Slot View) (j : List Event) : Type 0 where

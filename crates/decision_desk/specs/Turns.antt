@@ -16,6 +16,8 @@ use Rattle.decision_desk.specs.Accounts.{Account, AreAccounts, accounts_of, call
 use Rattle.decision_desk.specs.Accounts.{front_of, RisesFrom, Begins, OnlyCalls}
 use Rattle.decision_desk.specs.declared.view.View.{View}
 
+-- ---- table and book
+
 -- a desk's table: it has four words, front, ticket, serving and count, and the slot of the book
 pub record IsDeskTable (table : TableId) : Type 0 where
   pub words : table.words ≡ 4
@@ -38,9 +40,27 @@ book_of net events = Some (record { net = net; events = events })
 abbrev pub seen_book : View → BookView
 seen_book v = record { net = v.net; events = v.seen }
 
+-- ---- seats
+
 -- a seat waits with its ticket, and has not the turn
 abbrev pub IsWaiting : View → Type 0
 IsWaiting v = (v.waits ≡ true) × (v.turn ≡ false) × (0 < v.parts)
+
+-- a seat is at rest: it does not wait, and has not the turn
+abbrev pub IsAtRest : View → Type 0
+IsAtRest v = (v.waits ≡ false) × (v.turn ≡ false) × (0 < v.parts)
+
+-- a seat may end its turn: it has the turn, and carries the book as it saw it
+pub record MayEndTurn (me : Me Slot View) : Type 0 where
+  pub turn : me.0.turn ≡ true
+  pub part : 0 < me.0.parts
+  pub home : me.1 ≡ (0, book_of me.0.net me.0.seen) ∷ []
+
+-- a seat has one account
+abbrev pub HasOneAccount : View → Type 0
+HasOneAccount v = (a : Account) × (v.accounts ≡ a ∷ [])
+
+-- ---- sums over all seats
 
 -- the sum of this number over all seats
 abbrev pub total : (View → ℕ) → List View → ℕ
@@ -62,6 +82,8 @@ has_caller x v = accounts_of x v.accounts
 -- 1 where the ticket is in line: at or after the first number, and before the second
 abbrev pub in_line : ℕ → ℕ → ℕ → ℕ
 in_line x from to = if nat_lt x from then 0 else (if nat_lt x to then 1 else 0)
+
+-- ---- the rule
 
 -- what holds of a seat by itself, where this ticket is served, over this journal
 pub record Fits (net : Net) (serve : ℕ) (journal : List Event) (v : View) : Type 0 where
@@ -115,6 +137,8 @@ pub record IsDesk (s : State Slot View) : Type 0 where
   pub unmade : NoAccountAboveMade s.views
   pub one_helm : OneHelm s.views
 
+-- ---- steps
+
 -- a seat that changes in the course of a turn: what its ticket, turn and knowledge become
 abbrev pub view_with_turn : View → Bool → ℕ → Bool → List Event → View
 view_with_turn v waits ticket turn seen = record v { waits = waits; ticket = ticket; turn = turn; seen = seen }
@@ -165,6 +189,8 @@ HasRaisedFront m n m' = m' ≡ (view_after_front m.0 n, m.1)
 -- a seat that left its turn is at rest, and carries nothing
 abbrev pub HasEndedTurn : Me Slot View → ℕ → Me Slot View → Type 0
 HasEndedTurn m n m' = m' ≡ (view_with_turn m.0 false 0 false m.0.seen, [])
+
+-- ---- seats at rest
 
 -- the account of a caller whose pass was just made
 abbrev pub new_account : ℕ → Account
@@ -219,6 +245,8 @@ spent_view = record {
   made = 0;
   accounts = [];
 }
+
+-- ---- steps of a pass: a look, and the end of a turn that was answered Full
 
 -- a look at the front: the journal is seen as it then stands, and its front is noted
 abbrev pub view_after_look : View → Account → List Event → View

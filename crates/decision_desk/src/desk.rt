@@ -15,12 +15,13 @@ use crate::view::View;
 use atomic_table::{Refused, Table};
 use decision_book::MOST_CALLS;
 use net_model::Model;
+use sim_base::limits::MOST_ANALYSTS;
 use sim_base::{Decision, NoMemory, Reserved};
 use std::alloc::Global;
 use std::sync::{Arc, Wait};
 
 /// The most passes of a desk, one for each analyst.
-pub const MOST_PASSES: u32 = 16;
+pub const MOST_PASSES: u32 = MOST_ANALYSTS;
 
 /// The parts of a desk, with all of which the helm begins: one for each pass, and its own.
 pub const ALL_PARTS: u32 = MOST_PASSES + 1;

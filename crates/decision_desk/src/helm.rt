@@ -52,7 +52,6 @@ impl std::marker::Model for Helm {
 fn come_to_helm_turn<R: Wait>(rt: &R, board: &Board, seat: &mut Chair)
     requires table { IsSeatOf board.now.table_id seat.old.table_id }
     requires rest { IsHelmAtRest seat.old.me }
-    requires part { 0 < seat.old.me.0.parts }
     ensures table { seat.new.table_id ≡ seat.old.table_id }
     ensures turn { (j : List Event) × HelmHasTurn seat.old.me.0 seat.new.me j }
 {
@@ -65,7 +64,6 @@ fn raise_and_leave(board: &Board, seat: &mut Chair, book: LegalBook, front: u64)
     // the helm has the turn, and the book has the front behind all that was seen
     requires table { IsSeatOf board.now.table_id seat.old.table_id }
     requires turn { IsHelmInTurn seat.old.me }
-    requires part { 0 < seat.old.me.0.parts }
     requires above { front_of seat.old.me.0.seen < front }
     requires book { book ≡ record { net = seat.old.me.0.net; events = seat.old.me.0.seen ++ NewFront front ∷ [] } }
     // what is kept: the table of the seat
@@ -87,7 +85,6 @@ fn raise_and_leave(board: &Board, seat: &mut Chair, book: LegalBook, front: u64)
 fn leave_as_it_was(board: &Board, seat: &mut Chair, book: LegalBook)
     requires table { IsSeatOf board.now.table_id seat.old.table_id }
     requires turn { IsHelmInTurn seat.old.me }
-    requires part { 0 < seat.old.me.0.parts }
     requires book { book ≡ seen_book seat.old.me.0 }
     ensures table { seat.new.table_id ≡ seat.old.table_id }
     ensures rest { seat.new.me ≡ (
@@ -129,7 +126,7 @@ impl Helm {
         let seat = &mut self.seat;
         come_to_helm_turn(rt, board, seat);
         let mut book = take_book(board, seat);
-        match book.go_on(alloc, self.known, least) {
+        match book.take_helm_turn(alloc, self.known, least) {
             Ok(turn) => {
                 let known = book.book().calls().len();
                 raise_and_leave(board, seat, book, turn.front);

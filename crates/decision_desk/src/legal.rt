@@ -2,7 +2,7 @@
 ghost use Rattle.std.specs.Prelude.{◌≡◌, ◌<◌, ◌≤◌, ◌++◌, ◌∷◌, [], OnOk, OnErr, IfOk};
 ghost use Rattle.stations.specs.Runs.{next_front};
 ghost use Rattle.decision_book.specs.Journal.{after, NewFront};
-ghost use Rattle.decision_desk.specs.Legal.{GoesOn};
+ghost use Rattle.decision_desk.specs.Legal.{FrontsAreNext};
 ghost use Rattle.decision_desk.specs.Passes.{HasAnswered};
 
 use decision_book::{Book, Call, Reply};
@@ -19,13 +19,13 @@ pub struct LegalBook {
 
 impl std::marker::Model for LegalBook {
     ghost use Rattle.decision_book.specs.Books.{BookView};
-    ghost use Rattle.decision_desk.specs.Legal.{GoesOn};
+    ghost use Rattle.decision_desk.specs.Legal.{FrontsAreNext};
 
     ghost Value = { BookView };
 
     ghost view = { λ b. b.book };
 
-    ghost invariant = { λ b. GoesOn b.book.net b.book.events };
+    ghost invariant = { λ b. FrontsAreNext b.book.net b.book.events };
 }
 
 impl LegalBook {
@@ -53,7 +53,7 @@ impl LegalBook {
     /// The book, whose journal is legal.
     pub fn book(&self) -> &Book
         ensures value { result.now ≡ self.now }
-        ensures goes_on { GoesOn self.now.net self.now.events }
+        ensures fronts { FrontsAreNext self.now.net self.now.events }
     {
         &self.book
     }

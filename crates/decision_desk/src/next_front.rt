@@ -1,10 +1,7 @@
 //! The helm's turn over the book: the accepted calls since its last one, and the next front.
 ghost use Rattle.std.specs.Prelude.{◌≡◌, ◌≤◌, ◌++◌, ◌∷◌, List};
 ghost use Rattle.std.specs.Prelude.{map, drop, length, IfOk, OnOk, MatchResult, if◌then◌else◌};
-ghost use Rattle.net_model.specs.Rules.{IsNet};
-ghost use Rattle.run_laws.specs.Fronts.{window_end};
 ghost use Rattle.run_laws.specs.FrontLaws.{time_before as time_before'};
-ghost use Rattle.stations.specs.Runs.{simulation};
 ghost use Rattle.decision_book.specs.Journal.{Event, NewCall, calls_of};
 ghost use Rattle.decision_book.specs.Scripts.{accepted_onto, accepted_of};
 ghost use Rattle.decision_book.specs.declared.call.Call.{Call};
@@ -16,7 +13,7 @@ use crate::legal::LegalBook;
 use decision_book::{Call, Reply};
 use net_model::Model;
 use sim_base::{Decision, Lists, NoMemory};
-use stations::due::earlier;
+use stations::due::{earlier, window_end};
 use std::alloc::Global;
 
 // A time, where it comes before another.
@@ -106,18 +103,6 @@ fn earliest(times: &[Option<u64>]) -> Option<u64>
     first
 }
 
-// Where a window ends whose least message has this time.
-fn end_of_window(model: &Model, least: Option<u64>) -> u64
-    ensures value { result ≡ window_end (simulation model.now) least }
-    ensures valid { IsNet model.now }
-{
-    let horizon = model.horizon();
-    match least {
-        None => horizon,
-        Some(time) => horizon.min(time.saturating_add(model.lookahead())),
-    }
-}
-
 impl LegalBook {
     // The accepted calls since the helm's last turn, when so many calls were known, and the next front.
     fn look_ahead(
@@ -137,13 +122,13 @@ impl LegalBook {
         let mut times = Vec::new(alloc);
         times.extend_from_slice(least)?;
         take_calls(&mut times, book.lists(), fresh.as_slice())?;
-        let front = end_of_window(book.model(), earliest(times.as_slice()));
+        let front = window_end(book.model(), earliest(times.as_slice()));
         Ok(Turn { front, fresh })
     }
 
     /// Takes the accepted calls since the helm's last turn, when so many calls were known, and raises the front to
     /// the next one; out of memory leaves all unchanged.
-    pub fn go_on(
+    pub fn take_helm_turn(
         &mut self,
         alloc: Global,
         known: usize,

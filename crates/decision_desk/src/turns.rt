@@ -3,7 +3,8 @@ ghost use Rattle.std.specs.Prelude.{◌≡◌, ℕ, ◌%◌, ◌^◌, ◌<◌, �
 ghost use Rattle.decision_book.specs.Journal.{Event, calls_of};
 ghost use Rattle.decision_book.specs.declared.call.TheConstants.{MOST_CALLS};
 ghost use Rattle.decision_desk.specs.Accounts.{Account, Begins, front_of};
-ghost use Rattle.decision_desk.specs.Turns.{IsSeatOf, IsWaiting, HasComeToTurn, HasTurnIf, book_of, view_with_turn};
+ghost use Rattle.decision_desk.specs.Turns.{HasOneAccount, IsAtRest, IsSeatOf, IsWaiting, HasComeToTurn, HasTurnIf};
+ghost use Rattle.decision_desk.specs.Turns.{MayEndTurn, view_with_turn};
 ghost use Rattle.decision_desk.specs.Turns.{view_after_call, view_after_front, view_after_look, full_account};
 
 use crate::legal::LegalBook;
@@ -131,13 +132,14 @@ impl Join<View> for Share {
 /// A seat at the desk, of a pass or of the helm.
 pub type Chair = Seat<Option<LegalBook>, View>;
 
-/// What all seats share: the words front, ticket, serving and count, and the slot of the book.
+/// What all seats share: the slot of the book, and four words by their place: 0 the front, 1 the next ticket, 2 the
+/// ticket that is served, 3 the count of calls.
 pub type Board = Shared<Option<LegalBook>, View, Model, DeskRule>;
 
 /// Draws a ticket, and gives its number modulo 2^64.
 pub fn draw_ticket(board: &Board, seat: &mut Chair) -> u64
     requires table { IsSeatOf board.now.table_id seat.old.table_id }
-    requires rest { (seat.old.me.0.waits ≡ false) × (seat.old.me.0.turn ≡ false) × (0 < seat.old.me.0.parts) }
+    requires rest { IsAtRest seat.old.me.0 }
     ensures table { seat.new.table_id ≡ seat.old.table_id }
     ensures waits { (t : ℕ) × (result ≡ t % 2 ^ 64)
         × (seat.new.me ≡ (view_with_turn seat.old.me.0 true t false seat.old.me.0.seen, seat.old.me.1)) }
@@ -203,8 +205,7 @@ pub fn raise_front(board: &Board, seat: &mut Chair, front: u64)
 /// Ends the turn.
 pub fn end_turn(board: &Board, seat: &mut Chair)
     requires table { IsSeatOf board.now.table_id seat.old.table_id }
-    requires turn { (seat.old.me.0.turn ≡ true) × (0 < seat.old.me.0.parts) }
-    requires home { seat.old.me.1 ≡ (0, book_of seat.old.me.0.net seat.old.me.0.seen) ∷ [] }
+    requires may_end { MayEndTurn seat.old.me }
     ensures table { seat.new.table_id ≡ seat.old.table_id }
     ensures rest { seat.new.me ≡ (view_with_turn seat.old.me.0 false 0 false seat.old.me.0.seen, []) }
 {
@@ -215,10 +216,9 @@ pub fn end_turn(board: &Board, seat: &mut Chair)
 pub fn end_full_turn(board: &Board, seat: &mut Chair)
     // the seat has the turn, and the book is back; the journal has all calls that it may have
     requires table { IsSeatOf board.now.table_id seat.old.table_id }
-    requires turn { (seat.old.me.0.turn ≡ true) × (0 < seat.old.me.0.parts) }
-    requires home { seat.old.me.1 ≡ (0, book_of seat.old.me.0.net seat.old.me.0.seen) ∷ [] }
+    requires may_end { MayEndTurn seat.old.me }
     requires full { length (calls_of seat.old.me.0.seen) ≡ MOST_CALLS }
-    requires account { (a : Account) × (seat.old.me.0.accounts ≡ a ∷ []) }
+    requires account { HasOneAccount seat.old.me.0 }
     // what is kept: the table of the seat
     ensures table { seat.new.table_id ≡ seat.old.table_id }
     // what it gives: a seat at rest, whose account was answered Full
@@ -235,9 +235,9 @@ pub fn end_full_turn(board: &Board, seat: &mut Chair)
 /// Loads the front. It waits for nobody.
 pub fn look_at_front(board: &Board, seat: &mut Chair) -> u64
     requires table { IsSeatOf board.now.table_id seat.old.table_id }
-    requires rest { (seat.old.me.0.waits ≡ false) × (seat.old.me.0.turn ≡ false) × (0 < seat.old.me.0.parts)
-        × (seat.old.me.0.steers ≡ false) }
-    requires account { (a : Account) × (seat.old.me.0.accounts ≡ a ∷ []) }
+    requires rest { IsAtRest seat.old.me.0 }
+    requires pass { seat.old.me.0.steers ≡ false }
+    requires account { HasOneAccount seat.old.me.0 }
     ensures table { seat.new.table_id ≡ seat.old.table_id }
     ensures seen { (a : Account) → seat.old.me.0.accounts ≡ a ∷ [] → (j : List Event) × Begins seat.old.me.0.seen j
         × (result ≡ front_of j) × (seat.new.me ≡ (view_after_look seat.old.me.0 a j, seat.old.me.1))

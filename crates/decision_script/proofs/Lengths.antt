@@ -11,10 +11,10 @@ use Rattle.sim_base.specs.declared.message.Param.TheVariants.{Every, Service, Ho
 use Rattle.decision_script.specs.declared.item.Act.{Act}
 use Rattle.decision_script.specs.declared.item.Act.TheVariants.{Decide, Look}
 use Rattle.decision_script.specs.declared.item.Item.{Item}
-use Rattle.decision_script.specs.Stating.{IsAct, IsItem, IsNamed, analyst_name}
+use Rattle.decision_script.specs.Stating.{IsAct, IsItem, IsName, analyst_name}
 use Rattle.decision_script.specs.Printing.{item_lines, line_text, section_before}
 use Rattle.decision_script.specs.Printing.{words_of_act, words_of_change, words_of_section}
-use Rattle.decision_script.proofs.Again.{AreKnown, AreNew}
+use Rattle.decision_script.proofs.ItemsReadAgain.{AreKnown, AreNew}
 use Rattle.decision_script.proofs.Saying.{act_words, section_words}
 use Rattle.decision_script.proofs.Words.{IsWord}
 
@@ -51,7 +51,7 @@ few_words (Decide (Set who at station change)) = omega (arith, few_change_words 
 few_words (Decide (End who at)) = omega arith
 
 -- a section line is two words, and has at most 35 bytes
-pub section_length : (name : List ℕ) → IsNamed name → length (line_text (words_of_section name)) ≤ 35
+pub section_length : (name : List ℕ) → IsName name → length (line_text (words_of_section name)) ≤ 35
 section_length name h = omega (arith, line_length (words_of_section name) (section_words name h))
 
 -- and that of an act at most 137

@@ -6,7 +6,7 @@ pub mod TextParts
 pub mod Words
 pub mod Numbers
 pub mod Saying
-pub mod Again
+pub mod ItemsReadAgain
 pub mod Names
 pub mod Lengths
 pub mod ReadsAgain

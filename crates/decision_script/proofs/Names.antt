@@ -1,7 +1,7 @@
 -- The names of analysts, each of which is the first of its name.
 use Rattle.std.proofs.Common.{◌≡◌, ℕ, ◌-◌, ◌<◌, ◌≤◌, Bool, true, false, List, [], ◌∷◌}
 use Rattle.std.proofs.Common.{◌++◌, length, get_or, refl, sym, subst, arith, Some, None, append_assoc, length-append}
-use Rattle.std.specs.List.{All, AllPairs, position_or_len}
+use Rattle.std.specs.List.{All, position_or_len}
 use Rattle.std.specs.Str.{bytes_eq}
 use Rattle.std.proofs.lemmas.Grind.{common_steps}
 use Rattle.std.proofs.lemmas.List.{get_or_append_left}
@@ -10,13 +10,10 @@ use Rattle.std.proofs.lemmas.List.Sums.{position_or_len_is}
 use Rattle.std.proofs.lemmas.Option.{unwrap_or-slice_get}
 use Rattle.std.proofs.lemmas.Slice.Eq.{bytes_eq-Decides}
 use Rattle.std.proofs.Math.Seq.{get_or-append_seam}
-use Rattle.decision_script.specs.Stating.{IsNamed, analyst_name}
+use Rattle.sim_base.specs.Names.{AreDistinct}
+use Rattle.decision_script.specs.Stating.{IsName, analyst_name}
 use Rattle.decision_script.specs.Reading.{analyst_place}
-use Rattle.decision_script.proofs.Again.{AreNew, AreKnown}
-
--- no two of the names are equal
-abbrev AreDistinct : List (List ℕ) → Type 0
-AreDistinct names = AllPairs (λ a b. bytes_eq a b ≡ false) names
+use Rattle.decision_script.proofs.ItemsReadAgain.{AreNew, AreKnown}
 
 -- ---- analyst_place
 
@@ -36,16 +33,16 @@ analyst_place-None before name more h =
 -- ---- AreNew and AreKnown
 
 -- where all names are distinct, none of the later ones is named before itself
-pub are_new : (before more : List (List ℕ)) → AreDistinct (before ++ more) → All IsNamed more → AreNew before more
+pub are_new : (before more : List (List ℕ)) → AreDistinct (before ++ more) → All IsName more → AreNew before more
 are_new before [] h named = tt
 are_new before (name ∷ more) h named = (
-  All-head IsNamed name more named,
+  All-head IsName name more named,
   analyst_place-None before name more h,
-  are_new (before ++ name ∷ []) more (rw append_assoc h) (All-tail IsNamed name more named),
+  are_new (before ++ name ∷ []) more (rw append_assoc h) (All-tail IsName name more named),
 )
 
 -- and each is the first of its name
-pub are_known : (names : List (List ℕ)) → AreDistinct names → All IsNamed names → AreKnown names
+pub are_known : (names : List (List ℕ)) → AreDistinct names → All IsName names → AreKnown names
 are_known names h named = record {
   known = λ a low high. known a low high;
   named = λ a low high. rw (unwrap_or-slice_get names (a - 1) []) (named (a - 1) [] (omega arith));

@@ -12,6 +12,7 @@ use Rattle.sim_base.specs.Names.{is_digit}
 use Rattle.decision_script.specs.Lines.{has_number_form, number}
 use Rattle.std.specs.Option.{ok_or}
 use Rattle.decision_script.specs.declared.fault.LineFault.TheVariants.{BadNumber}
+use Rattle.decision_script.specs.declared.number.TheConstants.{MOST_NUMBER}
 use Rattle.decision_script.specs.Sentences.{word_number}
 use Rattle.decision_script.proofs.Words.{is_letter, IsWord, list_all-weaker}
 
@@ -51,8 +52,8 @@ has_number_form-decimal (suc n) h =
 
 -- ---- number and word_number
 
--- what is written of a number below 2 ^ 32 is read as that number
-number-decimal : (n : ℕ) → n < 2 ^ 32 → number (decimal n) ≡ Some n
+-- what is written of a number that a script may have is read as that number
+number-decimal : (n : ℕ) → n ≤ MOST_NUMBER → number (decimal n) ≡ Some n
 number-decimal n h =
     let wide : n < 2 ^ 64 = omega arith in
     let form = has_number_form-decimal n wide in
@@ -61,7 +62,7 @@ number-decimal n h =
     rw (form, value) (grind (arith, nat_tests))
 
 -- and it is so where it is a word of a line
-pub word_number-decimal : (n : ℕ) → n < 2 ^ 32 → word_number (decimal n) ≡ Ok n
+pub word_number-decimal : (n : ℕ) → n ≤ MOST_NUMBER → word_number (decimal n) ≡ Ok n
 word_number-decimal n h = ap (λ o. ok_or o BadNumber) (number-decimal n h)
 
 -- ---- IsWord

@@ -6,7 +6,7 @@ use Rattle.sim_base.specs.Decisions.{subject}
 use Rattle.decision_script.specs.declared.item.Act.{Act}
 use Rattle.decision_script.specs.declared.item.Act.TheVariants.{Decide, Look}
 use Rattle.decision_script.specs.declared.item.Item.{Item}
-use Rattle.decision_script.specs.Alone.{object, history_if, history, act_history}
+use Rattle.decision_script.specs.Alone.{changed_clone, history_if, history, act_history}
 use Rattle.decision_script.specs.Alone.{item_history, decisions, decisions_onto, AloneIsOfDecisions}
 
 -- ---- histories of items and of decisions
@@ -30,8 +30,8 @@ act_history-agree : (item : Item) (act : Act) (items : List ℕ × List Item) (w
     → Agree (act_history item act items) (history who (decisions_onto act ds))
 act_history-agree item (Decide d) items who ds is h =
     subst (λ t. Agree (act_history item (Decide d) items)
-    (history_if (bytes_eq (object d) t) d (subject d) (history who ds))) h.target
-    (history_if-agree (bytes_eq (object d) items.0) item d (subject d) items (history who ds) is h)
+    (history_if (bytes_eq (changed_clone d) t) d (subject d) (history who ds))) h.target
+    (history_if-agree (bytes_eq (changed_clone d) items.0) item d (subject d) items (history who ds) is h)
 act_history-agree item (Look look station) items who ds is h = h
 
 -- so they are for all items

@@ -10,7 +10,7 @@ use Rattle.decision_script.specs.declared.item.Act.{Act}
 use Rattle.decision_script.specs.declared.item.Act.TheVariants.{Decide, Look}
 use Rattle.decision_script.specs.declared.item.Item.{Item}
 use Rattle.decision_script.specs.Stating.{ScriptView, IsItem, IsScript}
-use Rattle.decision_script.specs.Alone.{object, history_if, act_history, item_history, alone_of}
+use Rattle.decision_script.specs.Alone.{changed_clone, history_if, act_history, item_history, alone_of}
 
 -- ---- item_history, item after item
 
@@ -53,7 +53,7 @@ history_if-left P false item target items later is h = record { fewer = omega (a
 act_history-left : (P : Item → Type 0) (item : Item) (act : Act) (items : List Item) (later : List ℕ × List Item)
     → P item → AreLeft P items later.1 → AreLeft P (item ∷ items) (act_history item act later).1
 act_history-left P item (Decide d) items later is h =
-    history_if-left P (bytes_eq (object d) later.0) item (subject d) items later is h
+    history_if-left P (bytes_eq (changed_clone d) later.0) item (subject d) items later is h
 act_history-left P item (Look who station) items later is h = record { fewer = omega (arith, h.fewer); all = h.all }
 
 -- so it is with all items

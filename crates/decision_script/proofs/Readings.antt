@@ -32,7 +32,7 @@ use Rattle.decision_script.specs.Sentences.{where_form, with_values, word_number
 use Rattle.decision_script.specs.Sentences.{change_of, section, look, fork, end, set}
 use Rattle.decision_script.specs.Sentences.{after_analyst, after_look, after_fork, after_end, after_set, sentence}
 use Rattle.decision_script.specs.Sentences.{begins_comment, saying, line_saying}
-use Rattle.decision_script.specs.Stating.{Fits32, IsNamed, IsChange, IsAct, IsItem, IsScript}
+use Rattle.decision_script.specs.Stating.{Fits32, IsName, IsChange, IsAct, IsItem, IsScript}
 use Rattle.sim_base.specs.declared.number.TheConstants.{MOST_DIGITS}
 use Rattle.decision_script.specs.declared.number.TheConstants.{MOST_NUMBER}
 use Rattle.decision_script.specs.declared.script.TheConstants.{MOST_ANALYSTS, MOST_ITEMS}
@@ -44,7 +44,7 @@ use Rattle.decision_script.specs.Reading.{after_line, after_lines, new_reader, s
 -- names that a line says are names, and its numbers fit 32 bits
 abbrev IsMeaning : Meaning → Type 0
 IsMeaning Nothing = Unit {0}
-IsMeaning (Section name) = IsNamed name
+IsMeaning (Section name) = IsName name
 IsMeaning (Says act) = IsAct act
 
 -- where a line has the form, what holds of its result holds of what it says
@@ -243,7 +243,7 @@ more_analysts : (n : ℕ) (i : Item) → IsItem n i → IsItem (n + 1) i
 more_analysts n i h = record { low = h.low; high = omega (arith, h.high); act = h.act }
 
 -- a new analyst keeps it so
-new_analyst : (r : ReaderView) (name : List ℕ) → IsReading r → IsNamed name → analyst_place name r.analysts ≡ None
+new_analyst : (r : ReaderView) (name : List ℕ) → IsReading r → IsName name → analyst_place name r.analysts ≡ None
     → length r.analysts < MOST_ANALYSTS
     → IsReading (record { analysts = r.analysts ++ name ∷ []; current = length r.analysts + 1; items = r.items })
 new_analyst r name h n none few =
@@ -251,7 +251,7 @@ new_analyst r name h n none few =
     record {
       script = record {
         first = first_stays r.analysts name (codes "main") h.script.first;
-        named = All-push IsNamed r.analysts name h.script.named n;
+        named = All-push IsName r.analysts name h.script.named n;
         distinct = all_pairs_push (λ a b. bytes_eq a b ≡ false) r.analysts name h.script.distinct
             (none_passes (λ x. bytes_eq x name) r.analysts none);
         few_analysts = omega (arith, long);
@@ -273,7 +273,7 @@ known_analyst r i h there = record {
 }
 
 -- so does a section
-in_section-keeps : (line : ℕ) (r : ReaderView) (name : List ℕ) (o : Option ℕ) → IsReading r → IsNamed name
+in_section-keeps : (line : ℕ) (r : ReaderView) (name : List ℕ) (o : Option ℕ) → IsReading r → IsName name
     → analyst_place name r.analysts ≡ o → IfOk (in_section line r name o) IsReading
 in_section-keeps line r name (Some i) h n is =
     known_analyst r i h (position-Some (λ x. bytes_eq x name) r.analysts i [] is).0
@@ -332,7 +332,7 @@ new_reader_is_reading : IsReading new_reader
 new_reader_is_reading = record {
   script = record {
     first = refl;
-    named = All-cons IsNamed (codes "main") [] refl (All-nil IsNamed);
+    named = All-cons IsName (codes "main") [] refl (All-nil IsName);
     distinct = λ i j d lt b. absurd (omega arith);
     few_analysts = omega arith;
     few_items = omega arith;

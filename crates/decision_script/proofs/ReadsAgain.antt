@@ -11,9 +11,9 @@ use Rattle.decision_script.specs.Laws.{ReadAgain, CanonicalTextReadsAgain}
 use Rattle.decision_script.specs.Printing.{canonical_text, item_lines, line_text, words_of_section}
 use Rattle.decision_script.specs.Reading.{ReaderView, after_lines, new_reader, script, script_of}
 use Rattle.sim_base.specs.Chain.{◌>>=◌}
-use Rattle.decision_script.specs.Stating.{IsItem, IsNamed, IsScript, ScriptView}
+use Rattle.decision_script.specs.Stating.{IsItem, IsName, IsScript, ScriptView}
 use Rattle.decision_script.specs.declared.script.TheConstants.{MOST_BYTES}
-use Rattle.decision_script.proofs.Again.{text_read}
+use Rattle.decision_script.proofs.ItemsReadAgain.{text_read}
 use Rattle.decision_script.proofs.Lengths.{items_length, sections_length}
 use Rattle.decision_script.proofs.Names.{are_known, are_new}
 use Rattle.decision_script.proofs.TextParts.{text_in_parts}
@@ -36,7 +36,7 @@ ReadAgain-main : (more : List (List ℕ)) (items : List Item)
     → ReadAgain (record { analysts = codes "main" ∷ more; items = items })
 ReadAgain-main more items h =
     let s : ScriptView = record { analysts = codes "main" ∷ more; items = items } in
-    let new = are_new (codes "main" ∷ []) more h.distinct (All-tail IsNamed (codes "main") more h.named) in
+    let new = are_new (codes "main" ∷ []) more h.distinct (All-tail IsName (codes "main") more h.named) in
     let known = are_known (codes "main" ∷ more) h.distinct h.named in
     let valid = recursion_from_All (IsItem (length (codes "main" ∷ more))) items h.valid in
     let headers = flat_map line_text (map words_of_section more) in

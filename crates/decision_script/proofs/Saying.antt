@@ -12,7 +12,7 @@ use Rattle.decision_script.specs.declared.item.Act.{Act}
 use Rattle.decision_script.specs.declared.item.Act.TheVariants.{Decide, Look}
 use Rattle.decision_script.specs.declared.line.Meaning.TheVariants.{Says, Section}
 use Rattle.decision_script.specs.Sentences.{saying, section, look, fork, end, set, one_value, two_values}
-use Rattle.decision_script.specs.Stating.{Fits32, IsNamed, IsChange, IsAct}
+use Rattle.decision_script.specs.Stating.{Fits32, IsName, IsChange, IsAct}
 use Rattle.decision_script.specs.Printing.{words_of_act, words_of_change, words_of_section}
 use Rattle.decision_script.proofs.Numbers.{word_number-decimal, decimal_is_word}
 use Rattle.decision_script.proofs.Words.{is_letter, IsWord, list_all-weaker}
@@ -20,30 +20,30 @@ use Rattle.decision_script.proofs.Words.{is_letter, IsWord, list_all-weaker}
 -- ---- saying
 
 -- the words of a section line say the section of that name
-pub saying-section : (name : List ℕ) → IsNamed name → saying (words_of_section name) ≡ Ok (Section name)
+pub saying-section : (name : List ℕ) → IsName name → saying (words_of_section name) ≡ Ok (Section name)
 unfolding section
 saying-section name h = rw h refl
 
 -- the words of a fork say that fork
-saying-fork : (new old : List ℕ) → IsNamed new → IsNamed old
+saying-fork : (new old : List ℕ) → IsName new → IsName old
     → saying (words_of_act (Decide (Fork new old))) ≡ Ok (Says (Decide (Fork new old)))
 unfolding fork
 saying-fork new old n o = rw (n, o) refl
 
 -- of a look that look
-saying-look : (who station : List ℕ) → IsNamed who → IsNamed station
+saying-look : (who station : List ℕ) → IsName who → IsName station
     → saying (words_of_act (Look who station)) ≡ Ok (Says (Look who station))
 unfolding look
 saying-look who station w s = rw (w, s) refl
 
 -- of an end that end
-saying-end : (who : List ℕ) (at : ℕ) → IsNamed who → Fits32 at
+saying-end : (who : List ℕ) (at : ℕ) → IsName who → Fits32 at
     → saying (words_of_act (Decide (End who at))) ≡ Ok (Says (Decide (End who at)))
 unfolding end
 saying-end who at w h = rw (w, word_number-decimal at h) refl
 
 -- and of a set that set
-saying-set : (who station : List ℕ) (at a b : ℕ) (param : Param) → IsNamed who → Fits32 at → IsNamed station
+saying-set : (who station : List ℕ) (at a b : ℕ) (param : Param) → IsName who → Fits32 at → IsName station
     → IsChange param a b
     → saying (words_of_act (Decide (Set who at station (record { param = param; a = a; b = b }))))
     ≡ Ok (Says (Decide (Set who at station (record { param = param; a = a; b = b }))))
@@ -74,7 +74,7 @@ name_byte_is_letter : (b : ℕ) → is_name_byte b ≡ true → is_letter b ≡ 
 name_byte_is_letter b h = grind (arith, nat_tests)
 
 -- a name is a word
-name_is_word : (name : List ℕ) → IsNamed name → IsWord name
+name_is_word : (name : List ℕ) → IsName name → IsWord name
 name_is_word [] h = absurd (cc)
 name_is_word (b ∷ bs) h =
     let (named, short) = and_parts (is_lower b && list_all is_name_byte bs) (nat_lt (length bs) LONGEST_NAME) h in
@@ -140,5 +140,5 @@ act_words (Decide (End who at)) h = (
 )
 
 -- and of a section
-pub section_words : (name : List ℕ) → IsNamed name → AllByRecursion IsWord (words_of_section name)
+pub section_words : (name : List ℕ) → IsName name → AllByRecursion IsWord (words_of_section name)
 section_words name h = (record { some = refl; letters = refl; short = refl }, (name_is_word name h, tt))

@@ -92,15 +92,15 @@ letter_is_printed : (b : ℕ) → is_letter b ≡ true → is_printed b ≡ true
 letter_is_printed b h = grind (arith, nat_tests)
 
 -- so are the letters of a word
-printed : (bs : List ℕ) → list_all is_letter bs ≡ true → list_all is_printed bs ≡ true
-printed bs h = list_all-weaker is_letter is_printed letter_is_printed bs h
+is_printed-letters : (bs : List ℕ) → list_all is_letter bs ≡ true → list_all is_printed bs ≡ true
+is_printed-letters bs h = list_all-weaker is_letter is_printed letter_is_printed bs h
 
 -- words that are joined by spaces are letters and spaces
 pub printed_join : (ws : List (List ℕ)) → AllByRecursion IsWord ws → list_all is_printed (join_with_byte 32 ws) ≡ true
 printed_join [] h = refl
-printed_join (w ∷ []) h = printed w h.0.letters
+printed_join (w ∷ []) h = is_printed-letters w h.0.letters
 printed_join (w ∷ v ∷ ws) h = list_all-append is_printed w (32 ∷ join_with_byte 32 (v ∷ ws))
-    ∙ rw (printed w h.0.letters, printed_join (v ∷ ws) h.1) refl
+    ∙ rw (is_printed-letters w h.0.letters, printed_join (v ∷ ws) h.1) refl
 
 -- a letter or a space is ASCII
 printed_below : (b : ℕ) → is_printed b ≡ true → nat_lt b 128 ≡ true

@@ -10,10 +10,10 @@ use Rattle.decision_script.specs.declared.item.Item.{Item}
 use Rattle.decision_script.specs.Stating.{ScriptView}
 
 -- the clone that a decision makes or changes
-abbrev pub object : Decision → List ℕ
-object (Fork new old) = new
-object (Set who at station change) = who
-object (End who at) = who
+abbrev pub changed_clone : Decision → List ℕ
+changed_clone (Fork new old) = new
+changed_clone (Set who at station change) = who
+changed_clone (End who at) = who
 
 -- one decision before the others: where it belongs to them, the clone before it is the one that it speaks of
 abbrev pub history_if : {A : Type 0} → Bool → A → List ℕ → List ℕ × List A → List ℕ × List A
@@ -24,7 +24,7 @@ history_if false x target later = later
 -- for being on the clone of that time
 abbrev pub history : List ℕ → List Decision → List ℕ × List Decision
 history who [] = (who, [])
-history who (d ∷ ds) = history_if (bytes_eq (object d) (history who ds).0) d (subject d) (history who ds)
+history who (d ∷ ds) = history_if (bytes_eq (changed_clone d) (history who ds).0) d (subject d) (history who ds)
 
 -- the decisions that reach the clone
 abbrev pub alone : List ℕ → List Decision → List Decision
@@ -32,7 +32,7 @@ alone who ds = (history who ds).1
 
 -- the history with one item before others: a look is left out, a decision keeps its line and analyst
 abbrev pub act_history : Item → Act → List ℕ × List Item → List ℕ × List Item
-act_history item (Decide d) later = history_if (bytes_eq (object d) later.0) item (subject d) later
+act_history item (Decide d) later = history_if (bytes_eq (changed_clone d) later.0) item (subject d) later
 act_history item (Look who station) later = later
 
 -- the history of a clone over items

@@ -1,9 +1,8 @@
 -- What a script is, and which rules every script meets.
-use Rattle.std.specs.Prelude.{ℕ, ◌-◌, ◌^◌, ◌<◌, ◌≤◌, ◌≡◌, ◌==◌, false, true, MatchBool}
+use Rattle.std.specs.Prelude.{ℕ, ◌-◌, ◌≤◌, ◌≡◌, ◌==◌, true, MatchBool}
 use Rattle.std.specs.Prelude.{codes, List, [], length, slice_get, unwrap_or, Some}
-use Rattle.std.specs.List.{All, AllPairs}
-use Rattle.std.specs.Str.{bytes_eq}
-use Rattle.sim_base.specs.Names.{is_name}
+use Rattle.std.specs.List.{All}
+use Rattle.sim_base.specs.Names.{is_name, AreDistinct}
 use Rattle.sim_base.specs.declared.decision.Decision.{Decision}
 use Rattle.sim_base.specs.declared.decision.Decision.TheVariants.{Fork, Set, End}
 use Rattle.sim_base.specs.declared.message.Param.{Param}
@@ -11,6 +10,7 @@ use Rattle.sim_base.specs.Params.{param_values}
 use Rattle.decision_script.specs.declared.item.Act.{Act}
 use Rattle.decision_script.specs.declared.item.Act.TheVariants.{Decide, Look}
 use Rattle.decision_script.specs.declared.item.Item.{Item}
+use Rattle.decision_script.specs.declared.number.TheConstants.{MOST_NUMBER}
 use Rattle.decision_script.specs.declared.script.TheConstants.{MOST_ANALYSTS, MOST_ITEMS}
 
 -- the names of the analysts in order, and the items in order
@@ -23,12 +23,12 @@ abbrev pub analyst_name : List (List ℕ) → ℕ → List ℕ
 analyst_name analysts a = unwrap_or (slice_get analysts (a - 1)) []
 
 -- these bytes are a name
-abbrev pub IsNamed : List ℕ → Type 0
-IsNamed name = is_name name ≡ true
+abbrev pub IsName : List ℕ → Type 0
+IsName name = is_name name ≡ true
 
 -- a number fits 32 bits
 abbrev pub Fits32 : ℕ → Type 0
-Fits32 n = n < 2 ^ 32
+Fits32 n = n ≤ MOST_NUMBER
 
 -- values of a parameter that fit 32 bits; the second value of a parameter with one is 0
 abbrev pub IsChange : Param → ℕ → ℕ → Type 0
@@ -36,15 +36,15 @@ IsChange param a b = Fits32 a × MatchBool (param_values param == 1) (b ≡ 0) (
 
 -- names are names, and numbers fit 32 bits
 abbrev pub IsDecision : Decision → Type 0
-IsDecision (Fork new old) = IsNamed new × IsNamed old
-IsDecision (Set who at station change) = IsNamed who × Fits32 at × IsNamed station
+IsDecision (Fork new old) = IsName new × IsName old
+IsDecision (Set who at station change) = IsName who × Fits32 at × IsName station
     × IsChange change.param change.a change.b
-IsDecision (End who at) = IsNamed who × Fits32 at
+IsDecision (End who at) = IsName who × Fits32 at
 
 -- the same of an act: a decision that is so, or a look with two names
 abbrev pub IsAct : Act → Type 0
 IsAct (Decide decision) = IsDecision decision
-IsAct (Look who station) = IsNamed who × IsNamed station
+IsAct (Look who station) = IsName who × IsName station
 
 -- an item of one of so many analysts
 pub record IsItem (analysts : ℕ) (item : Item) : Type 0 where
@@ -55,8 +55,8 @@ pub record IsItem (analysts : ℕ) (item : Item) : Type 0 where
 -- the first analyst is main, no two have one name, and nothing is more than a script may have
 pub record IsScript (s : ScriptView) : Type 0 where
   pub first : slice_get s.analysts 0 ≡ Some (codes "main")
-  pub named : All IsNamed s.analysts
-  pub distinct : AllPairs (λ a b. bytes_eq a b ≡ false) s.analysts
+  pub named : All IsName s.analysts
+  pub distinct : AreDistinct s.analysts
   pub few_analysts : length s.analysts ≤ MOST_ANALYSTS
   pub few_items : length s.items ≤ MOST_ITEMS
   pub valid : All (IsItem (length s.analysts)) s.items

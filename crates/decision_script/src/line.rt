@@ -8,7 +8,7 @@ ghost use Rattle.decision_script.specs.Sentences.{after_set, sentence, begins_co
 
 use crate::fault::LineFault;
 use crate::item::Act;
-use crate::number::number_of;
+use crate::number::read_number;
 use sim_base::{Change, Decision, Name, Param};
 use std::alloc::{AllocError, Global};
 
@@ -23,7 +23,7 @@ pub(crate) enum Meaning {
     Says(Act),
 }
 
-fn name(word: &[u8]) -> Result<Name, LineFault>
+fn read_name(word: &[u8]) -> Result<Name, LineFault>
     ensures value { result ≡ where_form (is_name word.now) (Ok word.now) }
 {
     match Name::read(word) {
@@ -32,7 +32,7 @@ fn name(word: &[u8]) -> Result<Name, LineFault>
     }
 }
 
-fn param(word: &[u8], count: usize) -> Result<Param, LineFault>
+fn read_param(word: &[u8], count: usize) -> Result<Param, LineFault>
     ensures value { result ≡ param_of word.now count }
 {
     match Param::of_word(word) {
@@ -45,7 +45,7 @@ fn param(word: &[u8], count: usize) -> Result<Param, LineFault>
 fn one_value_change(param: Param, a: &[u8]) -> Result<Change, LineFault>
     ensures value { result ≡ one_value param a.now }
 {
-    let a = number_of(a)?;
+    let a = read_number(a)?;
     Ok(Change { param, a, b: 0 })
 }
 
@@ -53,12 +53,12 @@ fn one_value_change(param: Param, a: &[u8]) -> Result<Change, LineFault>
 fn two_value_change(param: Param, a: &[u8], b: &[u8]) -> Result<Change, LineFault>
     ensures value { result ≡ two_values param a.now b.now }
 {
-    let a = number_of(a)?;
-    let b = number_of(b)?;
+    let a = read_number(a)?;
+    let b = read_number(b)?;
     Ok(Change { param, a, b })
 }
 
-fn change(param: Param, values: &[&[u8]]) -> Result<Change, LineFault>
+fn read_change(param: Param, values: &[&[u8]]) -> Result<Change, LineFault>
     ensures value { result ≡ change_of param (map (λ w. w.now) values.now) }
 {
     match values {
@@ -72,15 +72,15 @@ fn change(param: Param, values: &[&[u8]]) -> Result<Change, LineFault>
 fn section_line(word: &[u8]) -> Result<Meaning, LineFault>
     ensures value { result ≡ section word.now }
 {
-    Ok(Meaning::Section(name(word)?))
+    Ok(Meaning::Section(read_name(word)?))
 }
 
 #[tactic(auto, unfolding(crate::specs::Sentences::look))]
 fn look_line(who: &[u8], station: &[u8]) -> Result<Meaning, LineFault>
     ensures value { result ≡ look who.now station.now }
 {
-    let who = name(who)?;
-    let station = name(station)?;
+    let who = read_name(who)?;
+    let station = read_name(station)?;
     Ok(Meaning::Says(Act::Look { who, station }))
 }
 
@@ -91,8 +91,8 @@ fn fork_line(new: &[u8], link: &[u8], old: &[u8]) -> Result<Meaning, LineFault>
     if link != b"from".as_slice() {
         return Err(LineFault::BadLine);
     }
-    let new = name(new)?;
-    let old = name(old)?;
+    let new = read_name(new)?;
+    let old = read_name(old)?;
     Ok(Meaning::Says(Act::Decide(Decision::Fork { new, old })))
 }
 
@@ -103,8 +103,8 @@ fn end_line(who: &[u8], link: &[u8], time: &[u8]) -> Result<Meaning, LineFault>
     if link != b"at".as_slice() {
         return Err(LineFault::BadLine);
     }
-    let who = name(who)?;
-    let at = number_of(time)?;
+    let who = read_name(who)?;
+    let at = read_number(time)?;
     Ok(Meaning::Says(Act::Decide(Decision::End { who, at })))
 }
 
@@ -122,11 +122,11 @@ fn set_line(
     if link != b"at".as_slice() {
         return Err(LineFault::BadLine);
     }
-    let who = name(who)?;
-    let station = name(station)?;
-    let param = param(word, values.len())?;
-    let at = number_of(time)?;
-    let change = change(param, values)?;
+    let who = read_name(who)?;
+    let station = read_name(station)?;
+    let param = read_param(word, values.len())?;
+    let at = read_number(time)?;
+    let change = read_change(param, values)?;
     Ok(Meaning::Says(Act::Decide(Decision::Set {
         who,
         at,
@@ -230,7 +230,7 @@ fn is_ascii_line(line: &[u8]) -> bool
     line.iter().all(|b| *b < 128)
 }
 
-fn separates(byte: u8) -> bool
+fn is_blank_byte(byte: u8) -> bool
     ensures value { result ≡ is_blank byte }
 {
     byte == b' ' || byte == b'\t'
@@ -239,7 +239,7 @@ fn separates(byte: u8) -> bool
 fn words_of(alloc: Global, line: &[u8]) -> Result<Vec<&[u8]>, AllocError>
     ensures value { IfOk result (λ v. map (λ w. w.now) v.items ≡ words line.now) }
 {
-    line.split(|b| separates(*b))
+    line.split(|b| is_blank_byte(*b))
         .filter(|word| !word.is_empty())
         .collect(alloc)
 }

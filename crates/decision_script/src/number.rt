@@ -20,7 +20,7 @@ fn may_be_number(word: &[u8]) -> bool
 }
 
 /// The number that the word writes.
-pub(crate) fn number_of(word: &[u8]) -> Result<u64, LineFault>
+pub(crate) fn read_number(word: &[u8]) -> Result<u64, LineFault>
     ensures value { result ≡ word_number word.now }
 {
     if !may_be_number(word) || word.len() > MOST_DIGITS {

@@ -1,6 +1,6 @@
 //! The decisions that reach one clone.
 ghost use Rattle.std.specs.Prelude.{◌≡◌, IfOk, true};
-ghost use Rattle.decision_script.specs.Alone.{alone_of, item_history, object};
+ghost use Rattle.decision_script.specs.Alone.{alone_of, item_history, changed_clone};
 
 use crate::item::{Act, Item, push_item};
 use crate::script::Script;
@@ -9,8 +9,8 @@ use std::alloc::Global;
 use std::marker::Model;
 
 // The clone that a decision makes or changes.
-fn object_of(decision: &Decision) -> Name
-    ensures value { result ≡ object decision.now }
+fn changed_clone_of(decision: &Decision) -> Name
+    ensures value { result ≡ changed_clone decision.now }
 {
     match decision {
         Decision::Fork { new, .. } => *new,
@@ -36,7 +36,7 @@ impl Model for History {
 
 impl History {
     ghost use Rattle.std.specs.Prelude.{◌≡◌, OnOk, []};
-    ghost use Rattle.decision_script.specs.Alone.{history_if, act_history, object};
+    ghost use Rattle.decision_script.specs.Alone.{history_if, act_history, changed_clone};
     ghost use Rattle.std.specs.Str.{bytes_eq};
     ghost use Rattle.sim_base.specs.Decisions.{subject};
 
@@ -59,9 +59,9 @@ impl History {
 
     fn decide(&mut self, item: &Item, decision: &Decision) -> Result<(), NoMemory>
         ensures value { OnOk result (self.new ≡
-            history_if (bytes_eq (object decision.now) self.old.0) item.now (subject decision.now) self.old) }
+            history_if (bytes_eq (changed_clone decision.now) self.old.0) item.now (subject decision.now) self.old) }
     {
-        if object_of(decision).as_bytes() == self.target.as_bytes() {
+        if changed_clone_of(decision).as_bytes() == self.target.as_bytes() {
             self.add(item, decision.subject())
         } else {
             Ok(())

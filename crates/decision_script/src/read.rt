@@ -107,7 +107,7 @@ impl Reader {
     {
         match saying_of_line(alloc, text) {
             Ok(said) => self.take(line, said),
-            Err(broken) => Err(fault(line, broken)),
+            Err(broken) => Err(fault_of_line(line, broken)),
         }
     }
 
@@ -131,7 +131,7 @@ fn main_name() -> Name
     }
 }
 
-fn fault(line: u32, broken: LineFault) -> ScriptFault
+fn fault_of_line(line: u32, broken: LineFault) -> ScriptFault
     ensures value { result ≡ fault_at line broken }
 {
     match broken {

@@ -11,7 +11,7 @@ use std::marker::Model;
 /// How many bytes a text may have.
 pub const MOST_BYTES: usize = MOST_FILE_BYTES;
 /// How many analysts may act in a script, `main` among them.
-pub const MOST_ANALYSTS: usize = 16;
+pub const MOST_ANALYSTS: usize = sim_base::limits::MOST_ANALYSTS as usize;
 /// How many decisions and looks a script may have.
 pub const MOST_ITEMS: usize = 4_096;
 

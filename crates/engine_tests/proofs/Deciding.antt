@@ -5,9 +5,9 @@ use Rattle.net_model.specs.Net.{Net}
 use Rattle.decision_book.specs.Books.{BookView}
 use Rattle.decision_book.specs.Journal.{Situation, after, clones_after}
 use Rattle.decision_book.specs.Replies.{reply}
-use Rattle.decision_book.specs.Scripts.{next}
+use Rattle.decision_book.specs.Scripts.{after_decision}
 use Rattle.decision_book.specs.declared.call.Reply.TheVariants.{Accepted}
-use Rattle.decision_book.proofs.Scripts.{situation_of_journal, next_accepted}
+use Rattle.decision_book.proofs.Scripts.{situation_of_journal, after_decision-accepted}
 use Rattle.world_core.specs.Taking.{IsAccepted}
 use Rattle.world_core.proofs.Accepted.{accepted_at}
 use Rattle.world_core.specs.Worlds.{WorldView}
@@ -29,12 +29,12 @@ world_accepts book world d h is =
 -- and is abreast of it then
 pub abreast_after : (book more : BookView) (world then : WorldView) (d : Decision) → AreAbreast book world
     → reply (after book.net book.events) d ≡ Accepted → more.net ≡ book.net
-    → after book.net more.events ≡ next (after book.net book.events) d → then.net ≡ world.net
+    → after book.net more.events ≡ after_decision (after book.net book.events) d → then.net ≡ world.net
     → then.front ≡ world.front → then.clones ≡ clones_after world.net world.clones d → AreAbreast more then
 abreast_after book more world then d h is of on net front clones =
     let s : Situation = after book.net book.events in
     let now : after more.net more.events ≡ record s { clones = clones_after s.net s.clones d; calls = s.calls + 1 } =
-    ap (λ (n : Net). after n more.events) of ∙ on ∙ next_accepted s d is in
+    ap (λ (n : Net). after n more.events) of ∙ on ∙ after_decision-accepted s d is in
     record {
       net = of ∙ h.net ∙ sym net;
       clones = ap (λ (t : Situation). t.clones) now

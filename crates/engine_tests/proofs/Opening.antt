@@ -15,13 +15,13 @@ at_one P a x zero r e = let h : a ≡ r = cc in subst (P 0) h x
 at_one P a x (suc i) r e = absurd (cc)
 
 -- ---- MayOpen, AreSeenUpTo, HasRack
--- a rack of the station, of the network, at the front
-pub record IsAt (n : Net) (f s : ℕ) (r : RackView) : Type 0 where
+-- a rack as a world opens with it: of the station and of the network, at its front
+pub record IsOpeningRack (n : Net) (f s : ℕ) (r : RackView) : Type 0 where
   pub station : r.station ≡ s
   pub net : r.net ≡ n
   pub front : r.front ≡ f
 
-module _ (net : Net) (front : ℕ) (a : RackView) (x : IsAt net front 1 a) where
+module _ (net : Net) (front : ℕ) (a : RackView) (x : IsOpeningRack net front 1 a) where
   -- it may open a shelf
   pub one_opens : MayOpen (a ∷ [])
   one_opens = record {

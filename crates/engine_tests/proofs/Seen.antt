@@ -3,12 +3,12 @@ use Rattle.std.proofs.Common.{◌≡◌, ℕ, ◌<◌, ◌≤◌, List, [], ◌�
 use Rattle.sim_base.proofs.ListLaws.{all_push}
 use Rattle.net_model.specs.Net.{Net}
 use Rattle.phys_proc.specs.Racks.{RackView}
-use Rattle.shelf.specs.Racks.{MayFollow}
+use Rattle.shelf.specs.Racks.{MayBePublished}
 use Rattle.engine_tests.specs.Seen.{AreSeenUpTo}
 
 -- a rack of a later front may follow
 pub seen_follows : (net : Net) (front : ℕ) (racks : List RackView) (r : RackView) → AreSeenUpTo net front racks
-    → r.net ≡ net → front < r.front → MayFollow racks r
+    → r.net ≡ net → front < r.front → MayBePublished racks r
 seen_follows net front [] r seen e l = tt
 seen_follows net front (q ∷ racks) r seen e l =
     let same : r.net ≡ q.net = e ∙ sym seen.0.0 in

@@ -3,6 +3,7 @@ ghost use Rattle.std.specs.Prelude.{◌≡◌, ◌<◌, ◌≤◌, ◌+◌, [], 
 ghost use Rattle.sim_base.specs.Clones.{base};
 ghost use Rattle.run_laws.specs.Fronts.{least_of};
 ghost use Rattle.stations.specs.Runs.{simulation};
+ghost use Rattle.decision_desk.specs.Desks.{desk_id};
 ghost use Rattle.decision_desk.specs.Passes.{new_passes, new_helm};
 ghost use Rattle.decision_desk.specs.declared.desk.TheConstants.{MOST_PASSES};
 
@@ -99,7 +100,7 @@ struct Outcome {
 
 /// Asks for this so many times.
 fn ask<R: Wait>(rt: &R, desk: &Desk, pass: &mut Pass, d: &Decision, many: u32) -> Outcome
-    requires desk { pass.old.desk ≡ desk.now.table.shared.table_id }
+    requires desk { pass.old.desk ≡ desk_id desk.now }
     ensures desk { pass.new.desk ≡ pass.old.desk }
 {
     let mut accepted = 0u32;
@@ -131,7 +132,7 @@ fn first_turn<R: Wait>(
     helm: &mut Helm,
     least: Option<u64>,
 ) -> Option<u64>
-    requires desk { helm.old.desk ≡ desk.now.table.shared.table_id }
+    requires desk { helm.old.desk ≡ desk_id desk.now }
     requires first { helm.old.helm ≡ [] }
     requires horizon { 0 < helm.old.net.horizon }
     requires least { least ≡ least_of (simulation helm.old.net) base 0 }
@@ -142,7 +143,7 @@ fn first_turn<R: Wait>(
 
 /// Whether the desk takes 4,096 calls of this pass, of which it accepts one, and answers Full to the next.
 fn fills<R: Wait + Abort>(rt: &R, desk: &Desk, pass: &mut Pass) -> bool
-    requires desk { pass.old.desk ≡ desk.now.table.shared.table_id }
+    requires desk { pass.old.desk ≡ desk_id desk.now }
 {
     let all = ask(rt, desk, pass, &fork(rt, b"x", b"base"), 4096);
     let full = Receipt {
@@ -171,24 +172,24 @@ fn turn_beside<R: Threads + Wait + Sync>(
     least: Option<u64>,
     d: &Decision,
 ) -> (Option<u64>, Pass)
-    requires pass { pass.desk ≡ desk.now.table.shared.table_id }
-    requires helm { helm.desk ≡ desk.now.table.shared.table_id }
+    requires pass { pass.desk ≡ desk_id desk.now }
+    requires helm { helm.desk ≡ desk_id desk.now }
     requires first { helm.helm ≡ [] }
     requires horizon { 0 < helm.net.horizon }
     requires least { least ≡ least_of (simulation helm.net) base 0 }
-    ensures pass { result.1.desk ≡ desk.now.table.shared.table_id }
+    ensures pass { result.1.desk ≡ desk_id desk.now }
 {
     let mut helm = helm;
     let mut pass = pass;
     thread::join(
         rt,
         move || -> Option<u64>
-            requires { (helm.desk ≡ desk.now.table.shared.table_id) × (helm.helm ≡ []) × (0 < helm.net.horizon)
+            requires { (helm.desk ≡ desk_id desk.now) × (helm.helm ≡ []) × (0 < helm.net.horizon)
                 × (least ≡ least_of (simulation helm.net) base 0) }
         { first_turn(rt, alloc, desk, &mut helm, least) },
         move || -> Pass
-            requires { pass.desk ≡ desk.now.table.shared.table_id }
-            ensures { result.desk ≡ desk.entry.now.table.shared.table_id }
+            requires { pass.desk ≡ desk_id desk.now }
+            ensures { result.desk ≡ desk_id desk.entry.now }
         {
             ask(rt, desk, &mut pass, d, 100);
             pass
@@ -198,7 +199,7 @@ fn turn_beside<R: Threads + Wait + Sync>(
 
 /// Whether the pass sees front 5: a set at the front is in time, and one right before it is not.
 fn is_late_by_a_hair<R: Wait + Abort>(rt: &R, desk: &Desk, pass: &mut Pass) -> bool
-    requires desk { pass.old.desk ≡ desk.now.table.shared.table_id }
+    requires desk { pass.old.desk ≡ desk_id desk.now }
 {
     let before = desk.is_late(pass, 4);
     let there = desk.is_late(pass, 5);

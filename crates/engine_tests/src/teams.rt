@@ -128,7 +128,7 @@ fn lead_beside<G: Gate, R: Threads + Wait + Sync>(
 }
 
 /// A team of so many.
-fn gather(alloc: Global, count: u32) -> Option<(Team<Appends>, Vec<Member<Appends>>)> {
+fn begin_team(alloc: Global, count: u32) -> Option<(Team<Appends>, Vec<Member<Appends>>)> {
     let workers = Workers::new(count)?;
     let (team, members) = Team::<Appends>::begin(alloc, workers).ok()?;
     if members.len() + 1 == count as usize {
@@ -145,7 +145,7 @@ fn all_sizes_beside<G: Gate, R: Threads + Wait + Sync>(
     gate: &G,
     count: u32,
 ) -> Option<bool> {
-    let (team, members) = gather(alloc, count)?;
+    let (team, members) = begin_team(alloc, count)?;
     let bell = team.bell().ok()?;
     Some(lead_beside(rt, alloc, gate, team, members, &bell))
 }
@@ -159,11 +159,11 @@ fn all_sizes_alone<R: Threads + Wait + Sync>(rt: &R, alloc: Global) -> Option<bo
 /// Counts the tasks that a worker other than the caller began. The caller is held until there is one, but not at a
 /// call's first task, which may be the only one.
 #[derive(Drop)]
-struct Helped {
+struct HoldsLaterTasks {
     tasks: AtomicU64,
 }
 
-impl Gate for Helped {
+impl Gate for HoldsLaterTasks {
     fn before<R: Wait>(&self, _rt: &R, worker: u32, task: u32) {
         if worker != 0 {
             self.tasks.fetch_add(1, Ordering::SeqCst);
@@ -192,7 +192,7 @@ fn teams_of_one_to_sixteen(rt: HostRuntime) {
 /// The caller's second task is held until a worker has begun one.
 #[test]
 fn workers_take_their_part(rt: HostRuntime) {
-    let gate = Helped {
+    let gate = HoldsLaterTasks {
         tasks: AtomicU64::new(0),
     };
     let right = all_sizes_beside(&rt, rt.alloc(), &gate, 2) == Some(true);

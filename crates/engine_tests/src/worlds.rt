@@ -392,12 +392,12 @@ fn have_come(world: Option<World>) -> bool {
 /// Which workers ran a task. The caller's task is held until the other worker has begun one, but for the first two
 /// tasks, those of the first window, which is always small.
 #[derive(Drop)]
-struct Helped {
+struct HoldsBusyWindows {
     calls: AtomicU64,
     ran: Ran,
 }
 
-impl Gate for Helped {
+impl Gate for HoldsBusyWindows {
     fn before<R: Wait>(&self, rt: &R, worker: u32, task: u32) {
         self.ran.before(rt, worker, task);
         let early = self.calls.fetch_add(1, Ordering::SeqCst) < 2;
@@ -685,7 +685,7 @@ fn busy_windows_run_on_two_threads(rt: HostRuntime) {
 
 #[test]
 fn busy_windows_run_by_a_team(rt: HostRuntime) {
-    let gate = Helped {
+    let gate = HoldsBusyWindows {
         calls: AtomicU64::new(0),
         ran: Ran {
             workers: AtomicU64::new(0),

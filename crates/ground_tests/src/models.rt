@@ -5,11 +5,11 @@ mod texts;
 
 use changes::{OTHER_TEXTS, ROAD_CHANGES, Refused, SMALL_CHANGES};
 use net_model::{KeyText, Kind, Link, Model, read_model};
-use sample_models::CLINIC;
+use sample_models::{CLINIC, ONE_DESK};
 use std::alloc::{AllocError, Global};
 use std::test::Fail;
 use std::time::{Duration, Instant};
-use texts::{FACTORY, INLINE, ROAD, SMALL};
+use texts::{FACTORY, INLINE, ROAD};
 
 /// Whether the text is refused with this number at this place, and names this key, or none.
 fn is_refused(alloc: Global, text: &[u8], number: u32, place: u32, key: &str) -> bool {
@@ -41,7 +41,7 @@ fn is_refused_so(alloc: Global, text: &str, change: &Refused) -> bool {
 fn changes_of_the_small_model_are_refused(rt: HostRuntime) {
     for change in SMALL_CHANGES {
         assert!(rt;
-            is_refused_so(rt.alloc(), SMALL, change),
+            is_refused_so(rt.alloc(), ONE_DESK, change),
             "{}",
             change.shows
         );
@@ -52,7 +52,7 @@ fn changes_of_the_small_model_are_refused(rt: HostRuntime) {
 fn other_texts_are_refused(rt: HostRuntime) {
     for change in OTHER_TEXTS {
         assert!(rt;
-            is_refused_so(rt.alloc(), SMALL, change),
+            is_refused_so(rt.alloc(), ONE_DESK, change),
             "{}",
             change.shows
         );
@@ -192,7 +192,7 @@ fn is_road(alloc: Global, text: &str) -> bool {
 
 #[test]
 fn model_files_are_read(rt: HostRuntime) {
-    assert!(rt; is_small(rt.alloc(), SMALL));
+    assert!(rt; is_small(rt.alloc(), ONE_DESK));
     assert!(rt; is_small(rt.alloc(), INLINE));
     assert!(rt; is_clinic(rt.alloc(), CLINIC));
     assert!(rt; is_factory(rt.alloc(), FACTORY));

@@ -1,5 +1,6 @@
 //! The texts of traces and reports, as people expect them.
-ghost use Rattle.std.specs.Prelude.{◌≡◌, ◌<◌, ◌^◌, sum_by};
+ghost use Rattle.std.specs.Prelude.{◌≡◌};
+ghost use Rattle.trace_report.specs.ReportText.{HaveSmallSums};
 
 use crate::counts::change;
 use net_model::{Model, read_model};
@@ -8,7 +9,8 @@ use sim_base::{Entry, Figures, Job, Key, Line, Msg, Name, Param, Payload};
 use std::alloc::Global;
 use trace_report::{Names, line_len, report_text, trace_text, write_line};
 
-const CLASSES: &str = r#"format = 2
+/// A model of format 2 with a class, whose stations have names of the longest kind, 16 bytes.
+const LONGEST_NAMES: &str = r#"format = 2
 lookahead = 2
 horizon = 20
 [[station]]
@@ -75,8 +77,7 @@ fn traces(alloc: Global, model: &Model, name: &Name, entries: &[Entry], expected
 
 /// Whether the report text of these figures is the expected one.
 fn reports(alloc: Global, figures: &[Figures], expected: &str) -> bool
-    requires handled { sum_by (λ f. f.handled) figures.now < 2 ^ 64 }
-    requires alone { sum_by (λ f. f.alone) figures.now < 2 ^ 64 }
+    requires sums { HaveSmallSums figures.now }
 {
     let Ok(model) = read_model(alloc, ONE_DESK.as_bytes()) else {
         return false;
@@ -138,7 +139,7 @@ fn format_2_has_classes(rt: HostRuntime) {
 5 the_desk_of_a_16 high_urgency_job 7 job high_urgency_job.0:3 passed=1
 5 the_desk_of_a_16 the_desk_of_a_16 7 done high_urgency_job.1:3 passed=2
 ";
-    assert!(rt; writes(rt.alloc(), CLASSES, &entries, expected));
+    assert!(rt; writes(rt.alloc(), LONGEST_NAMES, &entries, expected));
 }
 
 #[test]
@@ -147,7 +148,7 @@ fn a_number_of_no_station_is_the_analyst(rt: HostRuntime) {
     let expected = "clone fast\n5 desk analyst 7 job analyst.0 passed=1\n";
     assert!(rt; writes(rt.alloc(), ONE_DESK, &entries, expected));
     let expected = "clone fast\n5 the_desk_of_a_16 analyst 7 job analyst.0:1 passed=1\n";
-    assert!(rt; writes(rt.alloc(), CLASSES, &entries, expected));
+    assert!(rt; writes(rt.alloc(), LONGEST_NAMES, &entries, expected));
 }
 
 #[test]
@@ -186,8 +187,8 @@ fn the_longest_lines_are_whole(rt: HostRuntime) {
 18446744073709551615 the_desk_of_a_16 the_desk_of_a_16 18446744073709551615 done high_urgency_job.18446744073709551615:3 busy=18446744073709551615 wait=18446744073709551615 done=18446744073709551615 lost=18446744073709551615
 18446744073709551615 high_urgency_job the_desk_of_a_16 18446744073709551615 set service 18446744073709551615 18446744073709551615 busy=18446744073709551615 wait=18446744073709551615 done=18446744073709551615 lost=18446744073709551615
 ";
-    assert!(rt; writes(rt.alloc(), CLASSES, &entries, expected));
-    assert!(rt; writes(rt.alloc(), CLASSES, &[], "clone fast\n"));
+    assert!(rt; writes(rt.alloc(), LONGEST_NAMES, &entries, expected));
+    assert!(rt; writes(rt.alloc(), LONGEST_NAMES, &[], "clone fast\n"));
 }
 
 #[test]

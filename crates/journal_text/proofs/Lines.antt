@@ -1,5 +1,5 @@
 -- The lines of a journal's text, and those that are no comments.
-use Rattle.std.proofs.Common.{◌≡◌, ◌⊎◌, inl, inr, ⊎_elim, ℕ, ◌<◌, ◌^◌, Bool, true, not, List, [], ◌∷◌, ◌++◌, map}
+use Rattle.std.proofs.Common.{◌≡◌, ◌⊎◌, inl, inr, ⊎_elim, ℕ, Bool, true, not, List, [], ◌∷◌, ◌++◌, map}
 use Rattle.std.proofs.Common.{filter, refl, sym, ap, ◌∙◌, subst, arith, append_assoc, append-nil, codes, decimal}
 use Rattle.std.specs.List.{AllByRecursion, flat_map, join_with_byte, list_all, slice_split}
 use Rattle.std.proofs.lemmas.List.Folds.{list_all-append}
@@ -8,7 +8,7 @@ use Rattle.sim_base.specs.declared.decision.Decision.TheVariants.{Fork, Set, End
 use Rattle.decision_script.specs.declared.item.Act.TheVariants.{Decide}
 use Rattle.decision_script.specs.Lines.{is_newline}
 use Rattle.decision_script.specs.Sentences.{begins_comment}
-use Rattle.decision_script.specs.Stating.{IsDecision, IsNamed, analyst_name}
+use Rattle.decision_script.specs.Stating.{Fits32, IsDecision, IsName, analyst_name}
 use Rattle.decision_script.specs.Printing.{line_text, words_of_decision, words_of_section}
 use Rattle.decision_script.proofs.Numbers.{decimal_is_word}
 use Rattle.decision_script.proofs.Saying.{act_words, section_words}
@@ -142,8 +142,8 @@ IsPrinted-append : (xs ys : List ℕ) → IsPrinted xs → IsPrinted ys → IsPr
 IsPrinted-append xs ys h k = list_all-append is_printed xs ys ∙ rw (h, k) refl
 
 -- of a number
-IsPrinted-decimal : (n : ℕ) → n < 2 ^ 32 → IsPrinted (decimal n)
-IsPrinted-decimal n h = printed_join (decimal n ∷ []) (decimal_is_word n h, tt)
+IsPrinted-decimal : (n : ℕ) → Fits32 n → IsPrinted (decimal n)
+IsPrinted-decimal n h = printed_join (decimal n ∷ []) (decimal_is_word n (omega (arith, h)), tt)
 
 -- of a decision
 IsPrinted-decision_text : (d : Decision) → IsDecision d → IsPrinted (decision_text d)
@@ -151,7 +151,7 @@ IsPrinted-decision_text d h = printed_join (words_of_decision d) (act_words (Dec
 
 -- fronts that fit 32 bits
 abbrev pub HasSmallFront : Reply → Type 0
-HasSmallFront (Late front) = front < 2 ^ 32
+HasSmallFront (Late front) = Fits32 front
 HasSmallFront reply = Unit {0}
 
 -- of a refusal
@@ -185,8 +185,8 @@ IsPrinted-call_line r d small h =
 
 -- an event whose lines can be written in one piece each
 abbrev pub IsWritable : List (List ℕ) → Event → Type 0
-IsWritable analysts (NewFront front) = front < 2 ^ 32
-IsWritable analysts (NewCall c) = IsNamed (analyst_name analysts c.caller)
+IsWritable analysts (NewFront front) = Fits32 front
+IsWritable analysts (NewCall c) = IsName (analyst_name analysts c.caller)
     × IsDecision c.decision × HasSmallFront c.reply
 
 -- each line of such events is printed

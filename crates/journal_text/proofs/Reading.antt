@@ -9,17 +9,18 @@ use Rattle.decision_script.specs.declared.item.Act.{Act}
 use Rattle.decision_script.specs.declared.item.Act.TheVariants.{Decide}
 use Rattle.decision_script.specs.declared.item.Item.{Item}
 use Rattle.decision_script.specs.declared.script.TheConstants.{MOST_ANALYSTS, MOST_ITEMS}
-use Rattle.decision_script.specs.Stating.{IsDecision, IsNamed, analyst_name}
+use Rattle.decision_script.specs.Stating.{IsDecision, IsName, analyst_name}
 use Rattle.decision_script.specs.Reading.{ReaderView, after_line, after_lines}
 use Rattle.decision_script.specs.Printing.{words_of_decision, words_of_section}
 use Rattle.decision_script.specs.Alone.{decisions, decisions_onto}
-use Rattle.decision_script.proofs.Again.{after_act, after_lines-Ok}
+use Rattle.decision_script.proofs.ItemsReadAgain.{after_act, after_lines-Ok}
 use Rattle.decision_script.proofs.Saying.{act_words, section_words}
 use Rattle.decision_script.proofs.Words.{IsWord}
 use Rattle.decision_book.specs.declared.call.Call.{Call}
 use Rattle.decision_book.specs.declared.call.Reply.TheVariants.{Accepted}
 use Rattle.decision_book.specs.Journal.{Event, NewFront, NewCall, calls_of}
 use Rattle.decision_book.specs.Scripts.{accepted_of, accepted_onto}
+use Rattle.journal_text.specs.JournalText.{IsAnalyst}
 use Rattle.journal_text.specs.Laws.{who_does, who_decided}
 use Rattle.journal_text.proofs.Lines.{IsRefused, accepted_or_refused, said_onto, joined, said_lines, said_onto-refused}
 use Rattle.journal_text.proofs.Sections.{IsInForce, missing, analyst_name-append, section_read}
@@ -81,9 +82,8 @@ ReadOn-decision analysts line r c rest calls h few low high name m =
 
 -- a call by an analyst
 pub record IsCallBy (analysts : List (List ℕ)) (c : Call) : Type 0 where
-  pub low : 1 ≤ c.caller
-  pub high : c.caller ≤ length analysts
-  pub named : IsNamed (analyst_name analysts c.caller)
+  pub analyst : IsAnalyst (length analysts) c.caller
+  pub named : IsName (analyst_name analysts c.caller)
   pub decision : IsDecision c.decision
 
 -- the lines of events, up to the end of the text
@@ -104,7 +104,7 @@ events_read analysts line r [] most fits h few =
     }
 events_read analysts line r (NewFront f ∷ es) most fits h few = events_read analysts line r es most fits h few
 events_read analysts line r (NewCall c ∷ es) most fits h few =
-    let s = section_read analysts line r c.caller h.0.low h.0.high h.0.named most fits in
+    let s = section_read analysts line r c.caller h.0.analyst.0 h.0.analyst.1 h.0.named most fits in
     let len : length s.next.items ≡ length r.items = ap length s.items in
     ReadOn-section analysts line r (analyst_name analysts c.caller)
     (join_with_byte 32 (words_of_section (analyst_name analysts c.caller)))

@@ -1,14 +1,14 @@
 -- The text of a right journal is read as the script of its accepted decisions.
-use Rattle.std.proofs.Common.{◌≡◌, ℕ, ◌<◌, ◌≤◌, ◌^◌, List, [], ◌∷◌, length}
+use Rattle.std.proofs.Common.{◌≡◌, ℕ, ◌<◌, ◌≤◌, List, [], ◌∷◌, length}
 use Rattle.std.proofs.Common.{map, Ok, Some, codes, slice_get, sym, ap, ◌∙◌, subst, arith}
 use Rattle.std.specs.List.{AllByRecursion, flat_map}
 use Rattle.net_model.specs.Net.{Net}
 use Rattle.decision_script.specs.declared.script.TheConstants.{MOST_ANALYSTS, MOST_BYTES}
-use Rattle.decision_script.specs.Stating.{analyst_name}
+use Rattle.decision_script.specs.Stating.{Fits32, analyst_name}
 use Rattle.decision_script.specs.Printing.{line_text}
 use Rattle.decision_script.specs.Reading.{after_lines, new_reader, script, script_of as script_read}
 use Rattle.decision_script.specs.Alone.{decisions}
-use Rattle.decision_script.proofs.Again.{AreKnown}
+use Rattle.decision_script.proofs.ItemsReadAgain.{AreKnown}
 use Rattle.decision_script.proofs.Names.{are_known}
 use Rattle.decision_script.proofs.ReadsAgain.{read_of_text}
 use Rattle.decision_script.proofs.Words.{lines-text}
@@ -31,9 +31,8 @@ calls_by : (analysts : List (List ℕ)) (cs : List Call) → AreKnown analysts
 calls_by analysts [] known h = tt
 calls_by analysts (c ∷ cs) known h = (
   record {
-    low = h.0.low;
-    high = h.0.high;
-    named = known.named c.caller h.0.low h.0.high;
+    analyst = h.0.analyst;
+    named = known.named c.caller h.0.analyst.0 h.0.analyst.1;
     decision = h.0.decision;
   },
   calls_by analysts cs known h.1,
@@ -49,7 +48,7 @@ writable analysts (NewCall c ∷ es) h small = ((h.0.named, h.0.decision, small.
 -- ---- IsScriptOf
 -- with main first
 IsScriptOf-main : (net : Net) (more : List (List ℕ)) (es : List Event) → AreKnown (codes "main" ∷ more)
-    → length (codes "main" ∷ more) ≤ MOST_ANALYSTS → IsRight net es → 0 < net.horizon → net.horizon < 2 ^ 32
+    → length (codes "main" ∷ more) ≤ MOST_ANALYSTS → IsRight net es → 0 < net.horizon → Fits32 net.horizon
     → AllByRecursion (IsCallOf (length (codes "main" ∷ more))) (calls_of es) → IsScriptOf net (codes "main" ∷ more) es
 IsScriptOf-main net more es known most right some_time small h =
     let analysts = codes "main" ∷ more in
@@ -78,13 +77,13 @@ IsScriptOf-main net more es known most right some_time small h =
 
 -- whichever is first
 IsScriptOf-first : (net : Net) (analysts : List (List ℕ)) (es : List Event) → slice_get analysts 0 ≡ Some (codes "main")
-    → AreKnown analysts → length analysts ≤ MOST_ANALYSTS → IsRight net es → 0 < net.horizon → net.horizon < 2 ^ 32
+    → AreKnown analysts → length analysts ≤ MOST_ANALYSTS → IsRight net es → 0 < net.horizon → Fits32 net.horizon
     → AllByRecursion (IsCallOf (length analysts)) (calls_of es) → IsScriptOf net analysts es
 IsScriptOf-first net [] es first = absurd cc
 IsScriptOf-first net (a ∷ more) es first =
     let main : a ≡ codes "main" = cc in
     subst (λ a. AreKnown (a ∷ more) → length (a ∷ more) ≤ MOST_ANALYSTS → IsRight net es → 0 < net.horizon
-    → net.horizon < 2 ^ 32 → AllByRecursion (IsCallOf (length (a ∷ more))) (calls_of es) → IsScriptOf net (a ∷ more) es)
+    → Fits32 net.horizon → AllByRecursion (IsCallOf (length (a ∷ more))) (calls_of es) → IsScriptOf net (a ∷ more) es)
     (sym main) (IsScriptOf-main net more es)
 
 -- a right journal whose callers are analysts of a script reads, without comments, as a script

@@ -1,5 +1,5 @@
 -- The calls of a right journal are few, and its fronts are at most the horizon.
-use Rattle.std.proofs.Common.{◌≡◌, ℕ, ◌+◌, ◌<◌, ◌≤◌, ◌^◌, ◌==◌, nat_le}
+use Rattle.std.proofs.Common.{◌≡◌, ℕ, ◌+◌, ◌≤◌, ◌==◌, nat_le}
 use Rattle.std.proofs.Common.{List, [], ◌∷◌, ◌++◌, length, refl, sym, ap, ◌∙◌, subst, arith}
 use Rattle.std.specs.List.{AllByRecursion}
 use Rattle.std.proofs.lemmas.List.Sums.{fold-append}
@@ -7,6 +7,7 @@ use Rattle.sim_base.specs.declared.decision.Decision.{Decision}
 use Rattle.sim_base.specs.Clones.{place_of}
 use Rattle.sim_base.specs.Decisions.{subject}
 use Rattle.net_model.specs.Net.{Net}
+use Rattle.decision_script.specs.Stating.{Fits32}
 use Rattle.decision_book.specs.declared.call.TheConstants.{MOST_CALLS}
 use Rattle.decision_book.specs.declared.call.Reply.{Reply}
 use Rattle.decision_book.specs.declared.call.Reply.TheVariants.{Full, Closed, Late}
@@ -73,19 +74,19 @@ reply_late s d =
     )
 
 -- so its front fits 32 bits where that front does
-small_late : (front : ℕ) (r : Reply) → front < 2 ^ 32 → IsLateOf front r → HasSmallFront r
-small_late front (Late f) small h = subst (λ n. n < 2 ^ 32) (sym h) small
+small_late : (front : ℕ) (r : Reply) → Fits32 front → IsLateOf front r → HasSmallFront r
+small_late front (Late f) small h = subst Fits32 (sym h) small
 small_late front r small h = tt
 
 -- ---- fronts
 -- an event with fronts that fit 32 bits
 abbrev pub HasSmallFronts : Event → Type 0
-HasSmallFronts (NewFront f) = f < 2 ^ 32
+HasSmallFronts (NewFront f) = Fits32 f
 HasSmallFronts (NewCall c) = HasSmallFront c.reply
 
 -- the fronts of events behind others
 small_from : (net : Net) (before es : List Event) (s : Situation) → after net before ≡ s → s.front ≤ net.horizon
-    → net.horizon < 2 ^ 32 → EachAfter (MayFollow net) before es → AllByRecursion HasSmallFronts es
+    → Fits32 net.horizon → EachAfter (MayFollow net) before es → AllByRecursion HasSmallFronts es
 small_from net before [] s is low small right = tt
 small_from net before (NewFront f ∷ es) s is low small right =
     let next : after net (before ++ NewFront f ∷ []) ≡ after_event s (NewFront f) =
@@ -100,12 +101,12 @@ small_from net before (NewCall c ∷ es) s is low small right =
     fold-append after_event (outset net) before (NewCall c ∷ [])
     ∙ ap (λ (x : Situation). after_event x (NewCall c)) is in
     let answer : c.reply ≡ reply s c.decision = right.0.answer ∙ ap (λ (x : Situation). reply x c.decision) is in
-    let below : s.front < 2 ^ 32 = omega (arith, low, small) in (
+    let below : Fits32 s.front = omega (arith, low, small) in (
       small_late s.front c.reply below (subst (IsLateOf s.front) (sym answer) (reply_late s c.decision)),
       small_from net (before ++ NewCall c ∷ []) es (after_event s (NewCall c)) next low small right.1,
     )
 
 -- in a right journal of a network whose horizon fits 32 bits, so do the fronts of each event
-pub small_fronts : (net : Net) (es : List Event) → IsRight net es → net.horizon < 2 ^ 32
+pub small_fronts : (net : Net) (es : List Event) → IsRight net es → Fits32 net.horizon
     → AllByRecursion HasSmallFronts es
 small_fronts net es right small = small_from net [] es (outset net) refl (omega arith) small right

@@ -14,10 +14,10 @@ use Rattle.std.proofs.lemmas.Slice.Eq.{bytes_eq-Decides}
 use Rattle.sim_base.proofs.ListLaws.{none_passes}
 use Rattle.decision_script.specs.declared.fault.ScriptFault.{ScriptFault}
 use Rattle.decision_script.specs.declared.script.TheConstants.{MOST_ANALYSTS}
-use Rattle.decision_script.specs.Stating.{IsNamed, analyst_name}
+use Rattle.decision_script.specs.Stating.{IsName, analyst_name}
 use Rattle.decision_script.specs.Reading.{ReaderView, after_line, in_section, analyst_place}
 use Rattle.decision_script.specs.Printing.{words_of_section}
-use Rattle.decision_script.proofs.Again.{after_section}
+use Rattle.decision_script.proofs.ItemsReadAgain.{after_section}
 use Rattle.decision_book.proofs.ClonesByName.{name_itself}
 
 -- ---- missing
@@ -115,7 +115,7 @@ pub record IsInForce (analysts : List (List ℕ)) (r : ReaderView) (name : List 
   pub fits : length next.analysts + missing next.analysts analysts ≤ length analysts
 
 -- the section of an analyst who has a place already, or has none yet
-IsInForce-place : (analysts : List (List ℕ)) (line : ℕ) (r : ReaderView) (name : List ℕ) (i : ℕ) → IsNamed name
+IsInForce-place : (analysts : List (List ℕ)) (line : ℕ) (r : ReaderView) (name : List ℕ) (i : ℕ) → IsName name
     → i < length analysts → get_or analysts i [] ≡ name → length analysts ≤ MOST_ANALYSTS
     → length r.analysts + missing r.analysts analysts ≤ length analysts
     → (o : Option ℕ) → analyst_place name r.analysts ≡ o
@@ -156,7 +156,7 @@ IsInForce-place analysts line r name i named lt is few fits None at =
 
 -- the section of an analyst is read
 pub section_read : (analysts : List (List ℕ)) (line : ℕ) (r : ReaderView) (a : ℕ) → 1 ≤ a → a ≤ length analysts
-    → IsNamed (analyst_name analysts a) → length analysts ≤ MOST_ANALYSTS
+    → IsName (analyst_name analysts a) → length analysts ≤ MOST_ANALYSTS
     → length r.analysts + missing r.analysts analysts ≤ length analysts
     → IsInForce analysts r (analyst_name analysts a)
     (after_line line r (join_with_byte 32 (words_of_section (analyst_name analysts a))))

@@ -7,7 +7,7 @@ use Rattle.decision_script.specs.declared.item.Act.TheVariants.{Decide}
 use Rattle.decision_script.specs.declared.item.Item.{Item}
 use Rattle.decision_script.specs.Stating.{IsItem, analyst_name}
 use Rattle.decision_script.specs.Printing.{item_lines, line_text, words_of_decision, words_of_section}
-use Rattle.decision_script.proofs.Again.{AreKnown}
+use Rattle.decision_script.proofs.ItemsReadAgain.{AreKnown}
 use Rattle.decision_script.proofs.Lengths.{items_length, section_length}
 use Rattle.decision_book.specs.declared.call.Call.{Call}
 use Rattle.decision_book.specs.declared.call.Reply.TheVariants.{Accepted}
@@ -15,15 +15,16 @@ use Rattle.decision_book.specs.Journal.{Event, NewFront, NewCall, calls_of}
 use Rattle.journal_text.proofs.Lines.{IsRefused, accepted_or_refused, said_onto, said_lines, said_onto-refused}
 use Rattle.journal_text.proofs.Reading.{IsCallBy}
 
+-- ---- line_text
 -- a decision behind its section
 decided_length : (analysts : List (List ℕ)) (c : Call) → AreKnown analysts → IsCallBy analysts c
     → length (line_text (words_of_section (analyst_name analysts c.caller))) + length
     (line_text (words_of_decision c.decision)) ≤ 172
 decided_length analysts c known h =
     let item : Item = record { line = 0; analyst = c.caller; act = Decide c.decision } in
-    let is_item : IsItem (length analysts) item = record { low = h.low; high = h.high; act = h.decision } in
+    let is_item : IsItem (length analysts) item = record { low = h.analyst.0; high = h.analyst.1; act = h.decision } in
     let all = items_length analysts 0 (item ∷ []) known (is_item, tt) in
-    let other : (c.caller == 0) ≡ false = (let low = h.low in grind (arith, nat_tests)) in
+    let other : (c.caller == 0) ≡ false = (let low = h.analyst.0 in grind (arith, nat_tests)) in
     let lines : item_lines analysts 0 (item ∷ []) ≡ words_of_section
     (analyst_name analysts c.caller) ∷ words_of_decision c.decision ∷ [] = rw other refl in
     let text : length (line_text (words_of_section (analyst_name analysts c.caller))
@@ -40,6 +41,7 @@ decided_length analysts c known h =
           (line_text (words_of_decision c.decision) ++ []),
     )
 
+-- ---- said_lines
 -- what events say takes no more than 172 bytes for each call
 pub said_length : (analysts : List (List ℕ)) (es : List Event) → AreKnown analysts
     → AllByRecursion (IsCallBy analysts) (calls_of es)

@@ -1,5 +1,5 @@
 -- What is said of a journal's text: `src/laws.rt` shows that it holds.
-use Rattle.std.specs.Prelude.{◌≡◌, ℕ, ◌<◌, ◌≤◌, ◌^◌, not, List, length, map, filter, Ok, None}
+use Rattle.std.specs.Prelude.{◌≡◌, ℕ, ◌<◌, not, List, length, map, filter, Ok, None}
 use Rattle.std.specs.List.{AllByRecursion, join_with_byte, slice_split}
 use Rattle.net_model.specs.Net.{Net}
 use Rattle.decision_script.specs.declared.item.Act.{Act}
@@ -7,14 +7,14 @@ use Rattle.decision_script.specs.declared.item.Act.TheVariants.{Decide}
 use Rattle.decision_script.specs.declared.item.Item.{Item}
 use Rattle.decision_script.specs.Lines.{is_newline}
 use Rattle.decision_script.specs.Sentences.{begins_comment}
-use Rattle.decision_script.specs.Stating.{ScriptView, IsScript, IsDecision, analyst_name}
+use Rattle.decision_script.specs.Stating.{Fits32, ScriptView, IsScript, IsDecision, analyst_name}
 use Rattle.decision_script.specs.Reading.{script}
 use Rattle.decision_script.specs.Alone.{decisions}
 use Rattle.decision_book.specs.declared.call.Call.{Call}
 use Rattle.decision_book.specs.Journal.{Event, after, calls_of}
 use Rattle.decision_book.specs.Right.{IsRight}
 use Rattle.decision_book.specs.Scripts.{accepted_of, first_refusal, lists_of}
-use Rattle.journal_text.specs.JournalText.{events_text}
+use Rattle.journal_text.specs.JournalText.{IsAnalyst, events_text}
 
 -- a text without the lines that begin with '#'
 abbrev pub without_comments : List ℕ → List ℕ
@@ -30,8 +30,7 @@ who_decided analysts call = (analyst_name analysts call.caller, Decide call.deci
 
 -- a call of one of so many analysts, of a decision that a script can state
 pub record IsCallOf (analysts : ℕ) (call : Call) : Type 0 where
-  pub low : 1 ≤ call.caller
-  pub high : call.caller ≤ analysts
+  pub analyst : IsAnalyst analysts call.caller
   pub decision : IsDecision call.decision
 
 -- the lines of a journal's events, without comments, are a script
@@ -48,5 +47,5 @@ pub record IsScriptOf (net : Net) (analysts : List (List ℕ)) (events : List Ev
 -- so it is of each right journal whose callers are analysts of a script
 abbrev pub JournalReadsAsScript : Net → Type 0
 JournalReadsAsScript net = (s : ScriptView) (events : List Event) → IsScript s → IsRight net events → 0 < net.horizon
-    → net.horizon < 2 ^ 32
+    → Fits32 net.horizon
     → AllByRecursion (IsCallOf (length s.analysts)) (calls_of events) → IsScriptOf net s.analysts events

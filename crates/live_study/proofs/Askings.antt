@@ -14,16 +14,17 @@ use Rattle.live_study.specs.Asking.{decisions_in, AreAsked}
 
 -- ---- decisions_in
 -- the decisions of calls with one call more
-in_append : (ps : List (ℕ × Call)) (p : ℕ × Call) → decisions_in (ps ++ p ∷ []) ≡ decisions_in ps ++ p.1.decision ∷ []
-in_append [] p = refl
-in_append (q ∷ ps) p = ap (λ l. q.1.decision ∷ l) (in_append ps p)
+decisions_in-push : (ps : List (ℕ × Call)) (p : ℕ × Call)
+    → decisions_in (ps ++ p ∷ []) ≡ decisions_in ps ++ p.1.decision ∷ []
+decisions_in-push [] p = refl
+decisions_in-push (q ∷ ps) p = ap (λ l. q.1.decision ∷ l) (decisions_in-push ps p)
 
 -- ---- with_call, full_account
 -- an account with one call more has asked the decision of that call too
 with_one : (ds : List Decision) (a : Account) (j : List Event) (c : Call) → AreAsked ds a
     → AreAsked (ds ++ c.decision ∷ []) (with_call a j c)
 with_one ds a j c s = record {
-  all = λ e. in_append a.calls (length (calls_of j), c) ∙ ap (λ l. l ++ c.decision ∷ []) (s.all e);
+  all = λ e. decisions_in-push a.calls (length (calls_of j), c) ∙ ap (λ l. l ++ c.decision ∷ []) (s.all e);
   few = omega (arith, length-append a.calls ((length (calls_of j), c) ∷ []), length-append ds (c.decision ∷ []), s.few);
   fewer = λ e. omega (
     arith,

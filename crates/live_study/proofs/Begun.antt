@@ -19,7 +19,7 @@ use Rattle.decision_desk.specs.Passes.{HelmView, PassView, new_helm, new_pass, n
 use Rattle.decision_desk.proofs.Journals.{accounts_of-append}
 use Rattle.decision_desk.proofs.NewPasses.{new_passes_count}
 use Rattle.world_core.specs.Worlds.{WorldView, opening_world}
-use Rattle.live_study.specs.Asking.{AllAsked, AreAsked, IsReady, SeatedAnalyst}
+use Rattle.live_study.specs.Asking.{AllAsked, AreAsked, HasAskedNothing, SeatedAnalyst}
 use Rattle.live_study.specs.Asking.{decisions_asked, decisions_in, total_todo}
 use Rattle.live_study.specs.Engines.{InStep}
 use Rattle.live_study.specs.Lives.{IsAllAsked}
@@ -146,7 +146,7 @@ ready_new desk net x p is = subst (λ (q : PassView). (q.desk ≡ desk) × AreAs
 -- analysts with new passes of a desk have asked nothing there yet
 pub all_ready : (desk : TableId) (net : Net) (n : ℕ) (passes : List PassView) (analysts : List SeatedAnalyst)
     → map (λ (a : SeatedAnalyst). a.0.pass) analysts ≡ passes → passes ≡ new_passes desk net n
-    → (k : ℕ) (d : SeatedAnalyst) → k < length analysts → IsReady desk (get_or analysts k d).0
+    → (k : ℕ) (d : SeatedAnalyst) → k < length analysts → HasAskedNothing desk (get_or analysts k d).0
 all_ready desk net n passes analysts are new k d less =
     let len = many_analysts desk net n passes analysts are new in
     let own : (get_or analysts k d).0.pass ≡ new_pass desk net (k + 1) =

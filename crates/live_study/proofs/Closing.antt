@@ -29,7 +29,7 @@ pub all_caught_more : (net : Net) (published : List RackView) (done : List Seate
 all_caught_more net published done a all one =
     all_push (λ (b : SeatedAnalyst). AreCaughtUp net published b.1) done a all one
 
--- ---- what is gathered
+-- ---- what closing looks leave
 -- one image more behind those that were there
 pub with_image : {A B : Type 0} (f : A → B) (first old new : List B) (xs : List A) (x : A) → old ≡ first ++ map f xs
     → new ≡ old ++ f x ∷ [] → new ≡ first ++ map f (xs ++ x ∷ [])

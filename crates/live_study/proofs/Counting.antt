@@ -12,7 +12,7 @@ use Rattle.decision_book.specs.Journal.{Event, NewCall, calls_of, after}
 use Rattle.decision_book.specs.Right.{IsRight}
 use Rattle.decision_book.proofs.JournalScripts.{closed_changes_nothing}
 use Rattle.decision_desk.specs.Accounts.{Account, AreAccounts, accounts_of, calls_from, calls_by, front_of}
-use Rattle.decision_desk.specs.Legal.{GoesOn, IsLegal}
+use Rattle.decision_desk.specs.Legal.{FrontsAreNext, IsLegal}
 use Rattle.decision_desk.specs.Passes.{HelmView, IsFinalBook, PassView}
 use Rattle.decision_desk.proofs.Journals.{front_calls}
 use Rattle.decision_desk.proofs.Leasts.{front_is}
@@ -44,15 +44,15 @@ eq_swap : (x y : ℕ) → nat_eq x y ≡ nat_eq y x
 eq_swap x y = grind arith
 
 -- one call more is counted once for each account of its caller
-sum_more : (n : ℕ) (c : Call) (cs : List Call) (others' : List Account)
+sum_calls-more : (n : ℕ) (c : Call) (cs : List Call) (others' : List Account)
     → sum_calls n (c ∷ cs) others' ≡ accounts_of c.caller others' + sum_calls (n + 1) cs others'
-sum_more n c cs [] = refl
-sum_more n c cs (a ∷ others') =
+sum_calls-more n c cs [] = refl
+sum_calls-more n c cs (a ∷ others') =
     omega (
       arith,
       one_length (nat_eq c.caller a.caller) (nat_eq a.caller c.caller) (n, c)
           (calls_from a.caller (n + 1) cs) (eq_swap c.caller a.caller),
-      sum_more n c cs others',
+      sum_calls-more n c cs others',
     )
 
 -- ---- sum_calls, no fewer than the calls
@@ -67,16 +67,16 @@ not_empty true p xs t e = absurd cc
 not_empty false p xs t e = true≢false (sym t)
 
 -- each call is counted where each caller has an account
-covered : (n : ℕ) (cs : List Call) (others' : List Account)
+sum_calls-all : (n : ℕ) (cs : List Call) (others' : List Account)
     → ((x : ℕ) → accounts_of x others' ≡ 0 → calls_from x n cs ≡ []) → length cs ≤ sum_calls n cs others'
-covered n [] others' others = omega arith
-covered n (c ∷ cs) others' others =
+sum_calls-all n [] others' others = omega arith
+sum_calls-all n (c ∷ cs) others' others =
     let has : accounts_of c.caller others' ≢ 0 =
     λ e. not_empty (nat_eq c.caller c.caller) (n, c) (calls_from c.caller (n + 1) cs) (grind arith)
     (others c.caller e) in
-    let more = covered (n + 1) cs others' (λ x e. rest_empty (nat_eq c.caller x) (n, c) (calls_from x (n + 1) cs)
+    let more = sum_calls-all (n + 1) cs others' (λ x e. rest_empty (nat_eq c.caller x) (n, c) (calls_from x (n + 1) cs)
     (others x e)) in
-    omega (arith, sum_more n c cs others', has, more)
+    omega (arith, sum_calls-more n c cs others', has, more)
 
 -- ---- total_calls
 -- how many calls the accounts of analysts have in all
@@ -131,7 +131,7 @@ all_asked desk events others' all right others few =
     (λ e. omega (
       arith,
       e,
-      covered 0 (calls_of events) (accounts_in others') others,
+      sum_calls-all 0 (calls_of events) (accounts_in others') others,
       sums_same events others' right,
     )) (omega (arith, few))
 
@@ -210,9 +210,9 @@ closing helm passes = record helm { parts = ALL_PARTS; accounts = helm.accounts 
 all_asked_in : (desk : TableId) (helm0 helm1 : HelmView) (new : List SeatedAnalyst) (passes : List PassView)
     (book : BookView) → Steers helm0 helm1 → helm0.accounts ≡ []
     → passes ≡ map (λ (a : SeatedAnalyst). a.0.pass) new → IsFinalBook (closing helm1 passes) book → AllDone desk new
-    → total_todo new ≤ MOST_CALLS → IsRight book.net book.events → GoesOn book.net book.events
+    → total_todo new ≤ MOST_CALLS → IsRight book.net book.events → FrontsAreNext book.net book.events
     → IsAllAsked helm0.net new book
-all_asked_in desk helm0 helm1 new passes book steers fresh are closed done few right goes =
+all_asked_in desk helm0 helm1 new passes book steers fresh are closed done few right fronts =
     let own : helm1.accounts ++ map (λ p. p.account) passes ≡ accounts_in new =
     ap (λ l. l ++ map (λ p. p.account) passes) (steers.accounts ∙ fresh) ∙ ap (λ l. map (λ p. p.account) l) are
     ∙ accounts_are new in
@@ -222,7 +222,7 @@ all_asked_in desk helm0 helm1 new passes book steers fresh are closed done few r
     let net : book.net ≡ helm0.net = closed.net ∙ steers.net in
     record {
       net_is = net;
-      legal = subst (λ (n : Net). IsLegal n book.events) net (record { right = right; goes_on = goes });
+      legal = subst (λ (n : Net). IsLegal n book.events) net (record { right = right; fronts = fronts });
       asked_all = all_asked desk book.events new done accounts none few;
       others = none;
     }
@@ -231,14 +231,14 @@ all_asked_in desk helm0 helm1 new passes book steers fresh are closed done few r
 pub asked_in : (desk : TableId) (helm0 helm1 : HelmView) (old new : List SeatedAnalyst) (passes : List PassView)
     (book : BookView) → Steers helm0 helm1 → helm0.accounts ≡ []
     → passes ≡ map (λ (a : SeatedAnalyst). a.0.pass) new → IsFinalBook (closing helm1 passes) book
-    → IsRight book.net book.events → GoesOn book.net book.events
+    → IsRight book.net book.events → FrontsAreNext book.net book.events
     → length new ≡ length old → ((i : ℕ) (d : SeatedAnalyst) → i < length old → IsDone desk (slice_index_or new i d).0)
     → SameAt old new → total_todo old ≤ MOST_CALLS
     → IsAllAsked helm0.net old book
-asked_in desk helm0 helm1 old new passes book steers fresh are closed right goes len done same few =
+asked_in desk helm0 helm1 old new passes book steers fresh are closed right fronts len done same few =
     let l = all_asked_in desk helm0 helm1 new passes book steers fresh are closed
     (all_done desk new (λ i d less. done i d (omega (arith, less, len))))
-    (omega (arith, few, todo_before old new len same)) right goes in
+    (omega (arith, few, todo_before old new len same)) right fronts in
     record {
       net_is = l.net_is;
       legal = l.legal;

@@ -25,7 +25,7 @@ use Rattle.shelf.proofs.Prefixes.{prefix_trans}
 use Rattle.journal_text.specs.declared.looked.Looked.{Looked}
 use Rattle.live_study.specs.declared.analyst.Analyst.{Analyst}
 use Rattle.live_study.specs.Asking.{AreAsked, HasAsked, IsSameAnalyst, decisions_asked}
-use Rattle.live_study.specs.Looks.{HasRacks, IsNoEarlier, IsRead, NeverFall, WasRead, look_of}
+use Rattle.live_study.specs.Looks.{HasRacks, IsNoEarlier, IsReadLook, NeverFall, WasRead, look_of}
 use Rattle.live_study.specs.Scripts.{look_onto, looks_in}
 use Rattle.live_study.specs.Showing.{HasLooked}
 use Rattle.live_study.proofs.Askings.{asked_more}
@@ -86,7 +86,8 @@ known_later n most who xs ys (Some g) p h = (
 )
 
 -- what was read before is read later
-read_later : (net : Net) (xs ys : List RackView) (l : Looked) → IsPrefix xs ys → IsRead net xs l → IsRead net ys l
+read_later : (net : Net) (xs ys : List RackView) (l : Looked) → IsPrefix xs ys → IsReadLook net xs l
+    → IsReadLook net ys l
 read_later net xs ys l p r = record {
   unknown = r.unknown;
   known = known_later (station_named l.station net) (length net.sites) l.who xs ys l.glance p r.known;
@@ -106,8 +107,8 @@ asked_is l x who station e f g = λ i. (e i, f i, g i)
 
 -- and one that looked has looked at one thing more
 pub looked_next : (net : Net) (acts : List Act) (who station : List ℕ) (old new : Analyst) (xs ys : List RackView)
-    (l : Looked) → HasLooked net acts (old, xs) → IsPrefix xs ys → HasRacks net ys → IsRead net ys l
-    → ((k : Looked) → IsRead net xs k → IsNoEarlier k l) → l.analyst ≡ old.number → l.who ≡ who
+    (l : Looked) → HasLooked net acts (old, xs) → IsPrefix xs ys → HasRacks net ys → IsReadLook net ys l
+    → ((k : Looked) → IsReadLook net xs k → IsNoEarlier k l) → l.analyst ≡ old.number → l.who ≡ who
     → l.station ≡ station → new.looks.items ≡ old.looks.items ++ l ∷ []
     → new.number ≡ old.number → HasLooked net (acts ++ Look who station ∷ []) (new, ys)
 looked_next net acts who station old new xs ys l h p there r later a w s items n = record {
@@ -115,10 +116,11 @@ looked_next net acts who station old new xs ys l h p there r later a w s items n
       ∙ ap₂ (λ us v. us ++ v ∷ []) h.asked (asked_is l old.number who station a w s)
       ∙ ap (λ x. looks_in x acts ++ (x, who, station) ∷ []) (sym n)
       ∙ sym (looks_more new.number acts (Look who station));
-  read = subst (λ ls. AllByRecursion (IsRead net ys) ls) (sym items) (all_push (IsRead net ys) old.looks.items l
-      (all_weaker (IsRead net xs) (IsRead net ys) old.looks.items (λ k q. read_later net xs ys k p q) h.read) r);
+  read = subst (λ ls. AllByRecursion (IsReadLook net ys) ls) (sym items) (all_push (IsReadLook net ys) old.looks.items l
+      (all_weaker (IsReadLook net xs) (IsReadLook net ys) old.looks.items (λ k q. read_later net xs ys k p q) h.read)
+      r);
   rise = subst NeverFall (sym items) (never_fall-with old.looks.items l h.rise
-      (all_weaker (IsRead net xs) (λ k. IsNoEarlier k l) old.looks.items later h.read));
+      (all_weaker (IsReadLook net xs) (λ k. IsNoEarlier k l) old.looks.items later h.read));
   there = there;
 }
 
@@ -174,7 +176,7 @@ same_on a b c s t = record {
 -- ---- one look
 -- where each station has a rack in a beginning of a list, each has one in the list
 pub racks_later : (net : Net) (xs ys : List RackView) → IsPrefix xs ys → HasRacks net xs → HasRacks net ys
-racks_later net xs ys p h = λ s low high. HasRack-later s xs ys p (h s low high)
+racks_later net xs ys p h = λ s is. HasRack-later s xs ys p (h s is)
 
 -- ---- a look and those before it
 -- a look at which nothing was seen is no earlier than any
@@ -197,7 +199,7 @@ known_earlier n most who ys (Some g) f s r legal known e at last =
 
 -- a glance of the last rack is at no earlier front than what was read of the station before
 pub seen_later : (net : Net) (xs ys : List RackView) (k l : Looked) (g : Glance) (s : ℕ) (r : RackView)
-    → IsPrefix xs ys → AreLegal ys → IsRead net xs k → l.glance ≡ Some g → station_named l.station net ≡ Some s
+    → IsPrefix xs ys → AreLegal ys → IsReadLook net xs k → l.glance ≡ Some g → station_named l.station net ≡ Some s
     → latest s ys ≡ Some r → IsGlance r l.who g → IsNoEarlier k l
 seen_later net xs ys k l g s r p legal read e n last is = λ a own f h ef eh.
     let same : h ≡ g = same_Some h g (sym eh ∙ e) in

@@ -22,7 +22,7 @@ use Rattle.decision_desk.specs.declared.desk.TheConstants.{ALL_PARTS}
 use Rattle.live_study.specs.declared.prepared.Prepared.{Prepared}
 use Rattle.live_study.specs.Asking.{SeatedAnalyst, total_todo}
 use Rattle.live_study.specs.Lives.{AreTrueLooks, IsAllAsked, all_looks, looks_made}
-use Rattle.live_study.specs.Looks.{AreLooks, HasMadeLooks, HasRacks, IsRackOf, IsRead, NeverFall, look_of}
+use Rattle.live_study.specs.Looks.{AreLooks, HasMadeLooks, HasRacks, IsRackOf, IsReadLook, NeverFall, look_of}
 use Rattle.live_study.specs.Opening.{AreOpeningRacks, HasReservedFor, IsFresh, IsPrepared, IsRackNow, numbers_to}
 use Rattle.live_study.specs.Scripts.{IsJournalOf, each_acts}
 use Rattle.live_study.specs.Showing.{AreShownOf, HasLooked, HasReserved, MayAct, looks_to_make}
@@ -76,7 +76,7 @@ may_begin net many p h = racks_may_open p.world (length net.sites) p.racks.items
 
 -- each station of the network has one of the racks that were prepared
 has_racks : (net : Net) (many : ℕ) (p : Prepared) → IsPrepared net many p → HasRacks net p.racks.items
-has_racks net many p h s low high = each_has_rack p.world (length net.sites) p.racks.items h.racks s low high
+has_racks net many p h s is = each_has_rack p.world (length net.sites) p.racks.items h.racks s is.low is.high
 
 -- a pass for each analyst
 pub many_passes : (net : Net) (many : ℕ) (p : Prepared) → IsPrepared net many p → length p.passes.items ≡ many
@@ -98,7 +98,7 @@ shown_first net many p published h e = subst (AreShownOf p.helm p.world) (sym e)
   there = subst (λ (n : Net). HasRacks n p.racks.items) (sym (world_net net many p h)) (has_racks net many p h);
   last = λ at s low high.
       let own : s ≤ length net.sites = subst (λ (n : Net). s ≤ length n.sites) (world_net net many p h) high in
-      let has = has_racks net many p h s low own in
+      let has = has_racks net many p h s (record { low = low; high = own }) in
       (has.0, has.1, (latest-all (IsRackNow p.world) s p.racks.items has.0 h.racks.now has.1).0.front);
 })
 
@@ -118,7 +118,7 @@ none_made : (net : Net) (a : SeatedAnalyst) (opening : List RackView) → IsFres
 none_made net a opening f there = (
   record {
     asked = ap (map look_of) f.quiet;
-    read = subst (AllByRecursion (IsRead net a.1)) (sym f.quiet) tt;
+    read = subst (AllByRecursion (IsReadLook net a.1)) (sym f.quiet) tt;
     rise = subst NeverFall (sym f.quiet) tt;
     there = subst (HasRacks net) (sym f.seat) there;
   },

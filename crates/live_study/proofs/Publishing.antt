@@ -1,19 +1,19 @@
 -- What is published shows fronts of the helm's journal.
 use Rattle.std.proofs.Common.{◌≡◌, ◌==◌, inl, inr, ⊎_elim, ℕ, ◌+◌, ◌-◌, ◌<◌, ◌≤◌, Bool, true, false, List, [], ◌∷◌}
-use Rattle.std.proofs.Common.{◌++◌, length, map, Result, Ok, Err, OnOk, sym, ap, ◌∙◌, subst, arith}
+use Rattle.std.proofs.Common.{◌++◌, map, Result, Ok, Err, OnOk, sym, ap, ◌∙◌, subst, arith}
 use Rattle.std.proofs.Common.{append_assoc, append-nil}
 use Rattle.std.specs.List.{AllByRecursion}
 use Rattle.std.proofs.lemmas.Bool.{cases_lt}
 use Rattle.std.proofs.lemmas.Bool.Decides.{nat_tests}
 use Rattle.sim_base.specs.Clones.{Clone, base}
 use Rattle.sim_base.proofs.ListLaws.{all_push, all_weaker}
-use Rattle.net_model.specs.Net.{Net}
+use Rattle.net_model.specs.Net.{Net, HasStation}
 use Rattle.decision_book.specs.Journal.{Event, NewFront, NewCall, after}
 use Rattle.decision_desk.specs.Accounts.{Begins}
 use Rattle.decision_desk.specs.Passes.{HelmView}
 use Rattle.decision_desk.proofs.Journals.{begins_on}
 use Rattle.phys_proc.specs.Racks.{RackView}
-use Rattle.shelf.specs.Racks.{HasRack, MayFollow, if_this, latest}
+use Rattle.shelf.specs.Racks.{HasRack, MayBePublished, if_this, latest}
 use Rattle.shelf.proofs.Legals.{HasRack-push, latest-with}
 use Rattle.world_core.specs.Worlds.{WorldView}
 use Rattle.live_study.specs.Engines.{InStep}
@@ -69,24 +69,25 @@ round_begins old new w v published h net r same rises = record {
 }
 
 -- a rack of the next station at the front of the world may follow those that are published
-follows : (h : HelmView) (w : WorldView) (done : ℕ) (r : RackView) (published : List RackView)
+MayBePublished-next : (h : HelmView) (w : WorldView) (done : ℕ) (r : RackView) (published : List RackView)
     → AllByRecursion (IsRackOf h.net h.helm) published
     → AllByRecursion (λ (q : RackView). done < q.station → q.front < w.front) published
-    → r.net ≡ h.net → r.station ≡ done + 1 → r.front ≡ w.front → MayFollow published r
-follows h w done r [] racks below net station front = tt
-follows h w done r (q ∷ published) racks below net station front = (
+    → r.net ≡ h.net → r.station ≡ done + 1 → r.front ≡ w.front → MayBePublished published r
+MayBePublished-next h w done r [] racks below net station front = tt
+MayBePublished-next h w done r (q ∷ published) racks below net station front = (
   record {
     net = net ∙ sym racks.0.net_is;
     later = λ same. let less : q.front < w.front = below.0 (omega (arith, same, station)) in omega (arith, less, front);
   },
-  follows h w done r published racks.1 below.1 net station front,
+  MayBePublished-next h w done r published racks.1 below.1 net station front,
 )
 
 -- the rack of the next station may be published
 may_publish : (h : HelmView) (w : WorldView) (done : ℕ) (r : RackView) (published : List RackView)
-    → AreShownTo h w done published → r.net ≡ h.net → r.station ≡ done + 1 → r.front ≡ w.front → MayFollow published r
+    → AreShownTo h w done published → r.net ≡ h.net → r.station ≡ done + 1 → r.front ≡ w.front
+    → MayBePublished published r
 may_publish h w done r published shown net station front =
-    follows h w done r published shown.racks shown.below net station front
+    MayBePublished-next h w done r published shown.racks shown.below net station front
 
 -- the last rack of a station, with one rack more, by whether that is of the station
 is_last : (s : ℕ) (racks : List RackView) (r : RackView) (b : Bool) → (r.station == s) ≡ b
@@ -109,7 +110,7 @@ round_goes_on h w done r published shown at net clones station front = record {
       (λ (q : RackView). done + 1 < q.station → q.front < w.front) published
       (λ q k s. k (omega (arith, s))) shown.below)
       (λ s. absurd (omega (arith, s, station)));
-  there = λ s low high. HasRack-push s published r (shown.there s low high);
+  there = λ s is. HasRack-push s published r (shown.there s is);
   last = λ e s low high. ⊎_elim
       (λ (k : s < done + 1).
       let b = shown.last e s low (omega (arith, k)) in
@@ -136,12 +137,13 @@ round_skips h w done published shown not = record {
 
 -- ---- AreShownTo, at a station: all before it are done
 -- its rack may be published
-pub may_show : (h : HelmView) (w : WorldView) (station : ℕ) (r : RackView) (published : List RackView) → 1 ≤ station
-    → station ≤ length w.net.sites → AreShownTo h w (station - 1) published → w.net ≡ h.net → r.net ≡ w.net
-    → r.station ≡ station → r.front ≡ w.front → HasRack r.station published × MayFollow published r
-may_show h w station r published low high shown of net own front =
+pub may_show : (h : HelmView) (w : WorldView) (station : ℕ) (r : RackView) (published : List RackView)
+    → HasStation w.net station → AreShownTo h w (station - 1) published → w.net ≡ h.net → r.net ≡ w.net
+    → r.station ≡ station → r.front ≡ w.front → HasRack r.station published × MayBePublished published r
+may_show h w station r published is shown of net own front =
+    let low = is.low in
     let next : r.station ≡ station - 1 + 1 = omega (arith, own, low) in (
-      subst (λ s. HasRack s published) (sym own) (shown.there station low high),
+      subst (λ s. HasRack s published) (sym own) (shown.there station is),
       may_publish h w (station - 1) r published shown (net ∙ of) next front,
     )
 

@@ -133,8 +133,8 @@ module _ (net : Net) (valid : IsNet net) (front : ℕ) where
       (keep_logs-set net front clones o.clone (with_end (clone_at clones o.clone) at)
       (place_of-bounds who clones o.clone o.place) refl
       (λ s. ap (λ w. log_of (simulation net).to s w.trace)
-      (end_drops_due (lawful-stations net valid) (clone_at clones o.clone) at front timely
-      (omega (arith, horizon, m.1))).world))
+      (end_drops_due (lawful-stations net valid) (clone_at clones o.clone) at front
+      (record { late = timely; within = omega (arith, horizon, m.1) })).world))
 
   -- so does a call, whatever its reply
   keep_logs-call : (s : Situation) (c : Call) → s.net ≡ net → front ≤ s.front → c.reply ≡ reply s c.decision

@@ -35,13 +35,12 @@ module _ (net : Net) (front : ℕ) (old new : List Clone) (keep : KeepLogs net f
 
   -- where none was beyond it, none is
   none_beyond : NoneBeyond net old front → NoneBeyond net new front
-  none_beyond within s c low high l h = (let was = beyond_before s c l h in within s was.0 low high was.1 was.2)
+  none_beyond within s c is l h = (let was = beyond_before s c l h in within s was.0 is was.1 was.2)
 
   -- the first that is beyond the limit is the same
   first_beyond : (station who : ℕ) → IsFirstBeyond net old front station who → IsFirstBeyond net new front station who
   first_beyond station who f = record {
-    low = f.low;
-    high = f.high;
+    is_station = f.is_station;
     clone = omega (arith, f.clone, keep.many);
     beyond = subst (λ es. net.limit < length es) (sym (keep.logs who station f.clone)) f.beyond;
     least_station = λ s low less c l h. (let was = beyond_before s c l h in

@@ -50,8 +50,8 @@ rises_behind net before (NewCall c ∷ es) right =
     subst (λ g. RisesFrom g es) (front_asked before c) (rises_behind net (before ++ NewCall c ∷ []) es right.1)
 
 -- the fronts of a right journal rise, all of them above 0
-pub rises : (net : Net) (es : List Event) → IsRight net es → RisesFrom 0 es
-rises net es right = rises_behind net [] es right
+RisesFrom-right : (net : Net) (es : List Event) → IsRight net es → RisesFrom 0 es
+RisesFrom-right net es right = rises_behind net [] es right
 
 -- none of rising fronts is later than the last
 no_later_from : (g : ℕ) (es : List Event) (f : ℕ) → RisesFrom g es → In f (fronts_of es) → f ≤ front_from g es
@@ -79,7 +79,7 @@ front_in (NewCall c ∷ es) last f there = front_in es last f there
 pub before_last : (net : Net) (es : List Event) (last f : ℕ) → IsRight net es
     → In f (fronts_of (es ++ NewFront last ∷ [])) → f < last → f ≤ front_of es
 before_last net es last f right there less = ⊎_elim
-    (λ (k : In f (fronts_of es)). no_later_from 0 es f (rises net es right) k)
+    (λ (k : In f (fronts_of es)). no_later_from 0 es f (RisesFrom-right net es right) k)
     (λ (k : f ≡ last). absurd (omega (arith, k, less)))
     (front_in es last f there)
 
@@ -87,12 +87,12 @@ before_last net es last f right there less = ⊎_elim
 -- where no log is beyond the limit, none was at an earlier front
 none_earlier : (net : Net) (cs : List Clone) (f front : ℕ) → IsNet net → f ≤ front → NoneBeyond net cs front
     → NoneBeyond net cs f
-none_earlier net cs f front valid early none s c low high there beyond =
+none_earlier net cs f front valid early none s c is there beyond =
     let log = log_at net (clone_at cs c) s front in
     let same = ap length (log_at_front (lawful-stations net valid) (clone_at cs c) s f front early) in
     let passed = length-filter (λ e. nat_lt e.msg.key.time f) log in
     let few = count_by-le-length (λ e. nat_lt e.msg.key.time f) log in
-    none s c low high there (omega (arith, beyond, same, passed, few))
+    none s c is there (omega (arith, beyond, same, passed, few))
 
 -- ---- a turn
 -- what the world takes in a turn, as the helm's journal tells it

@@ -45,20 +45,20 @@ callers_within many calls others =
 
 -- ---- lookers
 -- a look by one of so many analysts
-abbrev IsWithin : ℕ → AskedLook → Type 0
-IsWithin many t = (1 ≤ t.0) × (t.0 ≤ many)
+abbrev IsByOneOf : ℕ → AskedLook → Type 0
+IsByOneOf many t = (1 ≤ t.0) × (t.0 ≤ many)
 
 -- the looks of an analyst who is one of so many
-looks_within : (many a : ℕ) (acts : List Act) → 1 ≤ a → a ≤ many → AllByRecursion (IsWithin many) (looks_in a acts)
+looks_within : (many a : ℕ) (acts : List Act) → 1 ≤ a → a ≤ many → AllByRecursion (IsByOneOf many) (looks_in a acts)
 looks_within many a [] low high = tt
 looks_within many a (Decide d ∷ acts) low high = looks_within many a acts low high
 looks_within many a (Look who station ∷ acts) low high = ((low, high), looks_within many a acts low high)
 
 -- the looks of the first n analysts, where n is at most so many
-each_within : (many : ℕ) (items : List Item) (n : ℕ) → n ≤ many → AllByRecursion (IsWithin many) (each_looks items n)
+each_within : (many : ℕ) (items : List Item) (n : ℕ) → n ≤ many → AllByRecursion (IsByOneOf many) (each_looks items n)
 each_within many items zero high = tt
 each_within many items (suc n) high =
-    all_append (IsWithin many) (each_looks items n) (looks_in (n + 1) (acts_by (n + 1) items))
+    all_append (IsByOneOf many) (each_looks items n) (looks_in (n + 1) (acts_by (n + 1) items))
     (each_within many items n (omega (arith, high)))
     (looks_within many (n + 1) (acts_by (n + 1) items) (omega arith) (omega (arith, high)))
 
@@ -74,5 +74,5 @@ pub lookers_within : (s : ScriptView) (looks : List Looked) → HasMadeLooks s l
 lookers_within s looks made =
     let many = length s.analysts in
     All-from_recursion (λ (l : Looked). (1 ≤ l.analyst) × (l.analyst ≤ many)) looks
-    (of_images look_of (IsWithin many) looks
-    (subst (AllByRecursion (IsWithin many)) (sym made) (each_within many s.items many (omega arith))))
+    (of_images look_of (IsByOneOf many) looks
+    (subst (AllByRecursion (IsByOneOf many)) (sym made) (each_within many s.items many (omega arith))))

@@ -15,7 +15,7 @@ use Rattle.study_run.specs.declared.fault.StudyFault.{StudyFault}
 use Rattle.live_study.specs.Asking.{SeatedAnalyst}
 use Rattle.live_study.specs.Engines.{InStep}
 use Rattle.live_study.specs.Lives.{AreTrueLooks, all_looks, looks_made}
-use Rattle.live_study.specs.Looks.{IsRead, IsTrueLook, NeverFall}
+use Rattle.live_study.specs.Looks.{IsReadLook, IsTrueLook, NeverFall}
 use Rattle.live_study.specs.Scripts.{looks_in}
 use Rattle.live_study.specs.Showing.{AllCaughtUp, AreShownOf, HasLooked, looks_to_make}
 use Rattle.live_study.proofs.Counting.{SameAt}
@@ -75,7 +75,7 @@ true_looks : (net : Net) (h : HelmView) (w : WorldView) (events : List Event) (p
 true_looks net h w events published [] of world last begins shown up all = tt
 true_looks net h w events published (a ∷ more) of world last begins shown up all =
     all_append (IsTrueLook net events) a.0.looks.items (all_looks (looks_of more))
-    (all_weaker (IsRead net a.1) (IsTrueLook net events) a.0.looks.items
+    (all_weaker (IsReadLook net a.1) (IsTrueLook net events) a.0.looks.items
     (λ l r. true_look net h w events published a.1 l of world last begins shown up.0 r) all.0.read)
     (true_looks net h w events published more of world last begins shown up.1 all.1)
 

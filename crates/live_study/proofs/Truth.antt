@@ -22,7 +22,7 @@ use Rattle.shelf.proofs.Prefixes.{prefix_shorter, prefix_trans}
 use Rattle.journal_text.specs.declared.looked.Looked.{Looked}
 use Rattle.world_core.specs.Worlds.{WorldView}
 use Rattle.live_study.specs.Looks.{AreAtFront, AreCaughtUp, IsAt, IsCaughtUp, IsRackOf}
-use Rattle.live_study.specs.Looks.{IsRead, IsTrueGlance, IsTrueLook, WasRead}
+use Rattle.live_study.specs.Looks.{IsReadLook, IsTrueGlance, IsTrueLook, WasRead}
 use Rattle.live_study.specs.Showing.{AreShownOf}
 use Rattle.live_study.proofs.Publishing.{rack_later}
 
@@ -128,7 +128,7 @@ true_glance net events s who r g of station is = record {
 -- a look that was read at a seat which came to the horizon with what was published
 pub true_look : (net : Net) (h : HelmView) (w : WorldView) (events : List Event) (published read : List RackView)
     (l : Looked) → h.net ≡ net → w.net ≡ net → w.front ≡ w.net.horizon → Begins h.helm events
-    → AreShownOf h w published → AreCaughtUp net published read → IsRead net read l → IsTrueLook net events l
+    → AreShownOf h w published → AreCaughtUp net published read → IsReadLook net read l → IsTrueLook net events l
 true_look net h w events published read l of world last begins shown up r = record {
   unknown = r.unknown;
   known = known_true l.glance r.known;
@@ -150,5 +150,5 @@ true_look net h w events published read l of world last begins shown up r = reco
         let front : w.front ≡ net.horizon = last ∙ ap (λ (n : Net). n.horizon) world in
         let at_end : IsAt net.horizon published s = (at.0, at.1, at.2 ∙ front) in
         let held = read_is_published (IsRackOf net events) net.horizon s published read k.3.before k.3.rack
-        (up s low k.2) at_end of_journal k.3.begins k.3.last in
+        (up s (record { low = low; high = k.2 })) at_end of_journal k.3.begins k.3.last in
         (s, k.1, true_glance net events s l.who k.3.rack g held.0 held.1 k.3.glance)

@@ -32,8 +32,8 @@ pub record HasAsked (desk : TableId) (acts : List Act) (a : Analyst) : Type 0 wh
   pub all : AreAsked (decisions_asked acts) a.pass.account
 
 -- one that has asked nothing yet
-abbrev pub IsReady : TableId → Analyst → Type 0
-IsReady desk a = HasAsked desk [] a
+abbrev pub HasAskedNothing : TableId → Analyst → Type 0
+HasAskedNothing desk a = HasAsked desk [] a
 
 -- and one that has asked all
 abbrev pub IsDone : TableId → Analyst → Type 0

@@ -5,7 +5,7 @@ use Rattle.decision_desk.specs.Passes.{HelmView}
 use Rattle.phys_proc.specs.Racks.{RackView}
 use Rattle.world_core.specs.Worlds.{WorldView}
 use Rattle.study_run.specs.declared.fault.StudyFault.{StudyFault}
-use Rattle.live_study.specs.Engines.{InStep, Steers, StopsAt}
+use Rattle.live_study.specs.Engines.{InStep, Steers, StopsEngine}
 use Rattle.live_study.specs.Looks.{AreAtFront}
 use Rattle.live_study.specs.Showing.{AreShownOf, AreShownTo}
 
@@ -40,4 +40,4 @@ pub record HasDriven (old new : HelmView) (published : List RackView) (run : Res
   -- and its racks are published
   pub shown : IfOk run (λ w. AreShownOf new w published)
   -- or it stopped, out of memory or at the limit
-  pub stops : IfErr run (λ e. StopsAt new.net new.helm e)
+  pub stops : IfErr run (λ e. StopsEngine new.net new.helm e)

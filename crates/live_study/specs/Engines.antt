@@ -43,6 +43,6 @@ pub record MeetsLimitLast (net : Net) (events : List Event) (station who : ℕ) 
   pub none_before : (f : ℕ) → In f (fronts_of events) → f < front_of events → NoneBeyond net (after net events).clones f
 
 -- why the engine stopped, over its journal: out of memory needs no cause; a limit is met at the last front
-abbrev pub StopsAt : Net → List Event → StudyFault → Type 0
-StopsAt net events NoMemory = Unit {0}
-StopsAt net events (LimitMet station who) = MeetsLimitLast net events station who
+abbrev pub StopsEngine : Net → List Event → StudyFault → Type 0
+StopsEngine net events NoMemory = Unit {0}
+StopsEngine net events (LimitMet station who) = MeetsLimitLast net events station who

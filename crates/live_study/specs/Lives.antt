@@ -9,9 +9,7 @@ use Rattle.decision_desk.specs.Accounts.{accounts_of, calls_by}
 use Rattle.decision_desk.specs.Legal.{IsLegal}
 use Rattle.journal_text.specs.declared.looked.Looked.{Looked}
 use Rattle.world_core.specs.Worlds.{WorldView}
-use Rattle.study_run.specs.declared.fault.StudyFault.{StudyFault}
 use Rattle.live_study.specs.Asking.{AllAsked, SeatedAnalyst, accounts_in}
-use Rattle.live_study.specs.Engines.{StopsAt}
 use Rattle.live_study.specs.Looks.{IsTrueLook, NeverFall, look_of}
 use Rattle.live_study.specs.Scripts.{AskedLook}
 
@@ -41,7 +39,3 @@ pub record AreTrueLooks (net : Net) (events : List Event) (looks : List (Reserve
 pub record IsAtHorizon (net : Net) (book : BookView) (world : WorldView) : Type 0 where
   pub last : (after net book.events).front ≡ net.horizon
   pub world_is : world ≡ record { net = net; clones = (after net book.events).clones; front = net.horizon }
-
--- why a run was stopped, over its journal
-abbrev pub IsStopped : Net → BookView → StudyFault → Type 0
-IsStopped net book fault = StopsAt net book.events fault

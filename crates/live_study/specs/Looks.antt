@@ -3,7 +3,7 @@ use Rattle.std.specs.Prelude.{◌≡◌, ◌⊎◌, ℕ, ◌≤◌, List, [], �
 use Rattle.std.specs.List.{AllByRecursion}
 use mathlib.Core.List.{IsPrefix}
 use Rattle.sim_base.specs.Clones.{Clone, base, place_of}
-use Rattle.net_model.specs.Net.{Net, station_named}
+use Rattle.net_model.specs.Net.{HasStation, Net, station_named}
 use Rattle.decision_script.specs.Stating.{ScriptView}
 use Rattle.decision_book.specs.Journal.{Event, NewFront, after}
 use Rattle.decision_desk.specs.Accounts.{Begins}
@@ -81,14 +81,14 @@ pub record WasRead (read : List RackView) (s : ℕ) (who : List ℕ) (g : Glance
   pub glance : IsGlance rack who g
 
 -- a look that has read a beginning of these racks, or found no station to read of
-pub record IsRead (net : Net) (read : List RackView) (l : Looked) : Type 0 where
+pub record IsReadLook (net : Net) (read : List RackView) (l : Looked) : Type 0 where
   pub unknown : IfNone l.glance (station_named l.station net ≡ None)
   pub known : IfSome l.glance (λ g. (s : ℕ) × (station_named l.station net ≡ Some s) × (s ≤ length net.sites)
       × WasRead read s l.who g)
 
 -- each station has a rack
 abbrev pub HasRacks : Net → List RackView → Type 0
-HasRacks net racks = (s : ℕ) → 1 ≤ s → s ≤ length net.sites → HasRack s racks
+HasRacks net racks = (s : ℕ) → HasStation net s → HasRack s racks
 
 -- ---- what is published
 
@@ -101,9 +101,9 @@ pub record IsRackOf (net : Net) (events : List Event) (r : RackView) : Type 0 wh
 abbrev pub IsAt : ℕ → List RackView → ℕ → Type 0
 IsAt front racks s = (r : RackView) × (latest s racks ≡ Some r) × (r.front ≡ front)
 
--- the last rack of each station is at this front
-abbrev pub AreAllAt : Net → ℕ → List RackView → Type 0
-AreAllAt net front racks = (s : ℕ) → 1 ≤ s → s ≤ length net.sites → IsAt front racks s
+-- the last rack of each of the first so many stations is at this front
+abbrev pub AreAllAt : ℕ → ℕ → List RackView → Type 0
+AreAllAt many front racks = (s : ℕ) → 1 ≤ s → s ≤ many → IsAt front racks s
 
 -- what a seat has read and what was published begin one legal list, in which the station's last rack is at this front
 pub record IsCaughtUp (front : ℕ) (published read : List RackView) (s : ℕ) : Type 0 where
@@ -115,4 +115,4 @@ pub record IsCaughtUp (front : ℕ) (published read : List RackView) (s : ℕ) :
 
 -- and so at the horizon for each station
 abbrev pub AreCaughtUp : Net → List RackView → List RackView → Type 0
-AreCaughtUp net published read = (s : ℕ) → 1 ≤ s → s ≤ length net.sites → IsCaughtUp net.horizon published read s
+AreCaughtUp net published read = (s : ℕ) → HasStation net s → IsCaughtUp net.horizon published read s

@@ -10,15 +10,15 @@ use Rattle.decision_desk.specs.Passes.{HelmView}
 use Rattle.phys_proc.specs.Racks.{RackView}
 use Rattle.world_core.specs.Worlds.{WorldView}
 use Rattle.live_study.specs.declared.analyst.Analyst.{Analyst}
-use Rattle.live_study.specs.Asking.{IsDone, IsReady, IsSameAnalyst, SeatedAnalyst}
-use Rattle.live_study.specs.Looks.{AreAllAt, AreCaughtUp, HasRacks, IsAt, IsRackOf, IsRead, NeverFall, look_of}
+use Rattle.live_study.specs.Asking.{HasAskedNothing, IsDone, IsSameAnalyst, SeatedAnalyst}
+use Rattle.live_study.specs.Looks.{AreAllAt, AreCaughtUp, HasRacks, IsRackOf, IsReadLook, NeverFall, look_of}
 use Rattle.live_study.specs.Scripts.{AskedLook, looks_in}
 
 -- an analyst that has made the looks of these acts, each of them at a beginning of what its seat has read, and none at
 -- an earlier front than one of the same station before it
 pub record HasLooked (net : Net) (acts : List Act) (a : SeatedAnalyst) : Type 0 where
   pub asked : map look_of a.0.looks.items ≡ looks_in a.0.number acts
-  pub read : AllByRecursion (IsRead net a.1) a.0.looks.items
+  pub read : AllByRecursion (IsReadLook net a.1) a.0.looks.items
   pub rise : NeverFall a.0.looks.items
   pub there : HasRacks net a.1
 
@@ -28,7 +28,7 @@ HasReserved a = length a.todo.items ≤ a.looks.reserved
 
 -- an analyst at its seat that has asked nothing and looked at nothing yet, with memory reserved for its looks
 abbrev pub MayAct : TableId → Net → SeatedAnalyst → Type 0
-MayAct desk net a = IsReady desk a.0 × HasLooked net [] a × HasReserved a.0
+MayAct desk net a = HasAskedNothing desk a.0 × HasLooked net [] a × HasReserved a.0
 
 -- and that has done since all that it has to do
 pub record HasActed (desk : TableId) (net : Net) (old new : SeatedAnalyst) : Type 0 where
@@ -48,7 +48,7 @@ pub record AreShownOf (h : HelmView) (w : WorldView) (published : List RackView)
   pub racks : AllByRecursion (IsRackOf h.net h.helm) published
   pub early : AllByRecursion (λ q. q.front ≤ w.front) published
   pub there : HasRacks w.net published
-  pub last : w.front ≡ w.net.horizon → AreAllAt w.net w.front published
+  pub last : w.front ≡ w.net.horizon → AreAllAt (length w.net.sites) w.front published
 
 -- the same while the racks of a front are published: so many stations are done
 pub record AreShownTo (h : HelmView) (w : WorldView) (done : ℕ) (published : List RackView) : Type 0 where
@@ -56,7 +56,7 @@ pub record AreShownTo (h : HelmView) (w : WorldView) (done : ℕ) (published : L
   pub early : AllByRecursion (λ q. q.front ≤ w.front) published
   pub below : AllByRecursion (λ q. done < q.station → q.front < w.front) published
   pub there : HasRacks w.net published
-  pub last : w.front ≡ w.net.horizon → (s : ℕ) → 1 ≤ s → s ≤ done → IsAt w.front published s
+  pub last : w.front ≡ w.net.horizon → AreAllAt done w.front published
 
 -- a helm that raised its front to this one behind calls
 pub record Raises (old new : HelmView) (front : ℕ) : Type 0 where

@@ -1,10 +1,11 @@
 //! What the thread of an analyst does: it asks the desk for its decisions and observes the stations at its looks.
 ghost use Rattle.std.specs.Prelude.{◌≡◌, ◌++◌, ◌∷◌, ◌<◌, [], List, length};
 ghost use mathlib.Core.List.{IsPrefix};
+ghost use Rattle.decision_desk.specs.Desks.{desk_id};
 ghost use Rattle.decision_script.specs.declared.item.Act.{Act as OfAct};
 ghost use Rattle.decision_script.specs.declared.item.Act.TheVariants.{Decide, Look};
 ghost use Rattle.live_study.specs.Asking.{HasAsked, IsSameAnalyst};
-ghost use Rattle.live_study.specs.Looks.{HasRacks, IsNoEarlier, IsRead};
+ghost use Rattle.live_study.specs.Looks.{HasRacks, IsNoEarlier, IsReadLook};
 ghost use Rattle.live_study.specs.Opening.{AreReadyAll};
 ghost use Rattle.live_study.specs.Showing.{HasActed, HasLooked, HaveActed, MayAct};
 
@@ -22,9 +23,9 @@ use std::thread::Threads;
 
 // Asks a decision.
 fn ask<R: Wait>(rt: &R, desk: &Desk, analyst: &mut Analyst, d: Decision)
-    requires desk { analyst.old.pass.desk ≡ desk.now.table.shared.table_id }
-    ensures asked { (acts : List OfAct) → HasAsked desk.now.table.shared.table_id acts analyst.old →
-        HasAsked desk.now.table.shared.table_id (acts ++ Decide d ∷ []) analyst.new }
+    requires desk { analyst.old.pass.desk ≡ desk_id desk.now }
+    ensures asked { (acts : List OfAct) → HasAsked (desk_id desk.now) acts analyst.old →
+        HasAsked (desk_id desk.now) (acts ++ Decide d ∷ []) analyst.new }
     ensures same { IsSameAnalyst analyst.old analyst.new }
     ensures looks { analyst.new.looks ≡ analyst.old.looks }
 {
@@ -42,9 +43,9 @@ fn see<J: Naming>(
     requires there { HasRacks model.now seat.old }
     ensures begins { IsPrefix seat.old seat.new }
     ensures there { HasRacks model.now seat.new }
-    ensures read { IsRead model.now seat.new result }
+    ensures read { IsReadLook model.now seat.new result }
     // no look that was made before was at a later front
-    ensures later { (l : _) → IsRead model.now seat.old l → IsNoEarlier l result }
+    ensures later { (l : _) → IsReadLook model.now seat.old l → IsNoEarlier l result }
     ensures number { result.analyst ≡ number }
     ensures who { result.who ≡ who }
     ensures station { result.station ≡ station }
@@ -91,11 +92,11 @@ fn act_once<J: Naming, R: Wait>(
     seat: &mut Seat<J>,
     act: Act,
 )
-    requires desk { analyst.old.pass.desk ≡ desk.now.table.shared.table_id }
+    requires desk { analyst.old.pass.desk ≡ desk_id desk.now }
     requires there { HasRacks model.now seat.old }
     requires free { length analyst.old.looks.items < analyst.old.looks.reserved }
-    ensures asked { (acts : List OfAct) → HasAsked desk.now.table.shared.table_id acts analyst.old →
-        HasAsked desk.now.table.shared.table_id (acts ++ act ∷ []) analyst.new }
+    ensures asked { (acts : List OfAct) → HasAsked (desk_id desk.now) acts analyst.old →
+        HasAsked (desk_id desk.now) (acts ++ act ∷ []) analyst.new }
     ensures looked { (acts : List OfAct) → HasLooked model.now acts (analyst.old, seat.old) →
         HasLooked model.now (acts ++ act ∷ []) (analyst.new, seat.new) }
     ensures same { IsSameAnalyst analyst.old analyst.new }
@@ -115,8 +116,8 @@ pub(crate) fn act_all<J: Naming, G: Gate, R: Wait>(
     analyst: &mut Analyst,
     seat: &mut Seat<J>,
 )
-    requires may_act { MayAct desk.now.table.shared.table_id model.now (analyst.old, seat.old) }
-    ensures acted { HasActed desk.now.table.shared.table_id model.now (analyst.old, seat.old) (analyst.new, seat.new) }
+    requires may_act { MayAct (desk_id desk.now) model.now (analyst.old, seat.old) }
+    ensures acted { HasActed (desk_id desk.now) model.now (analyst.old, seat.old) (analyst.new, seat.new) }
 {
     for k in 0..analyst.todo.len() {
         gate.before_call(rt, analyst.number, k as u32);
@@ -133,16 +134,16 @@ pub(crate) fn act_everyone<J: Naming + Send + Sync, G: Gate, R: Threads + Wait +
     model: &Model,
     mut seated: Vec<(Analyst, Seat<J>)>,
 ) -> Vec<(Analyst, Seat<J>)>
-    requires { AreReadyAll desk.now.table.shared.table_id model.now seated.items }
-    ensures acted { HaveActed desk.now.table.shared.table_id model.now seated.items result.items }
+    requires { AreReadyAll (desk_id desk.now) model.now seated.items }
+    ensures acted { HaveActed (desk_id desk.now) model.now seated.items result.items }
 {
     thread::for_each_mut(
         rt,
         seated.as_mut_slice(),
         MOST_ANALYSTS,
         &|_i: usize, one: &mut (Analyst, Seat<J>)|
-            requires { MayAct desk.now.table.shared.table_id model.now one.old }
-            ensures { HasActed desk.entry.now.table.shared.table_id model.entry.now one.entry.now one.exit.now }
+            requires { MayAct (desk_id desk.now) model.now one.old }
+            ensures { HasActed (desk_id desk.entry.now) model.entry.now one.entry.now one.exit.now }
         {
             let (analyst, seat) = one;
             act_all(rt, desk, gate, model, analyst, seat)

@@ -1,4 +1,5 @@
 //! The engine beside the workers of a team, which step the stations (logical processes) of its larger windows.
+ghost use Rattle.decision_desk.specs.Desks.{desk_id};
 ghost use Rattle.live_study.specs.Driving.{HasDriven, MayDrive};
 
 use crate::engine::drive_alone;
@@ -27,7 +28,7 @@ fn drive_and_end<C: Crew, G: Gate, J: Naming, W: Wait + Drop, R: Threads + Wait 
     watched: &[bool],
     bell: &Bell,
 ) -> (Helm, Stocker<J, W>, Result<World, StudyFault>)
-    requires may_drive { MayDrive desk.now.table.shared.table_id helm world stocker.published }
+    requires may_drive { MayDrive (desk_id desk.now) helm world stocker.published }
     ensures driven { HasDriven helm result.0 result.1.published result.2 }
 {
     let done = drive_alone(rt, alloc, crew, gate, desk, helm, world, stocker, watched);
@@ -49,14 +50,14 @@ fn drive_beside<C: Crew, G: Gate, J: Naming, W: Wait + Drop, R: Threads + Wait +
     members: Vec<Member<Window>>,
     bell: &Bell,
 ) -> (Helm, Stocker<J, W>, Result<World, StudyFault>)
-    requires may_drive { MayDrive desk.now.table.shared.table_id helm world stocker.published }
+    requires may_drive { MayDrive (desk_id desk.now) helm world stocker.published }
     ensures driven { HasDriven helm result.0 result.1.published result.2 }
 {
     let (_, done) = thread::join(
         rt,
         move || serve_all(rt, alloc, gate, bell, members),
         move || -> (Helm, Stocker<J, W>, Result<World, StudyFault>)
-            requires { MayDrive desk.now.table.shared.table_id helm world stocker.published }
+            requires { MayDrive (desk_id desk.now) helm world stocker.published }
             ensures { HasDriven helm result.0 result.1.published result.2 }
         {
             drive_and_end(
@@ -86,7 +87,7 @@ pub(crate) fn drive_with_team<
     stocker: Stocker<J, W>,
     watched: &[bool],
 ) -> (Helm, Stocker<J, W>, Result<World, StudyFault>)
-    requires may_drive { MayDrive desk.now.table.shared.table_id helm world stocker.published }
+    requires may_drive { MayDrive (desk_id desk.now) helm world stocker.published }
     ensures driven { HasDriven helm result.0 result.1.published result.2 }
 {
     if let Some((team, members, bell)) = begin_team(alloc, crew.kind()) {

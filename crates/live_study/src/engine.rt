@@ -1,8 +1,10 @@
 //! The engine's part: conservative time windows up to the fronts that the desk gives, until the horizon.
-ghost use Rattle.std.specs.Prelude.{◌≡◌, ◌-◌, ◌<◌, ◌≤◌, length, IfOk, IfErr, OnOk};
+ghost use Rattle.std.specs.Prelude.{◌≡◌, ◌-◌, ◌<◌, IfOk, IfErr, OnOk};
+ghost use Rattle.net_model.specs.Net.{HasStation};
+ghost use Rattle.decision_desk.specs.Desks.{desk_id};
 ghost use Rattle.decision_desk.specs.Leasts.{leasts_of};
 ghost use Rattle.live_study.specs.Driving.{HasDriven, MayDrive, MayShow, MayTurn};
-ghost use Rattle.live_study.specs.Engines.{InStep, IsAhead, Steers, StopsAt};
+ghost use Rattle.live_study.specs.Engines.{InStep, IsAhead, Steers, StopsEngine};
 ghost use Rattle.live_study.specs.Showing.{AreShownOf, AreShownTo, Raises};
 
 use crew_pool::{Crew, Gate};
@@ -18,7 +20,7 @@ use study_run::StudyFault;
 use world_core::{World, WorldFault};
 
 // The least time that is due in each clone.
-fn leasts(alloc: Global, world: &World) -> Result<Vec<Option<u64>>, NoMemory>
+fn least_due_times(alloc: Global, world: &World) -> Result<Vec<Option<u64>>, NoMemory>
     ensures value { IfOk result (λ v. v.items ≡ leasts_of world.now.net world.now.clones world.now.front) }
 {
     let many = world.lists().len();
@@ -37,13 +39,13 @@ fn take_turn<R: Wait>(
     helm: &mut Helm,
     world: World,
 ) -> Result<(World, u64), NoMemory>
-    requires may_turn { MayTurn desk.now.table.shared.table_id helm.old world }
+    requires may_turn { MayTurn (desk_id desk.now) helm.old world }
     ensures steers { Steers helm.old helm.new }
     ensures ahead { IfOk result (λ r. IsAhead helm.new r.0 r.1) }
     ensures raises { IfOk result (λ r. Raises helm.old helm.new r.1) }
     ensures same { IfOk result (λ r. r.0.front ≡ world.front) }
 {
-    let leasts = leasts(alloc, &world)?;
+    let leasts = least_due_times(alloc, &world)?;
     let turn = helm.next(rt, alloc, desk, leasts.as_slice())?;
     let world = world.take(alloc, turn.fresh.as_slice())?;
     let _short = world.lists();
@@ -67,8 +69,7 @@ fn show_one<J: Naming, W: Wait + Drop>(
     stocker: &mut Stocker<J, W>,
     station: u32,
 ) -> Result<(), NoMemory>
-    requires low { 1 ≤ station }
-    requires high { station ≤ length world.old.net.sites }
+    requires is_station { HasStation world.old.net station }
     requires may_show { MayShow helm.now world.old (station - 1) stocker.old.published }
     ensures same { world.new ≡ world.old }
     ensures shown { OnOk result (AreShownTo helm.now world.old station stocker.new.published) }
@@ -110,12 +111,12 @@ fn take_window<C: Crew, G: Gate, L: Ledger, R: Threads + Wait + Sync>(
     world: World,
     steps: &mut Steps<L>,
 ) -> Result<World, StudyFault>
-    requires may_turn { MayTurn desk.now.table.shared.table_id helm.old world }
+    requires may_turn { MayTurn (desk_id desk.now) helm.old world }
     ensures steers { Steers helm.old helm.new }
     ensures in_step { IfOk result (λ w. InStep helm.new w) }
     ensures raises { IfOk result (λ w. Raises helm.old helm.new w.front) }
     ensures rises { IfOk result (λ w. world.front < w.front) }
-    ensures stops { IfErr result (λ e. StopsAt helm.new.net helm.new.helm e) }
+    ensures stops { IfErr result (λ e. StopsEngine helm.new.net helm.new.helm e) }
 {
     let Ok((world, bound)) = take_turn(rt, alloc, desk, helm, world) else {
         return Err(StudyFault::NoMemory);
@@ -130,7 +131,14 @@ fn take_window<C: Crew, G: Gate, L: Ledger, R: Threads + Wait + Sync>(
 }
 
 // A turn of the helm and its window, and then readers are shown its result.
-fn go_on<C: Crew, G: Gate, J: Naming, L: Ledger, W: Wait + Drop, R: Threads + Wait + Sync>(
+fn take_window_and_show<
+    C: Crew,
+    G: Gate,
+    J: Naming,
+    L: Ledger,
+    W: Wait + Drop,
+    R: Threads + Wait + Sync,
+>(
     rt: &R,
     alloc: Global,
     crew: &C,
@@ -142,7 +150,7 @@ fn go_on<C: Crew, G: Gate, J: Naming, L: Ledger, W: Wait + Drop, R: Threads + Wa
     watched: &[bool],
     steps: &mut Steps<L>,
 ) -> Result<World, StudyFault>
-    requires may_turn { MayTurn desk.now.table.shared.table_id helm.old world }
+    requires may_turn { MayTurn (desk_id desk.now) helm.old world }
     requires shown { AreShownOf helm.old world stocker.old.published }
     // what is kept of the helm in any case
     ensures steers { Steers helm.old helm.new }
@@ -151,7 +159,7 @@ fn go_on<C: Crew, G: Gate, J: Naming, L: Ledger, W: Wait + Drop, R: Threads + Wa
     ensures rises { IfOk result (λ w. world.front < w.front) }
     ensures shown { IfOk result (λ w. AreShownOf helm.new w stocker.new.published) }
     // or why the engine stops, over the journal of the helm
-    ensures stops { IfErr result (λ e. StopsAt helm.new.net helm.new.helm e) }
+    ensures stops { IfErr result (λ e. StopsEngine helm.new.net helm.new.helm e) }
 {
     let mut world = take_window(rt, alloc, crew, gate, desk, helm, world, steps)?;
     match show(alloc, helm, &mut world, stocker, watched) {
@@ -173,11 +181,11 @@ fn drive<C: Crew, G: Gate, J: Naming, L: Ledger, W: Wait + Drop, R: Threads + Wa
     watched: &[bool],
     steps: &mut Steps<L>,
 ) -> (Helm, Result<World, StudyFault>)
-    requires may_drive { MayDrive desk.now.table.shared.table_id helm world stocker.old.published }
+    requires may_drive { MayDrive (desk_id desk.now) helm world stocker.old.published }
     ensures driven { HasDriven helm result.0 stocker.new.published result.1 }
 {
     'turns: while world.front() < world.model().horizon() {
-        world = match go_on(
+        world = match take_window_and_show(
             rt, alloc, crew, gate, desk, &mut helm, world, stocker, watched, steps,
         ) {
             Ok(world) => world,
@@ -200,7 +208,7 @@ fn drive_counted<C: Crew, G: Gate, J: Naming, L: Ledger, W: Wait + Drop, R: Thre
     watched: &[bool],
     blank: Blank,
 ) -> (Helm, Result<World, StudyFault>)
-    requires may_drive { MayDrive desk.now.table.shared.table_id helm world stocker.old.published }
+    requires may_drive { MayDrive (desk_id desk.now) helm world stocker.old.published }
     requires name { blank.name ≡ L.name }
     requires parts { blank.parts ≡ L.parts }
     requires some { 0 < L.parts }
@@ -225,7 +233,7 @@ pub(crate) fn drive_alone<C: Crew, G: Gate, J: Naming, W: Wait + Drop, R: Thread
     mut stocker: Stocker<J, W>,
     watched: &[bool],
 ) -> (Helm, Stocker<J, W>, Result<World, StudyFault>)
-    requires may_drive { MayDrive desk.now.table.shared.table_id helm world stocker.published }
+    requires may_drive { MayDrive (desk_id desk.now) helm world stocker.published }
     ensures driven { HasDriven helm result.0 result.1.published result.2 }
 {
     let (helm, world) = drive_counted::<C, G, J, Brand, W, R>(

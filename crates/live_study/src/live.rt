@@ -3,11 +3,14 @@ ghost use Rattle.std.specs.Prelude.{◌≡◌, ◌⊎◌, ◌+◌, ◌≤◌, []
 ghost use Rattle.std.specs.Prelude.{Ok, Err, IfOk, IfErr, true, vec_len, vec_capacity};
 ghost use mathlib.Core.List.{IsPrefix};
 ghost use Rattle.decision_book.specs.declared.call.TheConstants.{MOST_CALLS};
+ghost use Rattle.net_model.specs.Net.{HasStation};
 ghost use Rattle.shelf.specs.Racks.{AreLegal};
 ghost use Rattle.decision_desk.specs.declared.desk.TheConstants.{ALL_PARTS};
+ghost use Rattle.decision_desk.specs.Desks.{desk_id};
 ghost use Rattle.live_study.specs.Asking.{total_todo};
 ghost use Rattle.live_study.specs.Driving.{HasDriven, MayDrive};
-ghost use Rattle.live_study.specs.Lives.{AreTrueLooks, IsAllAsked, IsAtHorizon, IsStopped, looks_made};
+ghost use Rattle.live_study.specs.Engines.{StopsEngine};
+ghost use Rattle.live_study.specs.Lives.{AreTrueLooks, IsAllAsked, IsAtHorizon, looks_made};
 ghost use Rattle.live_study.specs.Looks.{AreCaughtUp, HasRacks, IsAt};
 ghost use Rattle.live_study.specs.Opening.{AreReadyAll, HasReservedFor};
 ghost use Rattle.live_study.specs.Showing.{AllCaughtUp, HaveActed, looks_to_make};
@@ -51,28 +54,27 @@ fn side_by_side<
     (Helm, Stocker<J, W>, Result<World, StudyFault>),
     Vec<(Analyst, Seat<J>)>,
 )
-    requires may_drive { MayDrive desk.now.table.shared.table_id helm world stocker.published }
-    requires ready { AreReadyAll desk.now.table.shared.table_id model.now seated.items }
+    requires may_drive { MayDrive (desk_id desk.now) helm world stocker.published }
+    requires ready { AreReadyAll (desk_id desk.now) model.now seated.items }
     ensures driven { HasDriven helm result.0.0 result.0.1.published result.0.2 }
-    ensures acted { HaveActed desk.now.table.shared.table_id model.now seated.items result.1.items }
+    ensures acted { HaveActed (desk_id desk.now) model.now seated.items result.1.items }
 {
     thread::join(
         rt,
         move || -> (Helm, Stocker<J, W>, Result<World, StudyFault>)
-            requires { MayDrive desk.now.table.shared.table_id helm world stocker.published }
+            requires { MayDrive (desk_id desk.now) helm world stocker.published }
             ensures { HasDriven helm result.0 result.1.published result.2 }
         { drive_with_team(rt, alloc, crew, gate, desk, helm, world, stocker, watched) },
         move || -> Vec<(Analyst, Seat<J>)>
-            requires { AreReadyAll desk.now.table.shared.table_id model.now seated.items }
-            ensures { HaveActed desk.entry.now.table.shared.table_id model.entry.now seated.items result.items }
+            requires { AreReadyAll (desk_id desk.now) model.now seated.items }
+            ensures { HaveActed (desk_id desk.entry.now) model.entry.now seated.items result.items }
         { act_everyone(rt, desk, gate, model, seated) },
     )
 }
 
 // A closing look at a station: whether its last rack is at the horizon.
 fn is_at_end<J: Naming>(model: &Model, seat: &mut Seat<J>, station: u32) -> bool
-    requires low { 1 ≤ station }
-    requires high { station ≤ length model.now.sites }
+    requires is_station { HasStation model.now station }
     requires there { HasRacks model.now seat.old }
     ensures begins { IsPrefix seat.old seat.new }
     ensures legal { AreLegal seat.new }
@@ -114,7 +116,7 @@ fn comes_to_end<J: Naming, W: Wait + Drop>(
 
 // The passes and the looks of analysts that have done all, put into what was reserved for them; and whether all seats
 // came to the horizon.
-fn gather<J: Naming, W: Wait + Drop>(
+fn close_looks<J: Naming, W: Wait + Drop>(
     model: &Model,
     stocker: &mut Stocker<J, W>,
     seated: Vec<(Analyst, Seat<J>)>,
@@ -188,11 +190,11 @@ pub(crate) fn run_live<
     reserve: Reserve,
 ) -> LiveRun
     // helm, world and stocker are in step, the analysts are ready, and there are places for what they leave
-    requires may_drive { MayDrive desk.table.shared.table_id helm world stocker.published }
+    requires may_drive { MayDrive (desk_id desk) helm world stocker.published }
     requires net { helm.net ≡ model.now }
     requires parts { helm.parts + length seated.items ≡ ALL_PARTS }
     requires fresh { helm.accounts ≡ [] }
-    requires ready { AreReadyAll desk.table.shared.table_id model.now seated.items }
+    requires ready { AreReadyAll (desk_id desk) model.now seated.items }
     requires few { total_todo seated.items ≤ MOST_CALLS }
     requires reserve { HasReservedFor (length seated.items) reserve }
     // however it ends: each analyst has asked all its decisions and made all its looks
@@ -202,12 +204,12 @@ pub(crate) fn run_live<
     ensures looked { IfOk result.run (λ w. AreTrueLooks helm.net result.book.events result.looks.items) }
     ensures finished { IfOk result.run (λ w. IsAtHorizon helm.net result.book w) }
     // or why the engine stopped, over the journal
-    ensures stopped { IfErr result.run (λ e. IsStopped helm.net result.book e) }
+    ensures stopped { IfErr result.run (λ e. StopsEngine helm.net result.book.events e) }
 {
     let ((helm, mut stocker, run), seated) = side_by_side(
         rt, alloc, crew, gate, model, &desk, helm, world, stocker, watched, seated,
     );
-    let (reserve, caught_up) = gather(model, &mut stocker, seated, reserve);
+    let (reserve, caught_up) = close_looks(model, &mut stocker, seated, reserve);
     let Reserve { passes, looks } = reserve;
     let book = desk.close(passes, helm);
     let _legal = book.book().front();

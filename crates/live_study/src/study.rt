@@ -5,7 +5,8 @@ ghost use Rattle.net_model.specs.declared.limits.TheConstants.{MOST_STATIONS};
 ghost use Rattle.decision_desk.specs.Passes.{new_helm, new_passes};
 ghost use Rattle.shelf.specs.Racks.{MayOpen};
 ghost use Rattle.world_core.specs.Worlds.{opening_world, total_handled};
-ghost use Rattle.live_study.specs.Lives.{IsAtHorizon, IsStopped, all_looks};
+ghost use Rattle.live_study.specs.Engines.{StopsEngine};
+ghost use Rattle.live_study.specs.Lives.{IsAtHorizon, all_looks};
 ghost use Rattle.live_study.specs.Looks.{AreLooks, HasMadeLooks};
 ghost use Rattle.live_study.specs.Opening.{AreOpeningRacks, HasReservedFor, IsFresh, IsPrepared, numbers_to};
 ghost use Rattle.live_study.specs.Scripts.{IsJournalOf, each_acts};
@@ -140,7 +141,7 @@ fn run_prepared<
         AreLooks model.now script.now r.book.events (all_looks r.looks.items))) }
     ensures finished { IfOk result (λ r. IfOk r.run (λ w. IsAtHorizon model.now r.book w)) }
     // or why the engine stopped, over the journal
-    ensures stopped { IfOk result (λ r. IfErr r.run (λ e. IsStopped model.now r.book e)) }
+    ensures stopped { IfOk result (λ r. IfErr r.run (λ e. StopsEngine model.now r.book.events e)) }
 {
     let Prepared {
         world,
@@ -190,7 +191,7 @@ pub fn live_study<C: Crew + Sync, G: Gate, L: Ledger, R: Threads + Wait + Sync>(
         AreLooks model.now.value script.now r.book.events (all_looks r.looks.items))) }
     // The engine came to the horizon, and its world has the journal's clones; or it met the limit at the last front.
     ensures finished { IfOk result (λ r. IfOk r.run (λ w. IsAtHorizon model.now.value r.book w)) }
-    ensures stopped { IfOk result (λ r. IfErr r.run (λ e. IsStopped model.now.value r.book e)) }
+    ensures stopped { IfOk result (λ r. IfErr r.run (λ e. StopsEngine model.now.value r.book.events e)) }
     // At the horizon, what clones share was counted once; else nothing was.
     ensures steps { IfOk result (λ r. IfOk r.run (λ w.
         steps.new ≡ steps.old + total_handled model.now.value w.clones model.now.value.horizon)) }

@@ -2,11 +2,11 @@
 use Rattle.std.proofs.Common.{◌≡◌, ℕ, zero, suc, ◌+◌, ◌*◌, ◌<◌, ◌≤◌, List, [], ◌∷◌, ◌++◌, length, drop, get_or, set}
 use Rattle.std.proofs.Common.{refl, sym, ap, ◌∙◌, arith, append_assoc, append-nil, length-append}
 use Rattle.std.specs.Prelude.{Result, Ok, Err, OnOk, OnErr}
-use Rattle.std.proofs.lemmas.List.{drop-append-le, get_or_default}
+use Rattle.std.proofs.lemmas.List.{drop-append-le}
 use Rattle.std.proofs.Math.Seq.{drop-append-add}
 use Rattle.sim_base.specs.Blocks.{of_blocks}
 use Rattle.log_chain.specs.Blocks.{AreBlocks}
-use Rattle.log_chain.specs.declared.blocks.TheConstants.{BLOCK}
+use Rattle.log_chain.specs.declared.blocks.TheConstants.{ENTRIES_OF_BLOCK}
 
 module _ {X : Type 0} where
   -- ---- a push: of_blocks and AreBlocks
@@ -24,8 +24,8 @@ module _ {X : Type 0} where
       ∙ sym (append_assoc x (of_blocks (y ∷ ys)) (e ∷ []))
 
   -- which may be full then
-  pub blocks-set_last : (bs : List (List X)) (i : ℕ) (c : List X) → AreBlocks bs → length bs ≡ i + 1 → length c ≤ BLOCK
-      → AreBlocks (set bs i c)
+  pub blocks-set_last : (bs : List (List X)) (i : ℕ) (c : List X) → AreBlocks bs → length bs ≡ i + 1
+      → length c ≤ ENTRIES_OF_BLOCK → AreBlocks (set bs i c)
   blocks-set_last [] i c h long small = absurd (omega (arith, long))
   blocks-set_last (x ∷ []) zero c h long small = small
   blocks-set_last (x ∷ []) (suc i) c h long small = absurd (omega (arith, long))
@@ -38,7 +38,8 @@ module _ {X : Type 0} where
 
   -- to a new block, where the last one is full or there is none
   pub blocks-push : (bs : List (List X)) (b : List X) (e : X) → AreBlocks bs → b ≡ e ∷ []
-      → ((i : ℕ) (l : List X) → length bs ≡ i + 1 → l ≡ get_or bs i l → BLOCK ≤ length l) → AreBlocks (bs ++ b ∷ [])
+      → ((i : ℕ) (l : List X) → length bs ≡ i + 1 → l ≡ get_or bs i l → ENTRIES_OF_BLOCK ≤ length l)
+      → AreBlocks (bs ++ b ∷ [])
   blocks-push [] b e h new full = omega (arith, ap length new)
   blocks-push (x ∷ []) b e h new full =
       (omega (arith, full 0 x (omega arith) refl, h), omega (arith, ap length new))
@@ -50,26 +51,26 @@ module _ {X : Type 0} where
   -- the entries from a place on
   pub all_of-drop : (bs : List (List X)) (i left : ℕ) (b : List X) → AreBlocks bs → i < length bs → b ≡ get_or bs i b
       → left ≤ length b
-      → drop (BLOCK * i + left) (of_blocks bs) ≡ drop left b ++ of_blocks (drop (suc i) bs)
+      → drop (ENTRIES_OF_BLOCK * i + left) (of_blocks bs) ≡ drop left b ++ of_blocks (drop (suc i) bs)
   all_of-drop [] i left b h there here within = absurd (omega (arith, there))
   all_of-drop (x ∷ xs) zero left b h there here within =
-      let at : BLOCK * 0 + left ≡ left = omega arith in
+      let at : ENTRIES_OF_BLOCK * 0 + left ≡ left = omega arith in
       rw at (rw here (drop-append-le left x (of_blocks xs) (omega (arith, within, ap length here))))
   all_of-drop (x ∷ []) (suc i) left b h there here within = absurd (omega (arith, there))
   all_of-drop (x ∷ y ∷ ys) (suc i) left b h there here within =
-      let at : BLOCK * suc i + left ≡ length x + (BLOCK * i + left) = omega (arith, h.0) in
-      rw at (drop-append-add x (of_blocks (y ∷ ys)) (BLOCK * i + left)
+      let at : ENTRIES_OF_BLOCK * suc i + left ≡ length x + (ENTRIES_OF_BLOCK * i + left) = omega (arith, h.0) in
+      rw at (drop-append-add x (of_blocks (y ∷ ys)) (ENTRIES_OF_BLOCK * i + left)
       ∙ all_of-drop (y ∷ ys) i left b h.1 (omega (arith, there)) here within)
 
   -- no blocks have more entries
-  pub all_of-few : (bs : List (List X)) → AreBlocks bs → length (of_blocks bs) ≤ BLOCK * length bs
+  pub all_of-few : (bs : List (List X)) → AreBlocks bs → length (of_blocks bs) ≤ ENTRIES_OF_BLOCK * length bs
   all_of-few [] h = omega arith
   all_of-few (x ∷ []) h = omega (arith, h, length-append x [])
   all_of-few (x ∷ y ∷ ys) h = omega (arith, h.0, length-append x (of_blocks (y ∷ ys)), all_of-few (y ∷ ys) h.1)
 
   -- behind the last entry of a block that is not full is no other
   pub all_of-short : (bs : List (List X)) (i left : ℕ) (b : List X) → AreBlocks bs → i < length bs → b ≡ get_or bs i b
-      → length b ≤ left → left < BLOCK → length (of_blocks bs) ≤ BLOCK * i + left
+      → length b ≤ left → left < ENTRIES_OF_BLOCK → length (of_blocks bs) ≤ ENTRIES_OF_BLOCK * i + left
   all_of-short [] i left b h there here short small = absurd (omega (arith, there))
   all_of-short (x ∷ []) zero left b h there here short small = omega (arith, short, ap length here, length-append x [])
   all_of-short (x ∷ []) (suc i) left b h there here short small = absurd (omega (arith, there))
@@ -84,17 +85,9 @@ module _ {X : Type 0} where
 
 -- a block that a push grows or leaves has at most one entry more
 pub push-length : {X E : Type 0} (r : Result (Unit {0}) E) (old new : List X) (e : X) → OnOk r (new ≡ old ++ e ∷ [])
-    → OnErr r (new ≡ old) → length old < BLOCK → length new ≤ BLOCK
+    → OnErr r (new ≡ old) → length old < ENTRIES_OF_BLOCK → length new ≤ ENTRIES_OF_BLOCK
 push-length (Ok u) old new e ok err small = omega (arith, ap length ok, length-append old (e ∷ []))
 push-length (Err x) old new e ok err small = omega (arith, ap length err)
-
--- ---- get_or
-
--- an element has one value
-pub same_element : {A : Type 0} (xs : List A) (i k : ℕ) (x y : A) → i ≡ k → i < length xs → x ≡ get_or xs i x
-    → y ≡ get_or xs k y → x ≡ y
-same_element xs i k x y same there here also =
-    here ∙ (get_or_default xs i x y there ∙ (ap (λ n. get_or xs n y) same ∙ sym also))
 
 -- ---- OnErr
 

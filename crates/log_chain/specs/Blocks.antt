@@ -1,10 +1,10 @@
 -- The tail of a log: blocks of one size, the last one may be shorter.
 use Rattle.std.specs.Prelude.{◌≡◌, ◌≤◌, List, [], ◌∷◌, length, ⊤}
-use Rattle.log_chain.specs.declared.blocks.TheConstants.{BLOCK}
+use Rattle.log_chain.specs.declared.blocks.TheConstants.{ENTRIES_OF_BLOCK}
 
 module _ {X : Type 0} where
   -- all are full, the last one at most
   abbrev pub AreBlocks : List (List X) → Type 0
   AreBlocks [] = ⊤
-  AreBlocks (b ∷ []) = length b ≤ BLOCK
-  AreBlocks (b ∷ c ∷ bs) = (length b ≡ BLOCK) × AreBlocks (c ∷ bs)
+  AreBlocks (b ∷ []) = length b ≤ ENTRIES_OF_BLOCK
+  AreBlocks (b ∷ c ∷ bs) = (length b ≡ ENTRIES_OF_BLOCK) × AreBlocks (c ∷ bs)

@@ -9,7 +9,7 @@ use sim_base::{Entry, NoMemory};
 use std::alloc::Global;
 
 /// A block has so many entries, the last one at most so many.
-pub const BLOCK: usize = 64;
+pub const ENTRIES_OF_BLOCK: usize = 64;
 
 /// Adds an entry behind those of the blocks: to the last one, or to a new one where that is full.
 pub fn push(blocks: &mut Vec<EntryList>, entry: &Entry) -> Result<(), NoMemory>
@@ -19,10 +19,10 @@ pub fn push(blocks: &mut Vec<EntryList>, entry: &Entry) -> Result<(), NoMemory>
     ensures err { OnErr result (of_blocks blocks.new.items ≡ of_blocks blocks.old.items) }
 {
     let count = blocks.len();
-    if count > 0 && blocks[count - 1].len() < BLOCK {
+    if count > 0 && blocks[count - 1].len() < ENTRIES_OF_BLOCK {
         return blocks[count - 1].push(entry);
     }
-    let mut block = EntryList::with_capacity(*blocks.allocator(), BLOCK)?;
+    let mut block = EntryList::with_capacity(*blocks.allocator(), ENTRIES_OF_BLOCK)?;
     block.push(entry)?;
     blocks.push(block)?;
     Ok(())

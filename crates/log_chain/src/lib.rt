@@ -23,7 +23,7 @@
 //!
 //! A push writes 32 bytes and moves no entry that is there. `share` makes the tail a segment, which takes in those
 //! before it for as long as they are at most twice as long: an entry is copied once for each doubling, and a log of
-//! `MOST_OF_RUN` entries has at most `MOST_SEGMENTS` segments. A walk takes no memory and meets each segment once;
+//! `MOST_HANDLED` entries has at most `MOST_SEGMENTS` segments. A walk takes no memory and meets each segment once;
 //! where times rise it may begin at a time (`walk_from_time`), found by halving.
 //!
 //! Contracts see a log as the list of its entries, so sharing cannot be told from copying: that copies may share their

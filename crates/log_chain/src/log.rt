@@ -3,13 +3,12 @@ ghost use Rattle.std.specs.Prelude.{◌≡◌, ◌++◌, ◌∷◌, [], ◌+◌,
 ghost use Rattle.std.specs.Prelude.{drop, OnOk, OnErr, IfOk, IsTrue, ◌↔◌, slice_index, slice_index_or};
 ghost use Rattle.log_chain.specs.Packing.{FitWords};
 ghost use Rattle.log_chain.specs.Times.{RiseByTime, from_time, times_of};
-ghost use Rattle.log_chain.specs.declared.log.TheConstants.{MOST_OF_RUN, MOST_SEGMENTS};
+ghost use Rattle.sim_base.specs.declared.limits.TheConstants.{MOST_HANDLED};
+ghost use Rattle.log_chain.specs.declared.log.TheConstants.{MOST_SEGMENTS};
 
 use crate::blocks;
 use crate::entry_list::EntryList;
-use crate::segments::{
-    Segment, are_packed, join_segments, place_behind, put_behind, share_segments,
-};
+use crate::segments::{Segment, are_packed, fit_behind, join_segments, put_behind, share_segments};
 use crate::walk::{Walk, from_block, from_segment};
 use sim_base::{Entry, NoMemory};
 use std::alloc::Global;
@@ -18,10 +17,7 @@ use std::marker::Model;
 /// The most entries of a log: so many of 32 bytes are 2^63 bytes, and no list has more.
 pub const MOST_ENTRIES: u64 = 1 << 58;
 
-/// The most entries that a run within the model's limits gives a log.
-pub const MOST_OF_RUN: u64 = 65_536;
-
-/// The most segments of a log of so many entries.
+/// The most segments of a log of `MOST_HANDLED` entries, the most that a run within the model's limits gives one.
 pub const MOST_SEGMENTS: u32 = 16;
 
 /// What a station has handled, in order: a list of entries. Logs may share what they have in common, and each grows by
@@ -85,7 +81,7 @@ impl Log {
         if self.more == 0 {
             return Ok(());
         }
-        let (before, size) = place_behind(self.segments.as_slice(), self.more);
+        let (before, size) = fit_behind(self.segments.as_slice(), self.more);
         let segment = join_segments(
             alloc,
             size,
@@ -206,7 +202,7 @@ impl Log {
     /// How many segments it has. It takes no memory.
     pub fn segments(&self) -> u32
         ensures many { 2 ^ result ≤ length self.now + 1 }
-        ensures few { length self.now ≤ MOST_OF_RUN → result ≤ MOST_SEGMENTS }
+        ensures few { length self.now ≤ MOST_HANDLED → result ≤ MOST_SEGMENTS }
     {
         self.segments.len() as u32
     }

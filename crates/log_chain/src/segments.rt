@@ -28,7 +28,7 @@ pub fn share_segments(alloc: Global, segments: &[Segment]) -> Result<Vec<Segment
 
 /// How many segments stay as they are when `size` entries come behind them, and how long the segment after those is,
 /// which takes in the others.
-pub fn place_behind(segments: &[Segment], size: usize) -> (usize, usize)
+pub fn fit_behind(segments: &[Segment], size: usize) -> (usize, usize)
     requires most { length (entries_in segments.now) + size ≤ MOST_ENTRIES }
     ensures within { result.0 ≤ length segments.now }
     ensures size { result.1 ≡ length (entries_in (drop result.0 segments.now)) + size }

@@ -5,7 +5,7 @@ ghost use Rattle.log_chain.specs.Blocks.{AreBlocks};
 ghost use Rattle.log_chain.specs.Segments.{entries_in};
 ghost use Rattle.log_chain.specs.Stored.{entry_in};
 
-use crate::blocks::BLOCK;
+use crate::blocks::ENTRIES_OF_BLOCK;
 use crate::entry_list::EntryList;
 use crate::packed::PackedEntry;
 use crate::segments::Segment;
@@ -162,12 +162,12 @@ pub fn from_block<'a>(blocks: &'a [EntryList], at: usize) -> Walk<'a>
     requires sizes { AreBlocks blocks.now }
     ensures value { result ≡ drop at (of_blocks blocks.now) }
 {
-    let i = at / BLOCK;
+    let i = at / ENTRIES_OF_BLOCK;
     if i >= blocks.len() {
         return at_end();
     }
     let (packed, wide) = blocks[i].entries();
-    let left = at % BLOCK;
+    let left = at % ENTRIES_OF_BLOCK;
     if left >= packed.len() {
         return at_end();
     }

@@ -6,7 +6,8 @@ use Rattle.std.specs.Fmt.{digits}
 use Rattle.std.specs.List.{AllByRecursion, flat_map, range_with_len}
 use Rattle.sim_base.specs.declared.decision.Decision.{Decision}
 use Rattle.decision_book.specs.Journal.{Situation}
-use Rattle.decision_book.specs.Scripts.{first_refusal, first_refusal_from, lists_of, next, after_all, refusal_or}
+use Rattle.decision_book.specs.Scripts.{first_refusal, first_refusal_from, lists_of}
+use Rattle.decision_book.specs.Scripts.{after_decision, after_all, refusal_or}
 use Rattle.decision_book.specs.Replies.{reply}
 use Rattle.decision_book.specs.declared.call.Reply.TheVariants.{Accepted}
 use Rattle.decision_script.specs.Alone.{decisions}
@@ -20,7 +21,9 @@ use Rattle.sim_base.specs.Clones.{Clone, clones_with_plan, clone_at, place_of}
 use Rattle.decision_book.specs.declared.call.TheConstants.{MOST_CALLS}
 use Rattle.made_study.specs.Branches.{clones_of_plans, last_decisions, own_decision}
 use Rattle.made_study.specs.Nets.{made_net, made_sites, net_with, ward}
-use Rattle.made_study.specs.Numbers.{MOST_WARDS, PLANS, wards, ward_name}
+use Rattle.made_study.specs.Numbers.{wards, ward_name}
+use Rattle.made_study.specs.declared.model.TheConstants.{MOST_WARDS}
+use Rattle.made_study.specs.declared.script.TheConstants.{PLANS}
 use Rattle.made_study.specs.Scripts.{fork_of_plan, made_script, plan_name, set_of_plan}
 
 -- ---- the situations between the plans
@@ -37,11 +40,13 @@ situation_after n others count = situation_with n others (clones_of_plans count)
 -- both decisions of the next plan are accepted, and lead to the situation after it
 record IsNextPlan (n others count : ℕ) : Type 0 where
   fork : reply (situation_after n others count) (fork_of_plan (count + 1)) ≡ Accepted
-  set : reply (next (situation_after n others count) (fork_of_plan (count + 1))) (set_of_plan (count + 1)) ≡ Accepted
-  leads : next (next (situation_after n others count) (fork_of_plan (count + 1))) (set_of_plan (count + 1))
+  set : reply (after_decision (situation_after n others count) (fork_of_plan (count + 1))) (set_of_plan (count + 1))
+      ≡ Accepted
+  leads : after_decision (after_decision (situation_after n others count) (fork_of_plan (count + 1)))
+      (set_of_plan (count + 1))
       ≡ situation_after n others (count + 1)
 
--- ---- reply and next
+-- ---- reply and after_decision
 
 -- the first ward is the third station
 first_ward : (n others : ℕ) → station_named (ward_name 1) (net_with n (suc others)) ≡ Some 3
@@ -75,7 +80,7 @@ set_leads : (net : Net) (clones : List Clone) (calls c at : ℕ) (who station : 
     → reply (record { net = net; clones = clones; front = 0; calls = calls }) (Set who at station change) ≡ Accepted
     → place_of who clones ≡ Some c
     → station_named station net ≡ Some 3
-    → next (record { net = net; clones = clones; front = 0; calls = calls }) (Set who at station change)
+    → after_decision (record { net = net; clones = clones; front = 0; calls = calls }) (Set who at station change)
     ≡ record {
       net = net;
       clones = clones_with_plan clones c (record { at = at; station = 3; change = change });
@@ -104,7 +109,7 @@ clones_after_set count = clones_with_plan (clones_between count) (count + 1) (ow
 abbrev Facts : ℕ → ℕ → ℕ → Type 0
 Facts n others count =
     (reply (situation_after n others count) (fork_of_plan (count + 1)) ≡ Accepted)
-    × (next (situation_after n others count) (fork_of_plan (count + 1)) ≡ situation_between n others count)
+    × (after_decision (situation_after n others count) (fork_of_plan (count + 1)) ≡ situation_between n others count)
     × (nat_le MOST_CALLS (2 * count + 1) ≡ false)
     × (place_of (plan_name (count + 1)) (clones_between count) ≡ Some (count + 1))
     × ((clone_at (clones_between count) (count + 1)).end ≡ None)
@@ -180,13 +185,13 @@ is_next n others count (fork, forks, left, there, going, takes, free, early, add
     let set : reply (situation_between n others count) (set_of_plan (count + 1)) ≡ Accepted =
     set_accepted net clones calls (count + 1) at who (ward_name 1) change left refl there going found takes free early
     late in
-    let leads : next (situation_between n others count) (set_of_plan (count + 1))
+    let leads : after_decision (situation_between n others count) (set_of_plan (count + 1))
     ≡ situation_after n others (count + 1) =
     set_leads net clones calls (count + 1) at who (ward_name 1) change set there found ∙ adds in
     record {
       fork = fork;
       set = ap (λ s. reply s (set_of_plan (count + 1))) forks ∙ set;
-      leads = ap (λ s. next s (set_of_plan (count + 1))) forks ∙ leads;
+      leads = ap (λ s. after_decision s (set_of_plan (count + 1))) forks ∙ leads;
     }
 
 -- ---- first_refusal and after_all
@@ -198,11 +203,13 @@ decisions_of_plans first count = flat_map (λ j. fork_of_plan j ∷ set_of_plan 
 -- two decisions that are accepted are no refusals
 first_refusal_from-Accepted : (s : Situation) (place : ℕ) (d e : Decision) (ds : List Decision)
     → reply s d ≡ Accepted
-    → reply (next s d) e ≡ Accepted
-    → first_refusal_from s place (d ∷ e ∷ ds) ≡ first_refusal_from (next (next s d) e) (place + 1 + 1) ds
+    → reply (after_decision s d) e ≡ Accepted
+    → first_refusal_from s place (d ∷ e ∷ ds)
+    ≡ first_refusal_from (after_decision (after_decision s d) e) (place + 1 + 1) ds
 first_refusal_from-Accepted s place d e ds first second =
-    ap (λ r. refusal_or place r (first_refusal_from (next s d) (place + 1) (e ∷ ds))) first
-    ∙ ap (λ r. refusal_or (place + 1) r (first_refusal_from (next (next s d) e) (place + 1 + 1) ds)) second
+    ap (λ r. refusal_or place r (first_refusal_from (after_decision s d) (place + 1) (e ∷ ds))) first
+    ∙ ap (λ r. refusal_or (place + 1) r
+    (first_refusal_from (after_decision (after_decision s d) e) (place + 1 + 1) ds)) second
 
 -- so none of the plans from here on is refused
 none_refused : (n others before count place : ℕ) → AllByRecursion (Facts n others) (range_with_len before count)

@@ -3,7 +3,7 @@ use Rattle.std.proofs.Common.{◌≡◌, ℕ, ◌+◌, ◌*◌, List, [], ◌∷
 use Rattle.std.specs.Fmt.{digits}
 use Rattle.std.specs.List.{flat_map, range_with_len}
 use Rattle.decision_script.specs.Printing.{canonical_text, line_text, words_of_decision}
-use Rattle.made_study.specs.Numbers.{PLANS}
+use Rattle.made_study.specs.declared.script.TheConstants.{PLANS}
 use Rattle.made_study.specs.Scripts.{fork_of_plan, made_script, set_of_plan}
 
 -- ---- canonical_text

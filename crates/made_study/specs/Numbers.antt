@@ -1,17 +1,10 @@
 -- The numbers of a made study.
 use Rattle.std.specs.Prelude.{ℕ, ◌+◌, ◌*◌, ◌%◌, List, codes, decimal, ◌++◌}
-
--- how many plans a made script has
-abbrev pub PLANS : ℕ
-PLANS = 16
+use Rattle.made_study.specs.declared.model.TheConstants.{MOST_WARDS}
 
 -- the longest time between two arrivals
 abbrev pub longest_gap : ℕ → ℕ
 longest_gap n = 1 + n % 5
-
--- how many wards there are at most
-abbrev pub MOST_WARDS : ℕ
-MOST_WARDS = 8
 
 -- how many wards there are
 abbrev pub wards : ℕ → ℕ

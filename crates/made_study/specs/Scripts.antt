@@ -7,7 +7,8 @@ use Rattle.sim_base.specs.declared.message.Param.TheVariants.{Service}
 use Rattle.decision_script.specs.declared.item.Act.TheVariants.{Decide}
 use Rattle.decision_script.specs.declared.item.Item.{Item}
 use Rattle.decision_script.specs.Stating.{ScriptView}
-use Rattle.made_study.specs.Numbers.{PLANS, ward_name}
+use Rattle.made_study.specs.Numbers.{ward_name}
+use Rattle.made_study.specs.declared.script.TheConstants.{PLANS}
 
 -- what the plan of this number is called
 abbrev pub plan_name : ℕ → List ℕ

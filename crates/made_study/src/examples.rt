@@ -9,11 +9,18 @@ ghost use Rattle.decision_script.specs.Alone.{decisions};
 ghost use Rattle.decision_script.specs.Printing.{canonical_text};
 ghost use Rattle.decision_script.specs.Reading.{script};
 ghost use Rattle.made_study.specs.Branches.{clones_of_plans};
-ghost use Rattle.made_study.specs.Numbers.{PLANS};
 ghost use Rattle.made_study.specs.Nets.{made_net};
 ghost use Rattle.made_study.specs.Scripts.{made_script};
 ghost use Rattle.made_study.specs.Texts.{model_text};
+ghost use Rattle.made_study.specs.declared.model.TheConstants.{MOST_WARDS};
+ghost use Rattle.made_study.specs.declared.script.TheConstants.{PLANS};
 ghost use Rattle.net_model.specs.Text.{model};
+
+/// How many plans a made script has, and how many wards a made model has at most.
+pub fn limits_in_numbers()
+    ensures plans { PLANS ≡ 16 }
+    ensures wards { MOST_WARDS ≡ 8 }
+{}
 
 /// The text of the script is read as the made script.
 pub fn made_script_is_read()

@@ -9,8 +9,8 @@ use sim_base::NoMemory;
 use std::alloc::Global;
 use std::fmt::Write;
 
-// How many wards a made model has at most.
-const MOST_WARDS: u32 = 8;
+/// How many wards a made model has at most.
+pub const MOST_WARDS: u32 = 8;
 
 // How many wards there are.
 fn ward_count(n: u32) -> u32

@@ -7,8 +7,8 @@ use sim_base::NoMemory;
 use std::alloc::Global;
 use std::fmt::Write;
 
-// How many plans every made script has.
-const PLANS: u32 = 16;
+/// How many plans every made script has.
+pub const PLANS: u32 = 16;
 
 // What a plan is a fork of.
 fn write_parent(text: &mut String, j: u32) -> Result<(), NoMemory>

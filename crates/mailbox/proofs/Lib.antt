@@ -1,2 +1,2 @@
 mod Moves
-mod Tellings
+mod SeatsAfterSteps

@@ -15,10 +15,10 @@ use Rattle.mailbox.specs.Mail.{caller_of, worker_of, state_of, IsRight, IsMailbo
 use Rattle.mailbox.specs.Mail.{HasOpened, HasGiven, HasUndone, HasCollected, HasTaken, HasGivenAnswer}
 
 -- whether a seat with this view is the caller's
-abbrev calls : {T : Type 0} → MailView T → Bool
-calls Idle = false
-calls (Working t) = false
-calls _ = true
+abbrev is_caller : {T : Type 0} → MailView T → Bool
+is_caller Idle = false
+is_caller (Working t) = false
+is_caller _ = true
 
 -- the task that a seat has out, or the other where it has none
 abbrev task_or : {T : Type 0} → T → MailView T → T
@@ -35,16 +35,17 @@ module _ {T A : Type 0} where
   -- ---- whose seat it is
 
   -- only the caller, whose seat is the first, has a view of a caller
-  caller_of-is : (mail : Mail T A) (id : ℕ) (v : MailView T) → calls v ≡ true
+  caller_of-is : (mail : Mail T A) (id : ℕ) (v : MailView T) → is_caller v ≡ true
       → get_elem? (caller_of mail ∷ worker_of mail) id ≡ some v → (id ≡ 0) × (caller_of mail ≡ v)
   caller_of-is mail zero v c e = (refl, some-injective _ _ e)
   caller_of-is unshared (suc n) v c e = absurd (some-ne-none v (sym e))
-  caller_of-is unopened (suc zero) v c e = absurd (true≢false (sym c ∙ sym (ap calls (some-injective Idle v e))))
-  caller_of-is empty (suc zero) v c e = absurd (true≢false (sym c ∙ sym (ap calls (some-injective Idle v e))))
-  caller_of-is (waits t) (suc zero) v c e = absurd (true≢false (sym c ∙ sym (ap calls (some-injective Idle v e))))
+  caller_of-is unopened (suc zero) v c e = absurd (true≢false (sym c ∙ sym (ap is_caller (some-injective Idle v e))))
+  caller_of-is empty (suc zero) v c e = absurd (true≢false (sym c ∙ sym (ap is_caller (some-injective Idle v e))))
+  caller_of-is (waits t) (suc zero) v c e = absurd (true≢false (sym c ∙ sym (ap is_caller (some-injective Idle v e))))
   caller_of-is (taken t) (suc zero) v c e =
-      absurd (true≢false (sym c ∙ sym (ap calls (some-injective (Working t) v e))))
-  caller_of-is (answered t a) (suc zero) v c e = absurd (true≢false (sym c ∙ sym (ap calls (some-injective Idle v e))))
+      absurd (true≢false (sym c ∙ sym (ap is_caller (some-injective (Working t) v e))))
+  caller_of-is (answered t a) (suc zero) v c e =
+      absurd (true≢false (sym c ∙ sym (ap is_caller (some-injective Idle v e))))
   caller_of-is unopened (suc (suc n)) v c e = absurd (some-ne-none v (sym e))
   caller_of-is empty (suc (suc n)) v c e = absurd (some-ne-none v (sym e))
   caller_of-is (waits t) (suc (suc n)) v c e = absurd (some-ne-none v (sym e))
@@ -52,14 +53,14 @@ module _ {T A : Type 0} where
   caller_of-is (answered t a) (suc (suc n)) v c e = absurd (some-ne-none v (sym e))
 
   -- and only the worker, whose seat is the second, one of a worker
-  worker_of-is : (mail : Mail T A) (id : ℕ) (v : MailView T) → calls v ≡ false
+  worker_of-is : (mail : Mail T A) (id : ℕ) (v : MailView T) → is_caller v ≡ false
       → get_elem? (caller_of mail ∷ worker_of mail) id ≡ some v → (id ≡ 1) × (worker_of mail ≡ v ∷ [])
-  worker_of-is unshared zero v c e = absurd (true≢false (ap calls (some-injective Alone v e) ∙ c))
-  worker_of-is unopened zero v c e = absurd (true≢false (ap calls (some-injective Opening v e) ∙ c))
-  worker_of-is empty zero v c e = absurd (true≢false (ap calls (some-injective Holding v e) ∙ c))
-  worker_of-is (waits t) zero v c e = absurd (true≢false (ap calls (some-injective (Sent t) v e) ∙ c))
-  worker_of-is (taken t) zero v c e = absurd (true≢false (ap calls (some-injective (Sent t) v e) ∙ c))
-  worker_of-is (answered t a) zero v c e = absurd (true≢false (ap calls (some-injective (Sent t) v e) ∙ c))
+  worker_of-is unshared zero v c e = absurd (true≢false (ap is_caller (some-injective Alone v e) ∙ c))
+  worker_of-is unopened zero v c e = absurd (true≢false (ap is_caller (some-injective Opening v e) ∙ c))
+  worker_of-is empty zero v c e = absurd (true≢false (ap is_caller (some-injective Holding v e) ∙ c))
+  worker_of-is (waits t) zero v c e = absurd (true≢false (ap is_caller (some-injective (Sent t) v e) ∙ c))
+  worker_of-is (taken t) zero v c e = absurd (true≢false (ap is_caller (some-injective (Sent t) v e) ∙ c))
+  worker_of-is (answered t a) zero v c e = absurd (true≢false (ap is_caller (some-injective (Sent t) v e) ∙ c))
   worker_of-is unshared (suc n) v c e = absurd (some-ne-none v (sym e))
   worker_of-is unopened (suc zero) v c e = (refl, ap (λ u. u ∷ []) (some-injective _ _ e))
   worker_of-is empty (suc zero) v c e = (refl, ap (λ u. u ∷ []) (some-injective _ _ e))
@@ -83,7 +84,7 @@ module _ {T A : Type 0} where
 
   -- a step of the caller is allowed that is shown in each state in which the caller knows so much
   Allows-caller : (answers : T → A → Type 0) (slots id : ℕ) (m k : Hand T A) (f : ℕ → ℕ)
-      (tells : Hand T A → ℕ → Hand T A → Type 0) → m ≡ k → calls k.0 ≡ true
+      (tells : Hand T A → ℕ → Hand T A → Type 0) → m ≡ k → is_caller k.0 ≡ true
       → ((mail : Mail T A) → IsRight answers mail → caller_of mail ≡ k.0 → Shows answers k f tells (state_of mail) 0)
       → Allows (IsMailbox answers) slots id m 0 f (tells m)
   Allows-caller answers slots id m k f tells has role shows s held one at small =
@@ -96,7 +97,7 @@ module _ {T A : Type 0} where
 
   -- the same of the worker
   Allows-worker : (answers : T → A → Type 0) (slots id : ℕ) (m k : Hand T A) (f : ℕ → ℕ)
-      (tells : Hand T A → ℕ → Hand T A → Type 0) → m ≡ k → calls k.0 ≡ false
+      (tells : Hand T A → ℕ → Hand T A → Type 0) → m ≡ k → is_caller k.0 ≡ false
       → ((mail : Mail T A) → IsRight answers mail → worker_of mail ≡ k.0 ∷ []
       → Shows answers k f tells (state_of mail) 1)
       → Allows (IsMailbox answers) slots id m 0 f (tells m)

@@ -12,7 +12,7 @@ use Rattle.sim_base.specs.Order.{msg_cmp}
 use Rattle.sim_base.specs.declared.message.Msg.{Msg}
 use Rattle.sim_base.proofs.ListLaws.{all_map}
 use Rattle.sim_base.proofs.OrderLaws.{msg_total}
-use Rattle.sim_base.proofs.Placing.{sorted_insert}
+use Rattle.sim_base.proofs.Placing.{sorted_insert_marked}
 use Rattle.clone_sets.specs.Sets.{has, union}
 use Rattle.clone_sets.proofs.SetLaws.{has-union}
 use Rattle.msg_route.specs.Grouping.{group_onto, group_of, is_for, IsGrouped}
@@ -79,7 +79,7 @@ module _ (m : Msg) (c : ℕ) where
 sorted_onto : (xs q : List (Msg × ℕ)) → SortedMarked msg_cmp q → SortedMarked msg_cmp (group_onto xs q)
 sorted_onto [] q s = s
 sorted_onto (x ∷ xs) q s =
-    sorted_onto xs (insert_marked union msg_cmp x.0 x.1 q) (sorted_insert msg_total union x.0 x.1 q s)
+    sorted_onto xs (insert_marked union msg_cmp x.0 x.1 q) (sorted_insert_marked msg_total union x.0 x.1 q s)
 
 -- marked messages in order are messages in order
 sorted_keys : (q : List (Msg × ℕ)) → SortedMarked msg_cmp q → IsStrictlySortedBy msg_cmp (keys_of q)

@@ -1,15 +1,15 @@
 -- The parts are exactly the nonempty meets.
 use Rattle.std.proofs.Common.{◌≡◌, ◌≢◌, ℕ, zero, suc, ◌+◌, ◌<◌, ◌==◌, Bool, true, false, Some, None}
-use Rattle.std.proofs.Common.{List, [], ◌∷◌, map, length, Less, refl, sym, ap, ◌∙◌, subst, arith, nat_cmp}
+use Rattle.std.proofs.Common.{List, [], ◌∷◌, map, length, Less, refl, ap, ◌∙◌, subst, arith, nat_cmp}
 use Rattle.std.specs.Prelude.{option_map, if◌then◌else◌}
 use Rattle.std.specs.List.{AllByRecursion, Contains, cons_option, enumerate_from, filter_map}
 use Rattle.std.specs.List.Sorted.{IsStrictlySortedBy}
 use Rattle.std.proofs.lemmas.List.Elements.{All-from_recursion, All-weaker}
 use Rattle.std.proofs.lemmas.Bool.{ne_eqb, eqb-false}
 use Rattle.std.proofs.lemmas.Map.Keys.{IsStrictlyIncreasing-from_sorted}
-use Rattle.std.specs.Cmp.{nat_cmp_is}
 use Rattle.sim_base.proofs.Elements.{contains_tail}
 use Rattle.sim_base.proofs.ListLaws.{all_weaker}
+use Rattle.sim_base.proofs.OrderLaws.{nat_cmp-lt}
 use Rattle.clone_sets.specs.Sets.{empty, meet}
 use Rattle.msg_route.specs.Routing.{part_for, parts_of, meet_at, IsShared, IsCut}
 use Rattle.msg_route.specs.declared.parts.Part.{Part}
@@ -95,15 +95,11 @@ module _ (s : ℕ) where
   abbrev numbers : List Part → List ℕ
   numbers parts = map (λ p. p.receiver) parts
 
-  -- a lower number comes before
-  below_less : (n k : ℕ) → n < k → nat_cmp n k ≡ Less
-  below_less n k l = sym (nat_cmp_is n k Less l)
-
   -- later receivers have higher numbers
   above_later : (n : ℕ) (rs : List ℕ) (parts : List Part)
       → AllByRecursion (Among (n + 1) rs) parts → AllByRecursion (λ k. nat_cmp n k ≡ Less) (numbers parts)
   above_later n rs [] h = tt
-  above_later n rs (p ∷ ps) h = (below_less n p.receiver (omega (arith, h.0.number)), above_later n rs ps h.1)
+  above_later n rs (p ∷ ps) h = (nat_cmp-lt n p.receiver (omega (arith, h.0.number)), above_later n rs ps h.1)
 
   -- the numbers rise with one before them
   rising_before : (b : Bool) (n set : ℕ) (parts : List Part)

@@ -7,8 +7,9 @@ use Rattle.std.proofs.lemmas.Bool.{cases_Bool}
 use Rattle.std.proofs.lemmas.Bool.Decides.{nat_tests}
 use Rattle.std.proofs.lemmas.List.{take_min, length-map, drop-replicate, length-replicate, length-append}
 use Rattle.std.proofs.lemmas.Str.{IsUtf8-from_ascii}
-use Rattle.std.proofs.Math.Seq.{drop-append_seam, take-append_seam}
+use Rattle.std.proofs.Math.Seq.{drop-append_seam}
 use Rattle.sim_base.specs.Names.{is_name_byte}
+use Rattle.sim_base.proofs.ListLaws.{take-append}
 use Rattle.net_model.specs.KeyTexts.{display_byte, is_shown, key_text, IsKeyText}
 use Rattle.net_model.specs.declared.key_text.TheConstants.{LONGEST_KEY_TEXT}
 use Rattle.net_model.proofs.AsciiTexts.{IsAscii-list_all}
@@ -36,13 +37,9 @@ is_shown-small b h = grind (arith, nat_tests)
 pub is_shown-IsUtf8 : (bs : List ℕ) → list_all is_shown bs ≡ true → IsUtf8 bs
 is_shown-IsUtf8 bs h = IsUtf8-from_ascii bs (IsAscii-list_all is_shown is_shown-small bs h)
 
--- ---- take, drop
+-- ---- drop
 
--- a prefix of so many bytes
-take-append : (xs ys : List ℕ) (n : ℕ) → length xs ≡ n → take n (xs ++ ys) ≡ xs
-take-append xs ys n h = ap (λ k. take k (xs ++ ys)) (sym h) ∙ take-append_seam xs ys
-
--- and what stands behind it
+-- what stands behind a prefix of so many bytes
 drop-append : (xs ys : List ℕ) (n : ℕ) → length xs ≡ n → drop n (xs ++ ys) ≡ ys
 drop-append xs ys n h = ap (λ k. drop k (xs ++ ys)) (sym h) ∙ drop-append_seam xs ys
 
@@ -54,8 +51,8 @@ module _ (key : List ℕ) (len : ℕ) (copied prefix : List ℕ)
     (copy : copied ≡ take len key)
     (show : prefix ≡ map display_byte (take len (copied ++ drop len (replicate LONGEST_KEY_TEXT 0)))) where
   -- they are not too many
-  short : len ≤ LONGEST_KEY_TEXT
-  short = omega (arith, size)
+  len-bounds : len ≤ LONGEST_KEY_TEXT
+  len-bounds = omega (arith, size)
 
   -- as many are copied
   copied_len : length copied ≡ len
@@ -71,8 +68,8 @@ module _ (key : List ℕ) (len : ℕ) (copied prefix : List ℕ)
   prefix-length = ap length prefix-shown ∙ (length-map copied display_byte ∙ copied_len)
 
   -- zeros stand behind the copied bytes
-  behind : drop len (copied ++ drop len (replicate LONGEST_KEY_TEXT 0)) ≡ replicate (LONGEST_KEY_TEXT - len) 0
-  behind =
+  drop-copied : drop len (copied ++ drop len (replicate LONGEST_KEY_TEXT 0)) ≡ replicate (LONGEST_KEY_TEXT - len) 0
+  drop-copied =
       drop-append copied (drop len (replicate LONGEST_KEY_TEXT 0)) len copied_len
       ∙ drop-replicate len LONGEST_KEY_TEXT 0
 
@@ -87,8 +84,8 @@ module _ (key : List ℕ) (len : ℕ) (copied prefix : List ℕ)
   -- and all the bytes are a key text, with zeros behind it
   pub key_text_padded : IsKeyText (prefix ++ drop len (copied ++ drop len (replicate LONGEST_KEY_TEXT 0))) len
   key_text_padded = record {
-    free = short;
-    size = length-append prefix _ ∙ rw (prefix-length, behind, length-replicate) (omega (arith, short));
-    zeros = drop-append prefix _ len prefix-length ∙ behind;
+    free = len-bounds;
+    size = length-append prefix _ ∙ rw (prefix-length, drop-copied, length-replicate) (omega (arith, len-bounds));
+    zeros = drop-append prefix _ len prefix-length ∙ drop-copied;
     shown = ap (list_all is_shown) (take-append prefix _ len prefix-length ∙ prefix-shown) ∙ list_all-is_shown copied;
   }

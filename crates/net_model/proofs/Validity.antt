@@ -112,7 +112,7 @@ HasWayOut-tested (Delay lo hi) (l ∷ links) some closed = omega arith
 HasWayOut-tested (Router turn) (l ∷ links) some closed = omega arith
 
 -- a station whose links are resolved
-record IsPlaced (format lookahead : ℕ) (all : List DraftSite) (site : Site) : Type 0 where
+record IsResolvedSite (format lookahead : ℕ) (all : List DraftSite) (site : Site) : Type 0 where
   pub named : is_name site.name ≡ true
   pub no_analyst : site.name ≢ codes "analyst"
   pub stream : site.stream ≤ MOST_SEED
@@ -124,7 +124,7 @@ record IsPlaced (format lookahead : ℕ) (all : List DraftSite) (site : Site) : 
 
 -- it is placed, under the name and with the kind of its draft
 abbrev SiteHolds : ℕ → ℕ → List DraftSite → DraftSite → Site → Type 0
-SiteHolds format lookahead all draft site = IsPlaced format lookahead all site × (site.name ≡ draft.name)
+SiteHolds format lookahead all draft site = IsResolvedSite format lookahead all site × (site.name ≡ draft.name)
     × (site.kind ≡ draft.kind)
 
 -- a station that is read is one when its links are resolved
@@ -159,17 +159,17 @@ site_of_draft-holds format lookahead all station draft site is h =
     (record { name = draft.name; kind = draft.kind; stream = draft.stream; links = ls })) same placed)
 
 -- the stations of the network are placed, with the names and kinds of the drafts
-record ArePlaced (format lookahead : ℕ) (all drafts : List DraftSite) (sites : List Site) : Type 0 where
-  pub placed : AllByRecursion (IsPlaced format lookahead all) sites
+record AreResolvedSites (format lookahead : ℕ) (all drafts : List DraftSite) (sites : List Site) : Type 0 where
+  pub placed : AllByRecursion (IsResolvedSite format lookahead all) sites
   pub names : map (λ s. s.name) sites ≡ map (λ x. x.name) drafts
   pub kinds : map (λ s. s.kind) sites ≡ map (λ x. x.kind) drafts
 
 -- so are all that are read, in the order of the drafts
 sites_of-holds : (format lookahead : ℕ) (all : List DraftSite) (station : ℕ) (drafts : List DraftSite)
     (sites : List Site) → AllByRecursion (IsDraft format) drafts → sites_of lookahead all station drafts ≡ Ok sites
-    → ArePlaced format lookahead all drafts sites
+    → AreResolvedSites format lookahead all drafts sites
 sites_of-holds format lookahead all station [] sites are h =
-    subst (λ (ss : List Site). ArePlaced format lookahead all [] ss) (Ok-injective [] sites h)
+    subst (λ (ss : List Site). AreResolvedSites format lookahead all [] ss) (Ok-injective [] sites h)
     (record { placed = tt; names = refl; kinds = refl })
 sites_of-holds format lookahead all station (x ∷ drafts) sites are h =
     let (site, e1, h1) = bind-Ok (site_of_draft lookahead all station x)
@@ -177,7 +177,8 @@ sites_of-holds format lookahead all station (x ∷ drafts) sites are h =
     let (rest, e2, h2) = bind-Ok (sites_of lookahead all (station + 1) drafts) (λ sites. Ok (site ∷ sites)) sites h1 in
     let first = site_of_draft-holds format lookahead all station x site are.0 e1 in
     let others = sites_of-holds format lookahead all (station + 1) drafts rest are.1 e2 in
-    subst (λ (ss : List Site). ArePlaced format lookahead all (x ∷ drafts) ss) (Ok-injective (site ∷ rest) sites h2)
+    subst (λ (ss : List Site). AreResolvedSites format lookahead all (x ∷ drafts) ss)
+    (Ok-injective (site ∷ rest) sites h2)
     (record {
       placed = (first.0, others.placed);
       names = ap (λ n. n ∷ map (λ s. s.name) rest) first.1 ∙ ap (λ ns. x.name ∷ ns) others.names;
@@ -201,29 +202,28 @@ kind_there sites drafts i kinds =
     ∙ (ap (λ ks. slice_get ks i) kinds ∙ slice_get-map (λ x. x.kind) drafts i))
 
 module _ (top : Top) (drafts : List DraftSite) (sites : List Site)
-    (holds : ArePlaced top.format top.lookahead drafts drafts sites) where
+    (holds : AreResolvedSites top.format top.lookahead drafts drafts sites) where
   -- they are as many as their drafts
-  many : length sites ≡ length drafts
-  many = sym (length-map sites (λ s. s.kind)) ∙ (ap length holds.kinds ∙ length-map drafts (λ x. x.kind))
+  length-sites : length sites ≡ length drafts
+  length-sites = sym (length-map sites (λ s. s.kind)) ∙ (ap length holds.kinds ∙ length-map drafts (λ x. x.kind))
 
   -- the station of a number has the kind of the draft of that number
-  numbered : (n i : ℕ) → n ≡ suc i → (site_of (with_sites top sites) n).kind ≡ kind_after i drafts
-  numbered n i is = ap (λ k. (site_of (with_sites top sites) k).kind) is ∙ kind_there sites drafts i holds.kinds
+  site_of-kind : (n i : ℕ) → n ≡ suc i → (site_of (with_sites top sites) n).kind ≡ kind_after i drafts
+  site_of-kind n i is = ap (λ k. (site_of (with_sites top sites) k).kind) is ∙ kind_there sites drafts i holds.kinds
 
   -- a link that is resolved keeps to the rules of the network
   link_is : (link : Link) → IsResolved top.lookahead drafts link → IsLink (with_sites top sites) link
   link_is link r =
       record {
-        first = omega (arith, r.number);
-        last = omega (arith, r.number, r.there, many);
-        receives = ap is_source (numbered link.to r.others (omega (arith, r.number))) ∙ r.receives;
+        is_station = record { low = omega (arith, r.number); high = omega (arith, r.number, r.there, length-sites) };
+        receives = ap is_source (site_of-kind link.to r.others (omega (arith, r.number))) ∙ r.receives;
         slow = r.slow;
         small = r.small;
         weight = r.weight;
       }
 
   -- so does a station that is placed
-  site_is : (site : Site) → IsPlaced top.format top.lookahead drafts site → IsSite (with_sites top sites) site
+  site_is : (site : Site) → IsResolvedSite top.format top.lookahead drafts site → IsSite (with_sites top sites) site
   site_is site p =
       record {
         named = p.named;
@@ -238,7 +238,7 @@ module _ (top : Top) (drafts : List DraftSite) (sites : List Site)
 
   -- and so do all of them
   sites_are : AllByRecursion (IsSite (with_sites top sites)) sites
-  sites_are = all_weaker (IsPlaced top.format top.lookahead drafts) (IsSite (with_sites top sites)) sites site_is
+  sites_are = all_weaker (IsResolvedSite top.format top.lookahead drafts) (IsSite (with_sites top sites)) sites site_is
       holds.placed
 
 -- ---- top_of, stations_at
@@ -357,9 +357,9 @@ sites_of_tables-holds top ds sites is count h =
     sites h in
     let read : AreDrafts top.format [] drafts (length ds) =
     drafts_of-holds top.format [] 1 ds drafts (omega (arith, count.1)) e1 in
-    let placed : ArePlaced top.format top.lookahead drafts drafts sites =
+    let placed : AreResolvedSites top.format top.lookahead drafts drafts sites =
     sites_of-holds top.format top.lookahead drafts 1 drafts sites read.all h1 in
-    let size : length sites ≡ length drafts = many top drafts sites placed in
+    let size : length sites ≡ length drafts = length-sites top drafts sites placed in
     record {
       format = is.format;
       ahead = is.ahead;

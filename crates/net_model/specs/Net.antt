@@ -1,5 +1,5 @@
 -- The network that a model states, as plain data.
-use Rattle.std.specs.Prelude.{ℕ, zero, suc, ◌+◌, List, [], Bool, true}
+use Rattle.std.specs.Prelude.{ℕ, zero, suc, ◌+◌, ◌≤◌, List, [], length, Bool, true}
 use Rattle.std.specs.Prelude.{false, Option, None, slice_get, unwrap_or, position, option_map}
 use Rattle.std.specs.Str.{bytes_eq}
 use Rattle.net_model.specs.declared.station.Kind.{Kind}
@@ -21,6 +21,11 @@ pub record Net : Type 0 where
   pub seed : ℕ
   pub limit : ℕ
   pub sites : List Site
+
+-- the network has a station of this number
+pub record HasStation (net : Net) (s : ℕ) : Type 0 where
+  pub low : 1 ≤ s
+  pub high : s ≤ length net.sites
 
 -- the station of a number
 abbrev pub site_at : Net → ℕ → Option Site
@@ -44,6 +49,11 @@ is_source _ = false
 abbrev pub is_sink : Kind → Bool
 is_sink Sink = true
 is_sink _ = false
+
+-- a station of this kind sends each job on at once, over a link that it chooses
+abbrev pub is_router : Kind → Bool
+is_router (Router turn) = true
+is_router _ = false
 
 -- the class of a source's jobs; 1 where a station is no source
 abbrev pub class_of_kind : Kind → ℕ

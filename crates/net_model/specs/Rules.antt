@@ -6,7 +6,7 @@ use Rattle.sim_base.specs.Names.{is_name}
 use Rattle.net_model.specs.declared.station.Kind.{Kind}
 use Rattle.net_model.specs.declared.station.Kind.TheVariants.{Source, Server, Delay, Router, Sink}
 use Rattle.net_model.specs.declared.station.Link.{Link}
-use Rattle.net_model.specs.Net.{Net, Site, site_of, is_source}
+use Rattle.net_model.specs.Net.{Net, Site, HasStation, site_of, is_source}
 use Rattle.net_model.specs.declared.limits.TheConstants.{MOST_TIME, MOST_HORIZON, MOST_SEED, MOST_LIMIT}
 use Rattle.net_model.specs.declared.limits.TheConstants.{MOST_STATIONS, MOST_LINKS, MOST_JOBS, MOST_CLASS}
 use Rattle.net_model.specs.declared.limits.TheConstants.{MOST_SERVERS, MOST_ROOM, MOST_WEIGHT}
@@ -60,8 +60,7 @@ pub record IsWeight (weight : ℕ) : Type 0 where
 
 -- a link leads to a station that takes jobs, and is no faster than the lookahead
 pub record IsLink (net : Net) (link : Link) : Type 0 where
-  pub first : 1 ≤ link.to
-  pub last : link.to ≤ length net.sites
+  pub is_station : HasStation net link.to
   pub receives : is_source (site_of net link.to).kind ≡ false
   pub slow : net.lookahead ≤ link.delay
   pub small : link.delay ≤ MOST_TIME

@@ -4,6 +4,7 @@ ghost use Rattle.std.specs.List.{list_all};
 ghost use Rattle.net_model.specs.KeyTexts.{display_byte, is_shown, key_text};
 ghost use Rattle.net_model.specs.declared.key_text.TheConstants.{LONGEST_KEY_TEXT};
 
+use sim_base::name::may_follow;
 use std::marker::Model;
 use std::str;
 
@@ -39,10 +40,7 @@ impl Model for KeyText {
 fn shown_byte(byte: u8) -> u8
     ensures { result ≡ display_byte byte }
 {
-    match byte {
-        b'a'..=b'z' | b'0'..=b'9' | b'_' => byte,
-        _ => b'?',
-    }
+    if may_follow(byte) { byte } else { b'?' }
 }
 
 fn show(bytes: &mut [u8])

@@ -3,21 +3,22 @@ ghost use Rattle.std.specs.Prelude.{◌≡◌};
 ghost use Rattle.net_model.specs.Rules.{is_range as is_range_of};
 
 use sim_base::MOST_FILE_BYTES;
+use sim_base::limits::MOST_HANDLED;
 
 /// Bytes of a model's text.
 pub const MOST_BYTES: usize = MOST_FILE_BYTES;
 /// Stations of a model.
 pub const MOST_STATIONS: usize = 64;
 /// Links of a station.
-pub const MOST_LINKS: usize = 16;
+pub const MOST_LINKS: usize = sim_base::limits::MOST_LINKS;
 /// A time of a range, the delay of a link, and the lookahead, in units of simulated time.
-pub const MOST_TIME: u64 = 1_000_000;
+pub const MOST_TIME: u64 = sim_base::limits::MOST_TIME;
 /// The horizon, in units of simulated time.
 pub const MOST_HORIZON: u64 = 1_000_000_000;
 /// The seed of all draws, and the number of a station's stream.
 pub const MOST_SEED: u64 = 9_223_372_036_854_775_807;
 /// The limit: messages that a station may handle in one clone.
-pub const MOST_LIMIT: u64 = 65_536;
+pub const MOST_LIMIT: u64 = MOST_HANDLED;
 /// The limit of a model that states none.
 pub const USUAL_LIMIT: u64 = 16_384;
 /// Jobs that a source makes.
@@ -29,7 +30,7 @@ pub const MOST_SERVERS: u64 = 16;
 /// Jobs that wait at a server: its queue capacity.
 pub const MOST_ROOM: u64 = 4_096;
 /// The weight of a link, which is 1 or more.
-pub const MOST_WEIGHT: u64 = 1_000;
+pub const MOST_WEIGHT: u64 = sim_base::limits::MOST_WEIGHT as u64;
 
 /// Whether the times from `lo` to `hi` are a range: no less than `low`, in order, and no more than [`MOST_TIME`].
 pub fn is_range(low: u64, lo: u64, hi: u64) -> bool

@@ -1,7 +1,7 @@
 //! A model: a queueing network that keeps every rule, with its horizon (stop time) and its lookahead.
 ghost use Rattle.std.specs.Prelude.{◌≡◌, ◌+◌, ◌<◌, ◌≤◌, length, Some, IfSome, position};
 ghost use Rattle.std.specs.Str.{bytes_eq};
-ghost use Rattle.net_model.specs.Net.{class_from, station_named, site_at};
+ghost use Rattle.net_model.specs.Net.{HasStation, class_from, station_named, site_at};
 ghost use Rattle.net_model.specs.Sites.{as_site};
 
 use crate::station::{Kind, Station};
@@ -41,8 +41,7 @@ impl Model {
 
     /// The station of a number, from 1.
     pub fn station(&self, s: u32) -> &Station
-        requires low { 1 ≤ s }
-        requires high { s ≤ length self.now.sites }
+        requires is_station { HasStation self.now s }
         ensures value { site_at self.now s ≡ Some (as_site result.now) }
         ensures valid { IsNet self.now }
     {

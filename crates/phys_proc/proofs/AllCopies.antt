@@ -20,9 +20,9 @@ use Rattle.run_laws.specs.Copies.{Disjoint, Carries, SoFar, IsStepped, AreOver, 
 use Rattle.run_laws.proofs.Queue.{all_in}
 use Rattle.run_laws.proofs.Lists.{append_new}
 use Rattle.run_laws.proofs.Parts.{all_part_of}
-use Rattle.run_laws.proofs.Steps.{so_far_none, so_far_more, stepped, are_over}
+use Rattle.run_laws.proofs.Steps.{so_far_none, so_far_more, IsStepped-SoFar, are_over}
 use Rattle.run_laws.proofs.Gaining.{gained_alone, together_push}
-use Rattle.phys_proc.specs.Own.{StationCopy, MarkedMessages, IsCopy, IsLate, AreLate}
+use Rattle.phys_proc.specs.Own.{StationCopy, MarkedMessages, IsCopy, IsLowerBound, IsLowerBoundOfAll}
 use Rattle.phys_proc.specs.Own.{IsAdvance, IsStepResult, takes_at, all_sizes, handled_alone_by}
 use Rattle.phys_proc.proofs.Counting.{empty_within, all_sizes-append, alone-append}
 use Rattle.phys_proc.proofs.Halves.{same_none}
@@ -108,7 +108,7 @@ module _ (net : Net) (valid : IsNet net) (s : ℕ) (ends : ℕ → ℕ) (bound :
 
   -- a copy with nothing due stays
   advance-idle : (x : StationCopy) (done : List StationCopy) (sent : MarkedMessages) (over : CloneSet) (steps : ℕ)
-      → IsCopy net s x → IsLate bound x
+      → IsCopy net s x → IsLowerBound bound x
       → IsAdvance net s ends bound x done (done ++ x ∷ []) sent sent over over steps steps
   advance-idle x done sent over steps f late =
       advance-done net s ends bound x x x sent sent steps steps (comes_from-start net s ends bound x sent steps f)
@@ -120,7 +120,7 @@ module _ (net : Net) (valid : IsNet net) (s : ℕ) (ends : ℕ → ℕ) (bound :
       done done (done ++ x ∷ []) over over refl refl refl
 
   -- with nothing due in those that are left, they are done as they are
-  stepping_idle : (ys zs : List StationCopy) (steps : ℕ) → AllByRecursion (IsCopy net s) zs → AreLate bound zs
+  stepping_idle : (ys zs : List StationCopy) (steps : ℕ) → AllByRecursion (IsCopy net s) zs → IsLowerBoundOfAll bound zs
       → Disjoint has (ys ++ zs) → IsStepResult net s ends bound ys ys [] empty steps steps
       → IsStepResult net s ends bound (ys ++ zs) (ys ++ zs) [] empty steps steps
   stepping_idle ys [] steps f late dis h = subst (λ u. IsStepResult net s ends bound u u [] empty steps steps)
@@ -133,9 +133,10 @@ module _ (net : Net) (valid : IsNet net) (s : ℕ) (ends : ℕ → ℕ) (bound :
       (advance-idle z ys [] empty steps f.0 late.0)))
 
   -- where no copy has anything due, all stay
-  pub idle : (xs : List StationCopy) (steps : ℕ) → AllByRecursion (IsCopy net s) xs → AreLate bound xs
+  pub IsStepResult-idle : (xs : List StationCopy) (steps : ℕ) → AllByRecursion (IsCopy net s) xs
+      → IsLowerBoundOfAll bound xs
       → Disjoint has xs → IsStepResult net s ends bound xs xs [] empty steps steps
-  idle xs steps f late dis = stepping_idle [] xs steps f late dis (stepping_start steps)
+  IsStepResult-idle xs steps f late dis = stepping_idle [] xs steps f late dis (stepping_start steps)
 
   -- ---- all copies
 
@@ -149,7 +150,7 @@ module _ (net : Net) (valid : IsNet net) (s : ℕ) (ends : ℕ → ℕ) (bound :
 
     -- where no clone is over the limit, each clone has what its own window gives
     pub all_stepped : over ≡ empty → IsStepped (simulation net) has ends s bound xs done sent
-    all_stepped none = stepped (lawful-stations net valid) sets_join ends s bound xs done sent empty over
+    all_stepped none = IsStepped-SoFar (lawful-stations net valid) sets_join ends s bound xs done sent empty over
         good_and_sorted (λ c. ap (λ k. has k c) none ∙ has-empty c) far.far
 
     -- those over the limit are the clones whose own windows give logs that are too long

@@ -86,13 +86,14 @@ module _ (net : Net) (s : ℕ) (ends : ℕ → ℕ) (bound : ℕ) where
       → From first copy start sent steps0 steps → IsSameToClones ends copy new → From first new start sent steps0 steps
   comes_from-same first copy new start sent steps0 steps o h = record {
     fits = copy_same ends net s copy new o.fits h;
-    set = h.set ∙ o.set;
+    set = h.copy.set ∙ o.set;
     taken = o.taken;
-    log = ap length h.log ∙ o.log;
+    log = ap length h.copy.log ∙ o.log;
     counted = o.counted;
     next = λ results after over over_after n e. o.next results after over over_after n
         (comes_to-same (lawful-stations net o.fits.valid) sets_join ends s bound copy new results sent after over
-        over_after n (narrowed_same ends net s copy new h) (λ c i. subst (λ k. has k c ≡ true) (sym h.set) i) e);
+        over_after n (narrowed_same ends net s copy new h) (λ c i. subst (λ k. has k c ≡ true) (sym h.copy.set) i)
+        e);
   }
 
   module _ (first copy new : StationCopy) (start sent : MarkedMessages) (steps0 steps : ℕ)
@@ -107,11 +108,11 @@ module _ (net : Net) (s : ℕ) (ends : ℕ → ℕ) (bound : ℕ) where
     -- a taker is a clone of the copy, and takes the message
     takes_of : (c : ℕ) → has takers c ≡ true → (has new.set c ≡ true) × (takes_at ends m d.marks c ≡ true)
     takes_of c i = let h = and_parts (has copy.set c) (takes_at ends m d.marks c) (sym (d.take c) ∙ i) in
-        (subst (λ k. has k c ≡ true) (sym d.same.set) h.0, h.1)
+        (subst (λ k. has k c ≡ true) (sym d.same.copy.set) h.0, h.1)
 
     -- and a clone that is no taker does not take it
     takes_not : (c : ℕ) → has new.set c ≡ true → has takers c ≡ false → takes_at ends m d.marks c ≡ false
-    takes_not c i none = ap (λ b. b && takes_at ends m d.marks c) (sym (ap (λ k. has k c) (sym d.same.set) ∙ i))
+    takes_not c i none = ap (λ b. b && takes_at ends m d.marks c) (sym (ap (λ k. has k c) (sym d.same.copy.set) ∙ i))
         ∙ sym (d.take c) ∙ none
 
     -- where the takers are all its clones, each takes it
@@ -312,7 +313,7 @@ module _ (net : Net) (s : ℕ) (ends : ℕ → ℕ) (bound : ℕ) where
       let n = comes_from-same first copy new start sent steps0 steps o d.same in (
         n.next (new ∷ []) sent over over 0
             (comes_to-settled (lawful-stations net o.fits.valid) sets_join ends s bound new sent over n.fits.inhabited
-            n.fits.short (λ c i. d.settled c (subst (λ k. has k c ≡ true) d.same.set i))),
+            n.fits.short (λ c i. d.settled c (subst (λ k. has k c ≡ true) d.same.copy.set i))),
         n.fits,
       )
 

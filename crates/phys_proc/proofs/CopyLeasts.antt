@@ -8,23 +8,25 @@ use Rattle.sim_base.specs.declared.message.Msg.{Msg}
 use Rattle.sim_base.proofs.ListLaws.{all_weaker}
 use Rattle.clone_sets.specs.Sets.{union}
 use Rattle.clone_sets.specs.declared.set.CloneSet.{CloneSet}
-use Rattle.phys_proc.specs.Own.{StationCopy, MarkedMessages, IsLate, copy_after_fork}
-use Rattle.phys_proc.proofs.Forks.{late_forked}
+use Rattle.phys_proc.specs.Own.{StationCopy, MarkedMessages, IsLowerBound, copy_after_fork}
+use Rattle.phys_proc.proofs.Forks.{IsLowerBoundOfAll-forked}
 use Rattle.phys_proc.proofs.Sends.{all_inserted}
 
--- ---- AllZip IsLate
+-- ---- AllZip IsLowerBound
 
 -- the time at a place is the time of the copy at that place
-pub least_at : (ts : List ℕ) (xs : List StationCopy) (i d t : ℕ) (x : StationCopy) → AllZip IsLate ts xs
-    → i < length xs → t ≡ get_or ts i d → x ≡ get_or xs i x → IsLate t x
+pub least_at : (ts : List ℕ) (xs : List StationCopy) (i d t : ℕ) (x : StationCopy) → AllZip IsLowerBound ts xs
+    → i < length xs → t ≡ get_or ts i d → x ≡ get_or xs i x → IsLowerBound t x
 least_at ts [] i d t x f l p q = absurd (omega (arith, l))
 least_at [] (y ∷ ys) i d t x f l p q = absurd f
-least_at (u ∷ ts) (y ∷ ys) zero d t x f l p q = subst (λ k. IsLate k x) (sym p) (subst (IsLate u) (sym q) f.0)
+least_at (u ∷ ts) (y ∷ ys) zero d t x f l p q =
+    subst (λ k. IsLowerBound k x) (sym p) (subst (IsLowerBound u) (sym q) f.0)
 least_at (u ∷ ts) (y ∷ ys) (suc i) d t x f l p q = least_at ts ys i d t x f.1 (omega (arith, l)) p q
 
 -- a time and a copy may be set at a place
-pub leasts_set : (ts : List ℕ) (xs : List StationCopy) (i t : ℕ) (x : StationCopy) → AllZip IsLate ts xs → IsLate t x
-    → AllZip IsLate (slice_set ts i t) (slice_set xs i x)
+pub leasts_set : (ts : List ℕ) (xs : List StationCopy) (i t : ℕ) (x : StationCopy) → AllZip IsLowerBound ts xs
+    → IsLowerBound t x
+    → AllZip IsLowerBound (slice_set ts i t) (slice_set xs i x)
 leasts_set [] [] i t x f g = f
 leasts_set [] (y ∷ ys) i t x f g = absurd f
 leasts_set (u ∷ ts) [] i t x f g = absurd f
@@ -32,8 +34,8 @@ leasts_set (u ∷ ts) (y ∷ ys) zero t x f g = (g, f.1)
 leasts_set (u ∷ ts) (y ∷ ys) (suc i) t x f g = (f.0, leasts_set ts ys i t x f.1 g)
 
 -- and both taken out at a place where the copy was set before
-pub leasts_without : (ts : List ℕ) (xs : List StationCopy) (i : ℕ) (y : StationCopy) → AllZip IsLate ts xs
-    → AllZip IsLate (remove ts i) (remove (slice_set xs i y) i)
+pub leasts_without : (ts : List ℕ) (xs : List StationCopy) (i : ℕ) (y : StationCopy) → AllZip IsLowerBound ts xs
+    → AllZip IsLowerBound (remove ts i) (remove (slice_set xs i y) i)
 leasts_without [] [] zero y f = tt
 leasts_without [] [] (suc i) y f = tt
 leasts_without [] (x ∷ xs) i y f = absurd f
@@ -42,8 +44,8 @@ leasts_without (t ∷ ts) (x ∷ xs) zero y f = f.1
 leasts_without (t ∷ ts) (x ∷ xs) (suc i) y f = (f.0, leasts_without ts xs i y f.1)
 
 -- two lists in one
-pub leasts_joined : (ts us : List ℕ) (xs ys : List StationCopy) → AllZip IsLate ts xs → AllZip IsLate us ys
-    → AllZip IsLate (ts ++ us) (xs ++ ys)
+pub leasts_joined : (ts us : List ℕ) (xs ys : List StationCopy) → AllZip IsLowerBound ts xs → AllZip IsLowerBound us ys
+    → AllZip IsLowerBound (ts ++ us) (xs ++ ys)
 leasts_joined [] us [] ys f g = g
 leasts_joined [] us (x ∷ xs) ys f g = absurd f
 leasts_joined (t ∷ ts) us [] ys f g = absurd f
@@ -51,17 +53,17 @@ leasts_joined (t ∷ ts) us (x ∷ xs) ys f g = (f.0, leasts_joined ts us xs ys 
 
 -- a copy more
 pub leasts_put : (ts us : List ℕ) (xs ys : List StationCopy) (t : ℕ) (x : StationCopy) → us ≡ ts ++ t ∷ []
-    → ys ≡ xs ++ x ∷ [] → AllZip IsLate ts xs → IsLate t x → AllZip IsLate us ys
+    → ys ≡ xs ++ x ∷ [] → AllZip IsLowerBound ts xs → IsLowerBound t x → AllZip IsLowerBound us ys
 leasts_put ts us xs ys t x d e f g = rw (d, e) (leasts_joined ts (t ∷ []) xs (x ∷ []) f (g, tt))
 
 -- the times stay where a clone is put beside another
-pub leasts_forked : (old new : ℕ) (ts : List ℕ) (xs : List StationCopy) → AllZip IsLate ts xs
-    → AllZip IsLate ts (map (copy_after_fork old new) xs)
+pub leasts_forked : (old new : ℕ) (ts : List ℕ) (xs : List StationCopy) → AllZip IsLowerBound ts xs
+    → AllZip IsLowerBound ts (map (copy_after_fork old new) xs)
 leasts_forked old new [] [] f = tt
 leasts_forked old new [] (x ∷ xs) f = absurd f
 leasts_forked old new (t ∷ ts) [] f = absurd f
 leasts_forked old new (t ∷ ts) (x ∷ xs) f = (
-  (late_forked old new t (x ∷ []) (f.0, tt)).0,
+  (IsLowerBoundOfAll-forked old new t (x ∷ []) (f.0, tt)).0,
   leasts_forked old new ts xs f.1,
 )
 

@@ -17,7 +17,8 @@ use Rattle.stations.specs.Runs.{simulation}
 use Rattle.sim_base.specs.Marked.{SortedMarked}
 use Rattle.run_laws.specs.Copies.{IsGiven, Carries, Disjoint, takes}
 use Rattle.run_laws.specs.Queue.{insert}
-use Rattle.run_laws.proofs.Parts.{part-insert, sorted_insert_marked}
+use Rattle.run_laws.proofs.Parts.{part-insert}
+use Rattle.sim_base.proofs.Placing.{sorted_insert_marked}
 use Rattle.run_laws.proofs.CopyViews.{takes_join}
 use Rattle.run_laws.proofs.MessageOrder.{messages_ordered}
 use Rattle.std.proofs.lemmas.Bool.{cases_Bool, eqb-false, false≢true, false_from_ne_true, and_parts, not-true}
@@ -33,9 +34,7 @@ module _ (net : Net) (ends : ℕ → ℕ) (m : Msg) (k : CloneSet) where
       IsGiven (simulation net) has ends m k a
       (record a { pending = cond none a.pending (insert_marked union msg_cmp m (meet a.set k) a.pending) })
   given_by true a e s = record {
-    set = refl;
-    log = refl;
-    state = refl;
+    same = record { set = refl; log = refl; state = refl };
     parts = λ c i. sym (ap (λ b. cond (b && nat_lt m.key.time (ends c)) (insert msg_cmp m (taken_at ends c a.pending))
         (taken_at ends c a.pending)) (no_one c i));
     sorted = s;
@@ -45,15 +44,12 @@ module _ (net : Net) (ends : ℕ → ℕ) (m : Msg) (k : CloneSet) where
       no_one c i = ap (λ b. b && has k c) (sym i)
           ∙ (sym (has-meet a.set k c) ∙ (ap (λ x. has x c) (eqb-true (meet a.set k) empty e) ∙ has-empty c))
   given_by false a e s = record {
-    set = refl;
-    log = refl;
-    state = refl;
+    same = record { set = refl; log = refl; state = refl };
     parts = λ c i. part-insert (takes (simulation net) has ends) union (takes_join (simulation net) sets_join ends)
         messages_ordered c m (meet a.set k) a.pending s
         ∙ ap (λ b. cond (b && nat_lt m.key.time (ends c)) (insert msg_cmp m (taken_at ends c a.pending))
         (taken_at ends c a.pending)) (has-meet a.set k c ∙ ap (λ b. b && has k c) i);
-    sorted = sorted_insert_marked (takes (simulation net) has ends) union (takes_join (simulation net) sets_join ends)
-        messages_ordered m (meet a.set k) a.pending s;
+    sorted = sorted_insert_marked messages_ordered.total union m (meet a.set k) a.pending s;
   }
 
   -- in a copy to which it is given, a message is pending besides for the clones that take it

@@ -6,7 +6,7 @@ use Rattle.clone_sets.specs.declared.set.CloneSet.{CloneSet}
 use Rattle.net_model.specs.Net.{Net}
 use Rattle.run_laws.proofs.Parts.{all_part_of}
 use Rattle.phys_proc.specs.Own.{StationCopy, MarkedMessages, IsCopy, IsAdvance, ComesFrom, NextDue, NothingDue, half}
-use Rattle.phys_proc.specs.Own.{IsLate, may_handle, takes_at}
+use Rattle.phys_proc.specs.Own.{IsLowerBound, may_handle, takes_at}
 use Rattle.phys_proc.specs.Stops.{IsFull, IsParting}
 use Rattle.phys_proc.proofs.Halves.{same_none}
 use Rattle.phys_proc.proofs.ComesFrom.{comes_from-start, advance-done, advance-over, advance-split, advance-from}
@@ -19,11 +19,11 @@ module _ (ends : ℕ → ℕ) (bound : ℕ) (a b : StationCopy) where
   pub settled_here : NothingDue ends bound a b → NothingDue ends bound b b
   settled_here d = record {
     same = same_none ends b;
-    settled = λ c i. d.settled c (subst (λ k. has k c ≡ true) d.same.set i);
+    settled = λ c i. d.settled c (subst (λ k. has k c ≡ true) d.same.copy.set i);
   }
 
   -- where nothing of b is pending before the bound, nothing of b is due
-  pub idle_here : IsLate bound b → NothingDue ends bound b b
+  pub idle_here : IsLowerBound bound b → NothingDue ends bound b b
   idle_here late = record {
     same = same_none ends b;
     settled = λ c i. all_part_of (takes_at ends) c (λ (m : Msg). bound ≤ m.key.time) b.pending late;
@@ -37,7 +37,7 @@ module _ (ends : ℕ → ℕ) (bound : ℕ) (a b : StationCopy) where
     rest = d.rest;
     pending = d.pending;
     early = d.early;
-    take = λ c. d.take c ∙ ap (λ k. has k c && takes_at ends m d.marks c) (sym d.same.set);
+    take = λ c. d.take c ∙ ap (λ k. has k c && takes_at ends m d.marks c) (sym d.same.copy.set);
     some = d.some;
   }
 
@@ -46,36 +46,37 @@ module _ (ends : ℕ → ℕ) (bound : ℕ) (a b : StationCopy) where
 module _ (net : Net) (s : ℕ) (ends : ℕ → ℕ) (bound : ℕ) (copy : StationCopy) (sent : MarkedMessages) (steps : ℕ)
     (fits : IsCopy net s copy) where
   -- the copy has come as far as itself
-  abbrev begun : ComesFrom net s ends bound copy copy sent sent steps steps
-  begun = comes_from-start net s ends bound copy sent steps fits
+  abbrev comes_from-copy : ComesFrom net s ends bound copy copy sent sent steps steps
+  comes_from-copy = comes_from-start net s ends bound copy sent steps fits
 
   -- a copy of which nothing is due is done as it is
   pub advance-settled : (done new : List StationCopy) (over : CloneSet) → NothingDue ends bound copy copy
       → new ≡ done ++ copy ∷ [] → IsAdvance net s ends bound copy done new sent sent over over steps steps
-  advance-settled done new over d e = advance-done net s ends bound copy copy copy sent sent steps steps begun d done
-      done new over over refl refl e
+  advance-settled done new over d e = advance-done net s ends bound copy copy copy sent sent steps steps
+      comes_from-copy d done done new over over refl refl e
 
   -- of a copy that is full nothing comes, and all its clones go over the limit
   pub advance-full : (done : List StationCopy) (over new : CloneSet) → IsFull net.limit ends bound copy
       → new ≡ union over copy.set → IsAdvance net s ends bound copy done done sent sent over new steps steps
-  advance-full done over new x e = advance-over net s ends bound copy copy copy sent sent steps steps begun x.msg
-      x.takers x.due done done over over new refl refl x.all x.full e
+  advance-full done over new x e = advance-over net s ends bound copy copy copy sent sent steps steps
+      comes_from-copy x.msg x.takers x.due done done over over new refl refl x.all x.full e
 
   module _ (takers : CloneSet) (x : IsParting ends bound copy takers) where
     -- the half for those that take the message is a copy of the station
     pub some_fits : (a : StationCopy) → a ≡ half copy takers → IsCopy net s a
     some_fits a e = subst (IsCopy net s) (sym e)
-        (first_half net s ends bound copy copy copy sent sent steps steps begun x.msg takers x.due)
+        (first_half net s ends bound copy copy copy sent sent steps steps comes_from-copy x.msg takers x.due)
 
     -- and so is the half for the others
     pub others_fit : (a : StationCopy) → a ≡ half copy (minus copy.set takers) → IsCopy net s a
     others_fit a e = subst (IsCopy net s) (sym e)
-        (second_half net s ends bound copy copy copy sent sent steps steps begun x.msg takers x.due x.differ)
+        (second_half net s ends bound copy copy copy sent sent steps steps comes_from-copy x.msg takers x.due x.differ)
 
     -- the half for those that take the message has fewer clones than the copy
     pub some_smaller : (a b : StationCopy) → a ≡ half copy takers → b.set ≡ a.set → size b.set < size copy.set
     some_smaller a b e f =
-        let h = first_smaller net s ends bound copy copy copy sent sent steps steps begun x.msg takers x.due x.differ in
+        let h = first_smaller net s ends bound copy copy copy sent sent steps steps comes_from-copy x.msg takers x.due
+        x.differ in
         let k = ap (λ (u : StationCopy). size u.set) e in
         let l = ap size f in
         omega (arith, h, k, l)
@@ -84,7 +85,8 @@ module _ (net : Net) (s : ℕ) (ends : ℕ → ℕ) (bound : ℕ) (copy : Statio
     pub others_smaller : (a b : StationCopy) → a ≡ half copy (minus copy.set takers) → b.set ≡ a.set
         → size b.set < size copy.set
     others_smaller a b e f =
-        let h = second_smaller net s ends bound copy copy copy sent sent steps steps begun x.msg takers x.due in
+        let h = second_smaller net s ends bound copy copy copy sent sent steps steps comes_from-copy x.msg takers
+        x.due in
         let k = ap (λ (u : StationCopy). size u.set) e in
         let l = ap size f in
         omega (arith, h, k, l)
@@ -93,7 +95,7 @@ module _ (net : Net) (s : ℕ) (ends : ℕ → ℕ) (bound : ℕ) (copy : Statio
     pub both_few : (a b : StationCopy) → a ≡ half copy takers → b ≡ half copy (minus copy.set takers)
         → may_handle net.limit a + may_handle net.limit b ≡ may_handle net.limit copy
     both_few a b e f =
-        let h = parts_few net s ends bound copy copy copy sent sent steps steps begun x.msg takers x.due in
+        let h = parts_few net s ends bound copy copy copy sent sent steps steps comes_from-copy x.msg takers x.due in
         let k = ap (may_handle net.limit) e in
         let l = ap (may_handle net.limit) f in
         omega (arith, h, k, l)
@@ -117,7 +119,7 @@ module _ (net : Net) (s : ℕ) (ends : ℕ → ℕ) (bound : ℕ) (copy : Statio
         steps4
         (subst (λ k. IsAdvance net s ends bound b1 k done4 sent3 sent4 over2 over4 steps3 steps4) d3
         (subst (λ k. IsAdvance net s ends bound b1 done3 done4 sent3 sent4 k over4 steps3 steps4) o3 adv_b)) in
-        advance-split net s ends bound copy copy copy sent sent steps steps begun x.msg takers x.due done done done2
-        done4 sent2 sent4 over over over2 over4 steps2 steps4 refl refl
+        advance-split net s ends bound copy copy copy sent sent steps steps comes_from-copy x.msg takers x.due
+        done done done2 done4 sent2 sent4 over over over2 over4 steps2 steps4 refl refl
         (subst (λ u. IsAdvance net s ends bound u done done2 sent sent2 over over2 steps steps2) is_a a_here)
         (subst (λ u. IsAdvance net s ends bound u done2 done4 sent2 sent4 over2 over4 steps2 steps4) is_b b_here)

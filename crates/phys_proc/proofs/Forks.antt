@@ -21,8 +21,8 @@ use Rattle.sim_base.specs.Marked.{SortedMarked}
 use Rattle.run_laws.specs.Copies.{IsForked, Carries, Disjoint, origin_of, part}
 use Rattle.std.proofs.lemmas.Bool.{false≢true}
 use Rattle.sim_base.proofs.ListLaws.{all_weaker}
-use Rattle.phys_proc.specs.Own.{StationCopy, MarkedMessages, AreMarks, IsCopy, IsLate}
-use Rattle.phys_proc.specs.Own.{AreLate, copy_after_fork, taken_at, all_clones, handled_alone_by}
+use Rattle.phys_proc.specs.Own.{StationCopy, MarkedMessages, AreMarks, IsCopy, IsLowerBound}
+use Rattle.phys_proc.specs.Own.{IsLowerBoundOfAll, copy_after_fork, taken_at, all_clones, handled_alone_by}
 use Rattle.phys_proc.specs.Procs.{KeepsShares}
 use Rattle.phys_proc.proofs.Counting.{empty_within, size_disjoint}
 
@@ -309,8 +309,9 @@ module _ (old new : ℕ) where
   )
 
   -- a copy has no fewer clones then
-  larger : (x : StationCopy) → has x.set new ≡ false → size x.set ≤ size (copy_after_fork old new x).set
-  larger x n = subst (λ k. size x.set ≤ size k) (sym (set_is x)) (by_test (is_some (common x.set (one old))))
+  size-copy_after_fork : (x : StationCopy) → has x.set new ≡ false → size x.set ≤ size (copy_after_fork old new x).set
+  size-copy_after_fork x n = subst (λ k. size x.set ≤ size k) (sym (set_is x))
+      (by_test (is_some (common x.set (one old))))
     where
       by_test : (b : Bool) → size x.set ≤ size (cond b (union x.set (one new)) x.set)
       by_test true =
@@ -326,7 +327,7 @@ module _ (old new : ℕ) where
   more_alone [] n = omega arith
   more_alone (x ∷ xs) n =
       let h = more_alone xs n.1 in
-      let m = mul-le-mul_right (length x.log) (larger x n.0) in
+      let m = mul-le-mul_right (length x.log) (size-copy_after_fork x n.0) in
       let e = ap (λ l. size (copy_after_fork old new x).set * length l) (log_is x) in
       omega (arith, h, m, e)
 
@@ -352,14 +353,15 @@ module _ (old new : ℕ) where
         once = let h = k.once in let m = more_alone xs fresh in omega (arith, h, m);
       }
 
-  -- ---- AreLate
+  -- ---- IsLowerBoundOfAll
 
   -- where nothing of the copies is pending before a time, nothing is with the new clone
-  pub late_forked : (t : ℕ) (xs : List StationCopy) → AreLate t xs → AreLate t (map (copy_after_fork old new) xs)
-  late_forked t [] f = tt
-  late_forked t (x ∷ xs) f = (by_test (has x.set old), late_forked t xs f.1)
+  pub IsLowerBoundOfAll-forked : (t : ℕ) (xs : List StationCopy) → IsLowerBoundOfAll t xs
+      → IsLowerBoundOfAll t (map (copy_after_fork old new) xs)
+  IsLowerBoundOfAll-forked t [] f = tt
+  IsLowerBoundOfAll-forked t (x ∷ xs) f = (by_test (has x.set old), IsLowerBoundOfAll-forked t xs f.1)
     where
-      by_test : (b : Bool) → IsLate t
+      by_test : (b : Bool) → IsLowerBound t
           (cond b (record { set = with x.set new; state = x.state; log = x.log; pending = spread old new x.pending }) x)
       by_test true = all_spread old new (λ m. t ≤ m.key.time) x.pending f.0
       by_test false = f.0

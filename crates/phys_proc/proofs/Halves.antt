@@ -193,16 +193,19 @@ module _ (ends : ℕ → ℕ) where
 
   -- nothing was passed over yet
   pub same_none : (a : StationCopy) → IsSameToClones ends a a
-  same_none a = record { set = refl; state = refl; log = refl; parts = λ c h. refl; passed = []; pending = refl }
+  same_none a = record {
+    copy = record { set = refl; log = refl; state = refl };
+    parts = λ c h. refl;
+    passed = [];
+    pending = refl;
+  }
 
   -- one message more
   pub same_more : (a b d : StationCopy) (m : Msg) (k : CloneSet) → IsSameToClones ends a b
       → b.pending ≡ (m, k) ∷ d.pending → d.set ≡ b.set → d.state ≡ b.state → d.log ≡ b.log
       → ((c : ℕ) → has a.set c ≡ true → takes_at ends m k c ≡ false) → IsSameToClones ends a d
   same_more a b d m k h p set state log none = record {
-    set = set ∙ h.set;
-    state = state ∙ h.state;
-    log = log ∙ h.log;
+    copy = record { set = set ∙ h.copy.set; log = log ∙ h.copy.log; state = state ∙ h.copy.state };
     parts = λ c i. sym (ap (taken_at ends c) p ∙ part_no (takes_at ends) c (m, k) d.pending (none c i)) ∙ h.parts c i;
     passed = h.passed ++ (m, k) ∷ [];
     pending = h.pending ∙ (ap (λ l. h.passed ++ l) p ∙ sym (append_assoc h.passed ((m, k) ∷ []) d.pending));
@@ -213,28 +216,28 @@ module _ (ends : ℕ → ℕ) where
     pub copy_same : (a b : StationCopy) → IsCopy net s a → IsSameToClones ends a b → IsCopy net s b
     copy_same a b f h = record {
       valid = f.valid;
-      inhabited = (f.inhabited.0, subst (λ k. has k f.inhabited.0 ≡ true) (sym h.set) f.inhabited.1);
-      fits = rw h.state f.fits;
-      suits = rw h.state f.suits;
-      station = rw h.state f.station;
-      handled = rw (h.state, h.log) f.handled;
-      short = rw h.log f.short;
+      inhabited = (f.inhabited.0, subst (λ k. has k f.inhabited.0 ≡ true) (sym h.copy.set) f.inhabited.1);
+      fits = rw h.copy.state f.fits;
+      suits = rw h.copy.state f.suits;
+      station = rw h.copy.state f.station;
+      handled = rw (h.copy.state, h.copy.log) f.handled;
+      short = rw h.copy.log f.short;
       sorted = sorted_rest h.passed b.pending (subst (SortedMarked msg_cmp) h.pending f.sorted);
       targets = all_right (λ x. x.0.to ≡ s) h.passed b.pending
           (subst (AllByRecursion (λ x. x.0.to ≡ s)) h.pending f.targets);
-      replays = rw (h.state, h.log) f.replays;
+      replays = rw (h.copy.state, h.copy.log) f.replays;
       marks = all_right (λ x. AreMarks b.set x.1) h.passed b.pending
           (subst (AllByRecursion (λ x. AreMarks b.set x.1)) h.pending
-          (subst (λ k. AllByRecursion (λ x. AreMarks k x.1) a.pending) (sym h.set) f.marks));
+          (subst (λ k. AllByRecursion (λ x. AreMarks k x.1) a.pending) (sym h.copy.set) f.marks));
     }
 
     -- and its clones see what they saw
     pub narrowed_same : (a b : StationCopy) → IsSameToClones ends a b → IsNarrowed (simulation net) has ends a b
     narrowed_same a b h = record {
-      state = h.state;
-      log = h.log;
-      within = λ c i. subst (λ k. has k c ≡ true) h.set i;
-      parts = λ c i. h.parts c (subst (λ k. has k c ≡ true) h.set i);
+      state = h.copy.state;
+      log = h.copy.log;
+      within = λ c i. subst (λ k. has k c ≡ true) h.copy.set i;
+      parts = λ c i. h.parts c (subst (λ k. has k c ≡ true) h.copy.set i);
     }
 
     -- a copy for some of the clones is a copy
@@ -274,7 +277,7 @@ module _ (horizon : ℕ) (es : List (ℕ × ℕ)) (bound : ℕ) (early : bound �
   -- the takers are the clones of the copy that take the message
   takers_are : (c : ℕ) → has takers c ≡ (has a.set c && takes_at (ends_in horizon es) m k c)
   takers_are c =
-      left c ∙ ap (λ x. x && not (has gone c)) (meets c ∙ ap (λ s. has s c && has k c) same.set)
+      left c ∙ ap (λ x. x && not (has gone c)) (meets c ∙ ap (λ s. has s c && has k c) same.copy.set)
       ∙ and_assoc (has a.set c) (has k c) (not (has gone c))
       ∙ ap (λ x. has a.set c && x) (and_not (has k c) (has gone c) (nat_lt m.key.time (ends_in horizon es c))
       (went c ∙ has_ended-is horizon m.key.time es c (omega arith)))

@@ -19,7 +19,7 @@ use Rattle.run_laws.proofs.Queue.{all_in, all_from}
 use Rattle.run_laws.proofs.Lists.{in_append, append_old, append_new}
 use Rattle.run_laws.proofs.ComesTo.{disjoint_append}
 use Rattle.phys_proc.specs.Own.{StationCopy, MarkedMessages, IsCopy, IsAdvance, ComesFrom, IsStepResult, NothingDue}
-use Rattle.phys_proc.specs.Own.{IsLate, all_sizes, may_handle}
+use Rattle.phys_proc.specs.Own.{IsLowerBound, all_sizes, may_handle}
 use Rattle.phys_proc.proofs.Counting.{alone-append}
 use Rattle.phys_proc.proofs.Shares.{few_next}
 use Rattle.phys_proc.proofs.AllCopies.{holds_at, disjoint_apart, stepping_start, stepping_more}
@@ -136,8 +136,12 @@ module _ (net : Net) (s : ℕ) (ends : ℕ → ℕ) (bound : ℕ) where
       let far = f.far in
       record {
         far = record {
-          inhabited = λ z i. far.inhabited z (back z i);
-          from = λ z i. far.from z (back z i);
+          split = record {
+            inhabited = λ z i. far.split.inhabited z (back z i);
+            from = λ z i. far.split.from z (back z i);
+            parted = λ z y w c d i j k. far.split.parted z y w c d i (back y j) (back w k);
+            disjoint = disjoint_swapped a m b far.split.disjoint;
+          };
           carried = λ z c i k. elim (far.carried z c i k) [
             | inl x ↦ inl (x.0, swapped_in a b m x.0 x.1, x.2)
             | inr x ↦ inr x
@@ -145,8 +149,6 @@ module _ (net : Net) (s : ℕ) (ends : ℕ → ℕ) (bound : ℕ) where
           ran = λ z y c i j. far.ran z y c i (back y j);
           short = λ z i. far.short z (back z i);
           too_long = far.too_long;
-          parted = λ z y w c d i j k. far.parted z y w c d i (back y j) (back w k);
-          disjoint = disjoint_swapped a m b far.disjoint;
           idle = far.idle;
         };
         count = f.count;
@@ -256,7 +258,7 @@ module _ (net : Net) (valid : IsNet net) (s : ℕ) (ends : ℕ → ℕ) (bound :
         }
 
     -- nothing of it is pending before the bound, so it stays as it is
-    pub stepped_to-idle : Disjoint has all → IsCopy net s x → IsLate bound x
+    pub stepped_to-idle : Disjoint has all → IsCopy net s x → IsLowerBound bound x
         → IsSteppedTo net s ends bound all (i + 1) cs more sent over steps0 steps
     stepped_to-idle dis fits late = stepped_to-next dis x cs more sent over steps
         (comes_from-start net s ends bound x sent steps fits) (idle_here ends bound x x late) (set_same cs i x is) refl

@@ -21,7 +21,7 @@ use Rattle.run_laws.proofs.Queue.{all_in}
 use Rattle.run_laws.proofs.Parts.{all_part_of}
 use Rattle.sim_base.proofs.Elements.{in_cons_if, cons_if_new}
 use Rattle.run_laws.proofs.Lists.{in_append, append_old, append_new}
-use Rattle.phys_proc.specs.Own.{StationCopy, MarkedMessages, IsLate, takes_at, taken_at}
+use Rattle.phys_proc.specs.Own.{StationCopy, MarkedMessages, IsLowerBound, takes_at, taken_at}
 use Rattle.phys_proc.specs.Procs.{IsTakenBy, IsLeastTime, IsLeastOf, IsLeast, IsWithCopy}
 use Rattle.phys_proc.specs.Ends.{ends_in, has_ended}
 use Rattle.phys_proc.proofs.Ends.{has_ended-is, ends_in-bound}
@@ -279,7 +279,7 @@ module _ (horizon : ℕ) (es : List (ℕ × ℕ)) (set alive : CloneSet) (q : Ma
 -- ---- IsLeastTime, of two classes of messages
 
 -- the least time of a class is that of the same class in other words
-least_as : (P R : Msg → Type 0) (t : Option ℕ) → ((m : Msg) → P m → R m) → ((m : Msg) → R m → P m)
+pub least_as : (P R : Msg → Type 0) (t : Option ℕ) → ((m : Msg) → P m → R m) → ((m : Msg) → R m → P m)
     → IsLeastTime P t → IsLeastTime R t
 least_as P R None f e a = λ m r. a m (e m r)
 least_as P R (Some t) f e a = ((a.0.0, f a.0.0 a.0.1, a.0.2), λ m r. a.1 m (e m r))
@@ -343,7 +343,7 @@ module _ (ends : ℕ → ℕ) (xs all : List StationCopy) (x : StationCopy) (who
       a b
 
   -- the least so far stays where nothing of the copy is pending earlier
-  least_stays : (time : ℕ) → IsLeast ends xs (Some time) → IsLate time x → IsLeast ends all (Some time)
+  least_stays : (time : ℕ) → IsLeast ends xs (Some time) → IsLowerBound time x → IsLeast ends all (Some time)
   least_stays time h late = (
     (h.0.0, (h.0.1.0, still_by h.0.1.0 h.0.0 h.0.1.1), h.0.2),
     λ m t. elim (by_one_of t.0 m t.1) [

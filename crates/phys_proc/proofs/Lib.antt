@@ -8,7 +8,7 @@ pub mod AllCopies
 pub mod Delivery
 pub mod Opening
 pub mod Forks
-pub mod Late
+pub mod LowerBounds
 pub mod Shares
 pub mod LeastTimes
 pub mod RackViews

@@ -92,7 +92,8 @@ module _ (net : Net) (s : ℕ) (ends : ℕ → ℕ) (bound : ℕ) (old new : Lis
   -- all copies together have the clones that they had
   same_clones : (c : ℕ) → has (all_clones new) c ≡ has (all_clones old) c
   same_clones c = elim (cases_Bool (has (all_clones new) c)) [
-    | inl y ↦ let k = in_some new c y in let f = stepped.from k.0 k.1 in y ∙ sym (some_in old f.0 c f.1 (f.2 c k.2))
+    | inl y ↦ let k = in_some new c y in let f = stepped.split.from k.0 k.1 in
+        y ∙ sym (some_in old f.0 c f.1 (f.2 c k.2))
     | inr n ↦ elim (cases_Bool (has (all_clones old) c)) [
       | inl y ↦ let k = in_some old c y in let g = stepped.carried k.0 c k.1 k.2 in
           absurd (false≢true (sym n ∙ some_in new g.0 c g.1 g.2))
@@ -106,8 +107,9 @@ module _ (net : Net) (s : ℕ) (ends : ℕ → ℕ) (bound : ℕ) (old new : Lis
       → KeepsShares (record { station = s; living = living; handled = handled + more; copies = new })
   shares_after living handled more e l m = record {
     shares = record {
-      inhabited = all_from (λ a. a.set ≢ empty) new (λ b i. let c = stepped.inhabited b i in not_empty b.set c.0 c.1);
-      disjoint = stepped.disjoint;
+      inhabited = all_from (λ a. a.set ≢ empty) new
+          (λ b i. let c = stepped.split.inhabited b i in not_empty b.set c.0 c.1);
+      disjoint = stepped.split.disjoint;
       together = same_members (all_clones new) (all_clones old) same_clones ∙ e;
     };
     once = omega (arith, l, m);

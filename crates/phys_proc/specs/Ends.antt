@@ -1,5 +1,5 @@
 -- When clones end.
-use Rattle.std.specs.Prelude.{ℕ, ◌<◌, ◌==◌, ◌&&◌, ◌||◌, Bool, false, List, [], ◌∷◌, if◌then◌else◌, min, nat_le}
+use Rattle.std.specs.Prelude.{◌≡◌, ℕ, ◌<◌, ◌==◌, ◌&&◌, ◌||◌, Bool, false, List, [], ◌∷◌, if◌then◌else◌, min, nat_le}
 use Rattle.std.specs.List.{AllByRecursion}
 use Rattle.sim_base.specs.declared.lists.TheConstants.{MOST_CLONES}
 
@@ -7,6 +7,11 @@ use Rattle.sim_base.specs.declared.lists.TheConstants.{MOST_CLONES}
 abbrev pub ends_in : ℕ → List (ℕ × ℕ) → ℕ → ℕ
 ends_in horizon [] c = horizon
 ends_in horizon (e ∷ es) c = if e.0 == c then min e.1 (ends_in horizon es c) else ends_in horizon es c
+
+-- the clone ends at that time too: the lesser of it and its end so far counts, and the others end as they did
+abbrev pub EndsWith : ℕ → ℕ → List (ℕ × ℕ) → List (ℕ × ℕ) → Type 0
+EndsWith clone at old new = (horizon c : ℕ) → ends_in horizon new c ≡
+    (if clone == c then min at (ends_in horizon old c) else ends_in horizon old c)
 
 -- whether a clone has ended at a time
 abbrev pub has_ended : ℕ → List (ℕ × ℕ) → ℕ → Bool

@@ -1,13 +1,14 @@
 -- Copies at the types of the program.
 use Rattle.std.specs.Prelude.{◌≡◌, ◌≢◌, ℕ, ◌+◌, ◌*◌, ◌-◌, ◌<◌, ◌≤◌, ◌==◌, if◌then◌else◌, ◌&&◌}
-use Rattle.std.specs.Prelude.{List, [], ◌∷◌, ◌++◌, Bool, true, length, map, Option, Some, None}
-use Rattle.std.specs.List.{AllByRecursion}
+use Rattle.std.specs.Prelude.{List, [], ◌∷◌, ◌++◌, true, length, map}
+use Rattle.std.specs.List.{AllByRecursion, AllZip}
 use Rattle.sim_base.specs.Order.{msg_cmp}
 use Rattle.sim_base.specs.Pending.{cut_by, insert_marked, spread_marks}
 use Rattle.sim_base.specs.declared.message.Msg.{Msg}
 use Rattle.sim_base.specs.declared.entry.Line.{Line}
 use Rattle.clone_sets.specs.Sets.{has, one, with, union, meet, common, empty, size}
 use Rattle.clone_sets.specs.declared.set.CloneSet.{CloneSet}
+use Rattle.stations.specs.declared.sender.TheConstants.{ALL_COUNTS}
 use Rattle.net_model.specs.Net.{Net}
 use Rattle.net_model.specs.Rules.{IsNet}
 use Rattle.stations.specs.Fits.{FitsState, SuitsNet}
@@ -16,8 +17,9 @@ use Rattle.stations.specs.Runs.{simulation, replay}
 use Rattle.run_laws.specs.World.{to_it}
 use Rattle.run_laws.specs.Window.{to_others}
 use Rattle.sim_base.specs.Marked.{SortedMarked}
-use Rattle.run_laws.specs.Copies as copies
-use Rattle.run_laws.specs.Copies.{Copy, insert_marked_all, handled_by, sends_aside, part, ComesTo, SoFar, GainTogether}
+use Rattle.run_laws.specs.Copies.{Copy, insert_marked_all, handled_by, sends_aside, ComesTo, SoFar, GainTogether}
+use Rattle.run_laws.specs.Copies.{Disjoint, IsSameCopy}
+pub use Rattle.msg_route.specs.Laws.{takes_at, taken_at}
 
 -- a copy of a station of a network
 abbrev pub StationCopy : Type 0
@@ -26,14 +28,6 @@ StationCopy = Copy StateView Msg Line CloneSet
 -- messages, each with its marks
 abbrev pub MarkedMessages : Type 0
 MarkedMessages = List (Msg × CloneSet)
-
--- a clone that ends then takes a message with these marks
-abbrev pub takes_at : (ℕ → ℕ) → Msg → CloneSet → ℕ → Bool
-takes_at ends = copies.takes_at (λ (m : Msg). m.key.time) has ends
-
--- the messages among these that the clone takes
-abbrev pub taken_at : (ℕ → ℕ) → ℕ → MarkedMessages → List Msg
-taken_at ends c xs = part (takes_at ends) c xs
 
 -- marks of a message in a copy: at least one clone, and only clones that the copy stands for
 pub record AreMarks (set k : CloneSet) : Type 0 where
@@ -54,13 +48,18 @@ pub record IsCopy (net : Net) (s : ℕ) (a : StationCopy) : Type 0 where
   pub replays : a.state ≡ replay net s a.log
   pub marks : AllByRecursion (λ x. AreMarks a.set x.1) a.pending
 
--- nothing of the copy is pending before this time
-abbrev pub IsLate : ℕ → StationCopy → Type 0
-IsLate t a = AllByRecursion (λ x. t ≤ x.0.key.time) a.pending
+-- the time is a lower bound of the pending messages' times: nothing of the copy is pending before it
+abbrev pub IsLowerBound : ℕ → StationCopy → Type 0
+IsLowerBound t a = AllByRecursion (λ x. t ≤ x.0.key.time) a.pending
 
--- and so for each of some copies
-abbrev pub AreLate : ℕ → List StationCopy → Type 0
-AreLate t copies = AllByRecursion (IsLate t) copies
+-- and of those of each of some copies
+abbrev pub IsLowerBoundOfAll : ℕ → List StationCopy → Type 0
+IsLowerBoundOfAll t copies = AllByRecursion (IsLowerBound t) copies
+
+-- a message may be given to these copies: no clone is in two of them, and nothing of each is pending before its time
+pub record MayDeliver (leasts : List ℕ) (copies : List StationCopy) : Type 0 where
+  pub disjoint : Disjoint has copies
+  pub each : AllZip IsLowerBound leasts copies
 
 -- the clones of all copies together
 abbrev pub all_clones : List StationCopy → CloneSet
@@ -81,15 +80,19 @@ handled_alone_by (a ∷ rest) = size a.set * length a.log + handled_alone_by res
 abbrev pub may_handle : ℕ → StationCopy → ℕ
 may_handle limit a = size a.set * (limit - length a.log)
 
+-- a copy of station s may be advanced to the bound, where so many messages were handled before
+pub record MayAdvance (net : Net) (s bound handled : ℕ) (a : StationCopy) : Type 0 where
+  pub fits : IsCopy net s a
+  pub early : bound ≤ net.horizon
+  pub few : handled + may_handle net.limit a ≤ ALL_COUNTS
+
 -- the copy without its pending messages
 abbrev pub but_pending : StationCopy → StationCopy
 but_pending a = record a { pending = [] }
 
 -- the copy b is a without messages that none of its clones takes
 pub record IsSameToClones (ends : ℕ → ℕ) (a b : StationCopy) : Type 0 where
-  pub set : b.set ≡ a.set
-  pub state : b.state ≡ a.state
-  pub log : b.log ≡ a.log
+  pub copy : IsSameCopy a b
   pub parts : (c : ℕ) → has a.set c ≡ true → taken_at ends c b.pending ≡ taken_at ends c a.pending
   pub passed : MarkedMessages
   pub pending : a.pending ≡ passed ++ b.pending
@@ -166,11 +169,6 @@ copy_after_fork old new a = if has a.set old then record {
   log = a.log;
   pending = spread_marks union common (one old) (one new) a.pending;
 } else a
-
--- a first message, if there is one, pending to these clones
-abbrev pub pending_of : Option Msg → CloneSet → MarkedMessages
-pending_of None k = []
-pending_of (Some m) k = (m, k) ∷ []
 
 -- the copies at the bound that all copies became, and what they sent to others
 pub record IsStepResult (net : Net) (s : ℕ) (ends : ℕ → ℕ) (bound : ℕ) (old done : List StationCopy)

@@ -10,7 +10,8 @@ use Rattle.run_laws.specs.Queue.{In}
 use Rattle.run_laws.specs.FrontLaws as laws
 use Rattle.run_laws.specs.Fronts.{earlier}
 use Rattle.run_laws.specs.Copies.{Carries, Disjoint}
-use Rattle.phys_proc.specs.Own.{StationCopy, IsCopy, IsLate, AreLate, all_clones, handled_alone_by, taken_at}
+use Rattle.phys_proc.specs.Own.{StationCopy, IsCopy, IsLowerBound, IsLowerBoundOfAll, all_clones, handled_alone_by}
+use Rattle.phys_proc.specs.Own.{taken_at}
 
 -- what contracts see of the copies of a station: the station's number, the living clones, how many messages were
 -- handled, once for all clones of a copy, and the copies
@@ -57,16 +58,19 @@ IsLeastOf ends copies c t = IsLeastTime (IsTakenBy ends copies c) t
 abbrev pub IsLeast : (ℕ → ℕ) → List StationCopy → Option ℕ → Type 0
 IsLeast ends copies t = IsLeastTime (λ m. (c : ℕ) × IsTakenBy ends copies c m) t
 
+-- the least time that any of its clones takes of a copy
+abbrev pub IsLeastOfCopy : (ℕ → ℕ) → StationCopy → Option ℕ → Type 0
+IsLeastOfCopy ends a t = IsLeastTime (λ m. (c : ℕ) × Carries has a c × In m (taken_at ends c a.pending)) t
+
 -- t is the lesser of a time that was found before and a least time; it is the first where nothing is pending earlier
 abbrev pub IsWithTime : (ℕ → Type 0) → (Option ℕ → Type 0) → Option ℕ → Option ℕ → Type 0
-IsWithTime Late Least before t = ((time : ℕ) × (before ≡ Some time) × Late time × (t ≡ before))
+IsWithTime LowerBound Least before t = ((time : ℕ) × (before ≡ Some time) × LowerBound time × (t ≡ before))
     ⊎ ((here : Option ℕ) × Least here × (t ≡ earlier before here))
 
 -- of the times that any clone takes of a copy
 abbrev pub IsWithCopy : (ℕ → ℕ) → StationCopy → Option ℕ → Option ℕ → Type 0
-IsWithCopy ends a before t = IsWithTime (λ time. IsLate time a)
-    (IsLeastTime (λ m. (c : ℕ) × Carries has a c × In m (taken_at ends c a.pending))) before t
+IsWithCopy ends a before t = IsWithTime (λ time. IsLowerBound time a) (IsLeastOfCopy ends a) before t
 
 -- and of all copies
 abbrev pub IsWithLeast : (ℕ → ℕ) → List StationCopy → Option ℕ → Option ℕ → Type 0
-IsWithLeast ends copies before t = IsWithTime (λ time. AreLate time copies) (IsLeast ends copies) before t
+IsWithLeast ends copies before t = IsWithTime (λ time. IsLowerBoundOfAll time copies) (IsLeast ends copies) before t

@@ -1,8 +1,7 @@
 //! One physical process (copy) is advanced to a window boundary.
-ghost use Rattle.std.specs.Prelude.{◌≡◌, [], ◌+◌, ◌≤◌, OnOk, IfOk};
+ghost use Rattle.std.specs.Prelude.{◌≡◌, [], ◌+◌, OnOk, IfOk};
 ghost use Rattle.clone_sets.specs.Sets.{empty};
-ghost use Rattle.stations.specs.declared.sender.TheConstants.{ALL_COUNTS};
-ghost use Rattle.phys_proc.specs.Own.{IsCopy, IsAdvance, ComesFrom, may_handle};
+ghost use Rattle.phys_proc.specs.Own.{MayAdvance, IsAdvance, ComesFrom};
 ghost use Rattle.phys_proc.specs.Stops.{IsStop};
 ghost use Rattle.phys_proc.specs.Ends.{ends_in};
 
@@ -65,7 +64,7 @@ pub(crate) enum Stop {
 
 /// Handles what all clones of a copy take before the bound, in place, and says why it goes no further.
 /// `out` is a buffer for what one message sends.
-pub(crate) fn go_on<L: Ledger>(
+pub(crate) fn handle_together<L: Ledger>(
     copy: &mut PhysCopy,
     model: &Model,
     station: u32,
@@ -75,9 +74,7 @@ pub(crate) fn go_on<L: Ledger>(
     stage: &mut Stage,
     steps: &mut Steps<L>,
 ) -> Result<Stop, NoMemory>
-    requires fits { IsCopy model.now station copy.old }
-    requires early { bound ≤ model.now.horizon }
-    requires few { stage.old.handled + may_handle model.now.limit copy.old ≤ ALL_COUNTS }
+    requires may_advance { MayAdvance model.now station bound stage.old.handled copy.old }
     // what it gives: the copy further on, what it sent, and a step for each message
     ensures onward { OnOk result (ComesFrom model.now station (ends_in model.now.horizon ends.now) bound copy.old
         copy.new stage.old.sent.items stage.new.sent.items steps.old steps.new) }
@@ -108,7 +105,7 @@ pub(crate) fn go_on<L: Ledger>(
 
 /// Brings a copy that goes no further as it is to the bound: where its clones part it becomes several, or they go over
 /// the limit.
-pub(crate) fn finish<L: Ledger>(
+pub(crate) fn bring_to_bound<L: Ledger>(
     alloc: Global,
     copy: PhysCopy,
     stop: Stop,
@@ -120,10 +117,8 @@ pub(crate) fn finish<L: Ledger>(
     stage: &mut Stage,
     steps: &mut Steps<L>,
 ) -> Result<(), NoMemory>
-    requires fits { IsCopy model.now station copy }
+    requires may_advance { MayAdvance model.now station bound stage.old.handled copy }
     requires stop { IsStop model.now.limit (ends_in model.now.horizon ends.now) bound copy stage.old.takers stop }
-    requires early { bound ≤ model.now.horizon }
-    requires few { stage.old.handled + may_handle model.now.limit copy ≤ ALL_COUNTS }
     ensures comes { OnOk result (IsAdvance model.now station (ends_in model.now.horizon ends.now) bound copy
         stage.old.done stage.new.done stage.old.sent.items stage.new.sent.items stage.old.over stage.new.over
         steps.old steps.new) }
@@ -139,12 +134,21 @@ pub(crate) fn finish<L: Ledger>(
         }
         Stop::Parts => {
             let (mut some, mut others) = copy.halves(alloc, stage.takers)?;
-            let first = go_on(&mut some, model, station, ends, bound, out, stage, steps)?;
-            finish(
+            let first = handle_together(&mut some, model, station, ends, bound, out, stage, steps)?;
+            bring_to_bound(
                 alloc, some, first, model, station, ends, bound, out, stage, steps,
             )?;
-            let second = go_on(&mut others, model, station, ends, bound, out, stage, steps)?;
-            finish(
+            let second = handle_together(
+                &mut others,
+                model,
+                station,
+                ends,
+                bound,
+                out,
+                stage,
+                steps,
+            )?;
+            bring_to_bound(
                 alloc, others, second, model, station, ends, bound, out, stage, steps,
             )?;
         }

@@ -1,10 +1,10 @@
 //! When clones end: a list of clone numbers and times. From its end on a clone takes no message.
 //!
 //! Where a clone is listed more than once, the least time counts; one that is not listed ends at the horizon.
-ghost use Rattle.std.specs.Prelude.{◌≡◌, ℕ, ◌<◌, ◌==◌, ◌∷◌, ◌++◌, [], min, if◌then◌else◌, OnOk, OnErr};
+ghost use Rattle.std.specs.Prelude.{◌≡◌, ℕ, ◌<◌, ◌∷◌, ◌++◌, [], OnOk, OnErr};
 ghost use Rattle.sim_base.specs.declared.lists.TheConstants.{MOST_CLONES};
 ghost use Rattle.clone_sets.specs.Sets.{has};
-ghost use Rattle.phys_proc.specs.Ends.{ends_in, has_ended};
+ghost use Rattle.phys_proc.specs.Ends.{ends_in, EndsWith, has_ended};
 
 use clone_sets::CloneSet;
 use sim_base::NoMemory;
@@ -44,8 +44,7 @@ impl CloneEnds {
     pub fn end(&mut self, clone: u32, at: u64) -> Result<(), NoMemory>
         requires clone { clone < MOST_CLONES }
         ensures ended { OnOk result (self.new ≡ self.old ++ (clone, at) ∷ []) }
-        ensures ends { OnOk result ((horizon c : ℕ) → ends_in horizon self.new c ≡
-            (if clone == c then min at (ends_in horizon self.old c) else ends_in horizon self.old c)) }
+        ensures ends { OnOk result (EndsWith clone at self.old self.new) }
         ensures err { OnErr result (self.new ≡ self.old) }
     {
         self.ended.push((clone, at))?;

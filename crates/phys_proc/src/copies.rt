@@ -7,7 +7,8 @@ ghost use Rattle.sim_base.specs.declared.lists.TheConstants.{MOST_CLONES};
 ghost use Rattle.clone_sets.specs.Sets.{has};
 ghost use Rattle.run_laws.specs.Copies.{Disjoint};
 ghost use Rattle.phys_proc.specs.Racks.{view_of_copy};
-ghost use Rattle.phys_proc.specs.Own.{with_message, copy_after_fork, but_pending, IsLate, AreLate};
+ghost use Rattle.phys_proc.specs.Own.{with_message, copy_after_fork, but_pending, IsLowerBound, IsLowerBoundOfAll};
+ghost use Rattle.phys_proc.specs.Own.{MayDeliver};
 
 use crate::copy::PhysCopy;
 use crate::rack::RackCopy;
@@ -30,19 +31,20 @@ pub(crate) struct Copies {
 impl Model for Copies {
     ghost use Rattle.std.specs.Prelude.{List};
     ghost use Rattle.std.specs.List.{AllZip};
-    ghost use Rattle.phys_proc.specs.Own.{StationCopy, IsLate, AreLate};
+    ghost use Rattle.phys_proc.specs.Own.{StationCopy, IsLowerBound, IsLowerBoundOfAll};
 
     ghost Value = { List StationCopy };
 
     ghost view = { λ p. p.copies.items };
 
-    ghost invariant = { λ p. AreLate p.least p.copies.items × AllZip IsLate p.leasts.items p.copies.items };
+    ghost invariant = { λ p. IsLowerBoundOfAll p.least p.copies.items ×
+        AllZip IsLowerBound p.leasts.items p.copies.items };
 }
 
 // A time that nothing of the copy is pending before.
 pub(crate) fn earliest(copy: &PhysCopy) -> u64
     requires sorted { SortedMarked msg_cmp copy.now.pending }
-    ensures late { IsLate result copy.now }
+    ensures lower { IsLowerBound result copy.now }
 {
     match copy.pending.least_time() {
         Some(time) => time,
@@ -52,10 +54,10 @@ pub(crate) fn earliest(copy: &PhysCopy) -> u64
 
 // Gives a message to those clones of the copy that are in the set. Nothing of it is pending before `least`.
 fn give(copy: &mut PhysCopy, least: &mut u64, msg: Msg, set: CloneSet) -> Result<(), NoMemory>
-    requires late { IsLate least.old copy.old }
+    requires lower { IsLowerBound least.old copy.old }
     ensures given { OnOk result (copy.new ≡ with_message msg set copy.old) }
     ensures same { but_pending copy.new ≡ but_pending copy.old }
-    ensures late { IsLate least.new copy.new }
+    ensures lower { IsLowerBound least.new copy.new }
 {
     let shared = copy.set.meet(set);
     if !shared.is_empty() {
@@ -73,11 +75,10 @@ fn deliver(
     msg: Msg,
     set: CloneSet,
 ) -> Result<usize, NoMemory>
-    requires disjoint { Disjoint has copies.old.items }
-    requires each { AllZip IsLate leasts.old.items copies.old.items }
+    requires may_deliver { MayDeliver leasts.old.items copies.old.items }
     ensures given { OnOk result (copies.new.items ≡ map (with_message msg set) copies.old.items) }
     ensures same { map but_pending copies.new.items ≡ map but_pending copies.old.items }
-    ensures each { AllZip IsLate leasts.new.items copies.new.items }
+    ensures each { AllZip IsLowerBound leasts.new.items copies.new.items }
 {
     // those that no copy so far stands for
     let mut rest = set;
@@ -99,11 +100,10 @@ fn deliver_from(
     set: CloneSet,
     guess: usize,
 ) -> Result<usize, NoMemory>
-    requires disjoint { Disjoint has copies.old.items }
-    requires each { AllZip IsLate leasts.old.items copies.old.items }
+    requires may_deliver { MayDeliver leasts.old.items copies.old.items }
     ensures given { OnOk result (copies.new.items ≡ map (with_message msg set) copies.old.items) }
     ensures same { map but_pending copies.new.items ≡ map but_pending copies.old.items }
-    ensures each { AllZip IsLate leasts.new.items copies.new.items }
+    ensures each { AllZip IsLowerBound leasts.new.items copies.new.items }
 {
     if guess >= copies.len() {
         return deliver(copies, leasts, msg, set);
@@ -167,7 +167,7 @@ impl Copies {
 
     /// One copy more, of which nothing is pending before `least`.
     pub fn put(&mut self, copy: PhysCopy, least: u64) -> Result<(), NoMemory>
-        requires late { IsLate least copy }
+        requires lower { IsLowerBound least copy }
         ensures more { OnOk result (self.new ≡ self.old ++ copy ∷ []) }
     {
         self.leasts.reserve(1)?;
@@ -187,8 +187,8 @@ impl Copies {
         leasts: Vec<u64>,
         least: u64,
     ) -> Result<(), NoMemory>
-        requires late { AreLate least copies.items }
-        requires each { AllZip IsLate leasts.items copies.items }
+        requires lower { IsLowerBoundOfAll least copies.items }
+        requires each { AllZip IsLowerBound leasts.items copies.items }
         ensures all { OnOk result (self.new ≡ copies.items ++ self.old) }
     {
         let mut copies = copies;
@@ -238,14 +238,14 @@ impl Copies {
 
     /// A time that nothing of the copies is pending before.
     pub fn earliest(&self) -> u64
-        ensures late { AreLate result self.now }
+        ensures lower { IsLowerBoundOfAll result self.now }
     {
         self.least
     }
 
     /// Whether nothing is pending before the bound.
     pub fn is_idle(&self, bound: u64) -> bool
-        ensures late { IsTrue result → AreLate bound self.now }
+        ensures lower { IsTrue result → IsLowerBoundOfAll bound self.now }
     {
         bound <= self.least
     }
@@ -253,7 +253,7 @@ impl Copies {
     /// The copies, one by one, and for each a time that nothing of it is pending before.
     pub fn into_parts(self) -> (Vec<PhysCopy>, Vec<u64>)
         ensures same { result.0.items ≡ self }
-        ensures each { AllZip IsLate result.1.items self }
+        ensures each { AllZip IsLowerBound result.1.items self }
     {
         let Copies {
             copies,
@@ -265,7 +265,7 @@ impl Copies {
 
     /// For each copy, at the same place, a time that nothing of it is pending before.
     pub fn leasts(&self) -> &[u64]
-        ensures each { AllZip IsLate result.now self.now }
+        ensures each { AllZip IsLowerBound result.now self.now }
     {
         self.leasts.as_slice()
     }

@@ -5,8 +5,8 @@ ghost use Rattle.sim_base.specs.Order.{msg_cmp};
 ghost use Rattle.sim_base.specs.declared.lists.TheConstants.{MOST_CLONES};
 ghost use Rattle.clone_sets.specs.Sets.{has};
 ghost use Rattle.run_laws.specs.Queue.{In};
-ghost use Rattle.phys_proc.specs.Own.{IsLate, taken_at};
-ghost use Rattle.phys_proc.specs.Procs.{IsProc, IsLeastTime, IsLeastOf, IsLeast, IsWithCopy};
+ghost use Rattle.phys_proc.specs.Own.{IsLowerBound, taken_at};
+ghost use Rattle.phys_proc.specs.Procs.{IsProc, IsLeastTime, IsLeastOf, IsLeastOfCopy, IsLeast, IsWithCopy};
 ghost use Rattle.phys_proc.specs.Ends.{ends_in};
 
 use crate::clone_ends::CloneEnds;
@@ -36,8 +36,7 @@ pub(crate) fn least_of_clone(copy: &PhysCopy, c: u32, end: u64) -> Option<u64>
 /// The least time that any of its clones takes of the copy.
 pub(crate) fn least_of_copy(copy: &PhysCopy, ends: &CloneEnds, horizon: u64) -> Option<u64>
     requires sorted { SortedMarked msg_cmp copy.now.pending }
-    ensures least { IsLeastTime (λ m. (c : ℕ) × (has copy.now.set c ≡ true) ×
-        In m (taken_at (ends_in horizon ends.now) c copy.now.pending)) result }
+    ensures least { IsLeastOfCopy (ends_in horizon ends.now) copy.now result }
 {
     let mut alive = copy.set;
     while let Some(first) = copy.pending.least_with(alive) {
@@ -64,7 +63,7 @@ fn with_copy(
     before: Option<u64>,
 ) -> Option<u64>
     requires sorted { SortedMarked msg_cmp copy.now.pending }
-    requires late { IsLate least copy.now }
+    requires lower { IsLowerBound least copy.now }
     ensures least { IsWithCopy (ends_in horizon ends.now) copy.now before result }
 {
     if let Some(time) = before {

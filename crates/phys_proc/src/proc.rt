@@ -3,10 +3,12 @@ ghost use Rattle.std.specs.Prelude.{◌≡◌, ℕ, ◌<◌, ◌≤◌, ◌+◌,
 ghost use Rattle.std.specs.List.{AllByRecursion, AllZip};
 ghost use Rattle.clone_sets.specs.Sets.{has, one, with, empty, size};
 ghost use Rattle.sim_base.specs.declared.lists.TheConstants.{MOST_CLONES};
-ghost use Rattle.net_model.specs.Net.{Net};
+ghost use Rattle.net_model.specs.Net.{Net, HasStation};
 ghost use Rattle.stations.specs.Runs.{simulation};
-ghost use Rattle.run_laws.specs.Copies.{first_copy, IsForked, IsStepped, AreOver, GainTogether, Stands};
-ghost use Rattle.phys_proc.specs.Own.{with_message, copy_after_fork, but_pending, pending_of, IsCopy, IsLate, AreLate};
+ghost use Rattle.run_laws.specs.Copies.{first_copy, first_pending as first_pending', IsForked};
+ghost use Rattle.run_laws.specs.Copies.{IsStepped, AreOver, GainTogether, Stands};
+ghost use Rattle.phys_proc.specs.Own.{with_message, copy_after_fork, but_pending, IsCopy, IsLowerBound};
+ghost use Rattle.phys_proc.specs.Own.{IsLowerBoundOfAll};
 ghost use Rattle.phys_proc.specs.Ends.{ends_in};
 ghost use Rattle.phys_proc.specs.Procs.{IsProc, AreShared};
 ghost use Rattle.phys_proc.specs.Racks.{view_of_copy};
@@ -75,7 +77,7 @@ fn first_pending(
     first: Option<Msg>,
     set: CloneSet,
 ) -> Result<Pending<CloneSet>, NoMemory>
-    ensures first { IfOk result (λ p. p ≡ pending_of first set) }
+    ensures first { IfOk result (λ p. p ≡ first_pending' set first) }
 {
     let mut pending = Pending::new(alloc);
     if let Some(msg) = first {
@@ -86,8 +88,7 @@ fn first_pending(
 
 // What a station opens with, for the first clone.
 fn opening(alloc: Global, model: &Model, station: u32) -> Result<Copies, NoMemory>
-    requires low { 1 ≤ station }
-    requires high { station ≤ length model.now.sites }
+    requires is_station { HasStation model.now station }
     ensures first { IfOk result (λ p. p ≡ first_copy (simulation model.now) (one 0) station ∷ []) }
     ensures fits { IfOk result (λ p. AllByRecursion (IsCopy model.now station) p) }
 {
@@ -143,15 +144,16 @@ fn buffer(
 impl Proc {
     /// What a station opens with: one copy, for the first clone.
     pub fn new(alloc: Global, model: &Model, station: u32) -> Result<Proc, NoMemory>
-        requires low { 1 ≤ station }
-        requires high { station ≤ length model.now.sites }
-        // what it gives: the one copy that the station opens with
-        ensures first { IfOk result (λ p. p.copies ≡ first_copy (simulation model.now) (one 0) station ∷ []) }
-        // it is a station of the network, in which the first clone alone lives and nothing is handled
+        requires is_station { HasStation model.now station }
+        // what it gives: the one copy that the station opens with; the first clone alone lives, and nothing is handled
+        ensures value { IfOk result (λ p. p ≡ record {
+          station = station;
+          living = one 0;
+          handled = 0;
+          copies = first_copy (simulation model.now) (one 0) station ∷ [];
+        }) }
+        // it is a station of the network
         ensures proc { IfOk result (λ p. IsProc model.now p) }
-        ensures station { IfOk result (λ p. p.station ≡ station) }
-        ensures living { IfOk result (λ p. p.living ≡ one 0) }
-        ensures handled { IfOk result (λ p. p.handled ≡ 0) }
     {
         // for its clause: the model is a network that keeps the rules
         let _horizon = model.horizon();
@@ -276,15 +278,17 @@ impl Proc {
         requires old { has self.old.living old ≡ true }
         requires new { has self.old.living new ≡ false }
         requires below { new < MOST_CLONES }
-        // what it gives: the new clone beside the old one, in its copy and in what is pending
-        ensures forked { self.new.copies ≡ map (copy_after_fork old new) self.old.copies }
+        // what it gives: the new clone lives too, beside the old one, in its copy and in what is pending
+        ensures forked { self.new ≡ record {
+          station = self.old.station;
+          living = with self.old.living new;
+          handled = self.old.handled;
+          copies = map (copy_after_fork old new) self.old.copies;
+        } }
         ensures each_forked { (net : Net) (ends : ℕ → ℕ) → IsProc net self.old →
             AllZip (IsForked (simulation net) has ends old new) self.old.copies self.new.copies }
-        // what is kept: a station of the network, and what was handled; the new clone lives too
+        // what is kept: it is a station of the network
         ensures proc { (net : Net) → IsProc net self.old → IsProc net self.new }
-        ensures station { self.new.station ≡ self.old.station }
-        ensures living { self.new.living ≡ with self.old.living new }
-        ensures handled { self.new.handled ≡ self.old.handled }
     {
         // for its clause: the number of each living clone is one that there may be
         let _clones = self.living.len();
@@ -342,7 +346,7 @@ impl Proc {
 
     /// A time that nothing of the copies is pending before.
     pub fn earliest(&self) -> u64
-        ensures late { AreLate result self.now.copies }
+        ensures lower { IsLowerBoundOfAll result self.now.copies }
     {
         self.copies.earliest()
     }
@@ -356,7 +360,7 @@ impl Proc {
 
     /// For each copy, at the same place, a time that nothing of it is pending before.
     pub(crate) fn leasts(&self) -> &[u64]
-        ensures each { AllZip IsLate result.now self.now.copies }
+        ensures each { AllZip IsLowerBound result.now self.now.copies }
     {
         self.copies.leasts()
     }

@@ -1,11 +1,11 @@
 //! All physical processes of a station are advanced to a window boundary.
 ghost use Rattle.std.specs.Prelude.{◌≡◌, ◌+◌, ◌++◌, IfOk, OnOk};
 ghost use Rattle.std.specs.List.{AllZip};
-ghost use Rattle.phys_proc.specs.Own.{IsStepResult, IsLate, AreLate};
+ghost use Rattle.phys_proc.specs.Own.{IsStepResult, IsLowerBound, IsLowerBoundOfAll};
 ghost use Rattle.phys_proc.specs.Ends.{ends_in};
 ghost use Rattle.phys_proc.specs.Stages.{MayStepCopies, IsNewStage};
 
-use crate::advancing::{Stage, Stop, finish, go_on};
+use crate::advancing::{Stage, Stop, bring_to_bound, handle_together};
 use crate::clone_ends::CloneEnds;
 use crate::copies::{Copies, earliest};
 use crate::copy::PhysCopy;
@@ -32,14 +32,14 @@ fn step_in_place<L: Ledger>(
     steps: &mut Steps<L>,
 ) -> Result<u64, NoMemory>
     requires may_step { MayStepCopies model.now station bound copies.old.items }
-    requires each { AllZip IsLate leasts.old.items copies.old.items }
+    requires each { AllZip IsLowerBound leasts.old.items copies.old.items }
     requires new { IsNewStage stage.old }
     // what it gives: the copies at the bound, in place or done, what they sent, and the clones over the limit
     ensures stepped { OnOk result (IsStepResult model.now station (ends_in model.now.horizon ends.now) bound
         copies.old.items (copies.new.items ++ stage.new.done) stage.new.sent.items stage.new.over steps.old steps.new) }
     // times that nothing is pending before: of all copies in place, and of each
-    ensures late { IfOk result (λ t. AreLate t copies.new.items) }
-    ensures each { OnOk result (AllZip IsLate leasts.new.items copies.new.items) }
+    ensures lower { IfOk result (λ t. IsLowerBoundOfAll t copies.new.items) }
+    ensures each { OnOk result (AllZip IsLowerBound leasts.new.items copies.new.items) }
     // what is counted: the messages handled
     ensures handled { OnOk result (stage.new.handled + steps.old ≡ steps.new) }
 {
@@ -52,7 +52,7 @@ fn step_in_place<L: Ledger>(
             i += 1;
             continue;
         }
-        let stop = go_on(
+        let stop = handle_together(
             &mut copies[i],
             model,
             station,
@@ -72,7 +72,7 @@ fn step_in_place<L: Ledger>(
             _ => {
                 let copy = copies.remove(i);
                 let _ = leasts.remove(i);
-                finish(
+                bring_to_bound(
                     alloc, copy, stop, model, station, ends, bound, out, stage, steps,
                 )?;
             }

@@ -1,6 +1,6 @@
 -- Calls of which the last one failed.
 use Rattle.std.proofs.Common.{ℕ, ◌+◌, ◌≤◌, arith, Option}
-use Rattle.sim_outer.specs.Causes.{AreCounted, IsCounted}
+use Rattle.sim_outer.specs.Counts.{AreCounted, IsCounted}
 use Rattle.sim_outer.proofs.Counts.{counted_more}
 use Rattle.rolling_text.specs.Counting.{AreCountedTo}
 

@@ -3,14 +3,15 @@ use Rattle.std.proofs.Common.{◌≡◌, ℕ, ◌≤◌, List, [], ◌∷◌, �
 use Rattle.std.proofs.Common.{IfSome}
 use Rattle.sim_base.specs.Clones.{Clone}
 use Rattle.net_model.specs.Net.{Net}
-use Rattle.rolling_text.specs.GivenSpans.{AreInOrder}
+use Rattle.rolling_text.specs.GivenSpans.{SpansAreJoined}
 use Rattle.rolling_text.specs.declared.given_spans.GivenSpan.{GivenSpan}
 
--- ---- AreInOrder
+-- ---- SpansAreJoined
 
 module _ (net : Net) (list : Clone) where
   -- they begin before they end
-  pub begins_before : (from : ℕ) (bs : List GivenSpan) (until : ℕ) → AreInOrder net list from bs until → from ≤ until
+  pub begins_before : (from : ℕ) (bs : List GivenSpan) (until : ℕ) → SpansAreJoined net list from bs until
+      → from ≤ until
   begins_before from [] until h = omega (arith, h)
   begins_before from (b ∷ bs) until h =
       let a = h.1 in
@@ -18,10 +19,10 @@ module _ (net : Net) (list : Clone) where
       omega (arith, a, c)
 
   -- one more, that begins where they end
-  pub one_more : (from : ℕ) (bs : List GivenSpan) (until : ℕ) (b : GivenSpan) → AreInOrder net list from bs until
+  pub one_more : (from : ℕ) (bs : List GivenSpan) (until : ℕ) (b : GivenSpan) → SpansAreJoined net list from bs until
       → IfSome b.mailbox (λ m. m ≡ Some (record { net = net; list = list; from = until; until = b.until }))
       → until ≤ b.until
-      → AreInOrder net list from (bs ++ b ∷ []) b.until
+      → SpansAreJoined net list from (bs ++ b ∷ []) b.until
   one_more from [] until b h is order =
       subst (λ t. IfSome b.mailbox (λ m. m ≡ Some (record { net = net; list = list; from = t; until = b.until }))
       × (t ≤ b.until)

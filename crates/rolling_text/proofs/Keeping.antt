@@ -11,9 +11,9 @@ use Rattle.sim_base.specs.declared.message.Msg.{Msg}
 use Rattle.net_model.specs.Net.{Net}
 use Rattle.net_model.specs.Rules.{IsNet}
 use Rattle.run_laws.specs.Runs.{end_of}
-use Rattle.run_laws.specs.Laws.{before}
+use Rattle.run_laws.specs.Laws.{entries_before}
 use Rattle.run_laws.specs.Handlers.{AreForStations, HandlesLawfully, SendsToStations, HandlesFreshly}
-use Rattle.run_laws.specs.SharedTexts.{from_on, shared_to}
+use Rattle.run_laws.specs.SharedTexts.{entries_from, parting_of}
 use Rattle.run_laws.proofs.Queue.{all_from}
 use Rattle.run_laws.proofs.Lists.{filter_all}
 use Rattle.run_laws.proofs.SharedTextsAgreeing.{agree_to_parting}
@@ -23,7 +23,7 @@ use Rattle.stations.specs.Good.{IsGood, sender_of, number_of, next_number}
 use Rattle.stations.proofs.GoodLaws.{lawful-stations, stations-to_stations, fresh-stations}
 use Rattle.trace_report.specs.TraceText.{entry_line}
 use Rattle.rolling_text.specs.Sharing.{same_plan}
-use Rattle.rolling_text.specs.Texts.{body, body_before, rest, shared_at, parting_at, dropped_at}
+use Rattle.rolling_text.specs.Texts.{body, body_before, rest, parting_with_last, parting_at, dropped_at}
 use Rattle.world_core.specs.Worlds.{AreInNet}
 use Rattle.rolling_text.proofs.SamePlans.{tells_plans}
 
@@ -64,21 +64,21 @@ module _ (net : Net) (valid : IsNet net) (c d : Clone)
 
   -- the time before which both have one trace
   abbrev shared : ℕ
-  shared = shared_to (simulation net) same_plan c d
+  shared = parting_of (simulation net) same_plan c d
 
   -- the lines that they share
   abbrev shared_lines : List ℕ
-  shared_lines = flat_map (entry_line net) (before (simulation net) shared (trace_of net d))
+  shared_lines = flat_map (entry_line net) (entries_before (simulation net) shared (trace_of net d))
 
   -- the lines of the first are those, and its rest
   lines_before : body net c ≡ shared_lines ++ rest net c shared
   unfolding rest body
   lines_before =
       ap (flat_map (entry_line net)) (trace_split law stations fresh c shared c_there)
-      ∙ flat_map-append (entry_line net) (before (simulation net) shared (trace_of net c))
-      (from_on (simulation net) shared (trace_of net c))
+      ∙ flat_map-append (entry_line net) (entries_before (simulation net) shared (trace_of net c))
+      (entries_from (simulation net) shared (trace_of net c))
       ∙ ap (λ l. flat_map (entry_line net) l ++ flat_map (entry_line net)
-      (from_on (simulation net) shared (trace_of net c)))
+      (entries_from (simulation net) shared (trace_of net c)))
       (agree_to_parting law same_plan c d (tells_plans net) c_ends d_ends)
 
   -- so many bytes of the first, and the second's rest, are the lines of the second
@@ -119,7 +119,7 @@ module _ (net : Net) (valid : IsNet net) (cs : List Clone) (in_net : AreInNet ne
 
   -- the time before which the two have one trace
   abbrev time : ℕ
-  time = shared_at net cs c
+  time = parting_with_last net cs c
 
   -- the lines before are those of the clone before it
   before_is : body_before net cs c ≡ body net old
@@ -157,7 +157,7 @@ module _ (net : Net) (cs : List Clone) where
   parting_none c n e z = z ∙ ap (parting_at net cs) (sym e)
 
   -- those of any other from the time before which its trace is that of the clone before it
-  pub parting_some : (c n : ℕ) → 1 ≤ c → n ≡ shared_at net cs c → n ≡ parting_at net cs c
+  pub parting_some : (c n : ℕ) → 1 ≤ c → n ≡ parting_with_last net cs c → n ≡ parting_at net cs c
   parting_some zero n l e = absurd (omega (arith, l))
   parting_some (suc c) n l e = e
 
@@ -168,7 +168,8 @@ module _ (net : Net) (cs : List Clone) where
       let up : c + 1 ≡ suc c = omega arith in
       let down : c ≡ suc c - 1 = omega arith in
       e ∙ ap (λ t. length (rest net (clone_at cs c) t)) (n ∙ ap (parting_at net cs) up)
-      ∙ ap (λ k. length (rest net (clone_at cs k) (shared_at net cs (suc c)))) down ∙ sym (ap (dropped_at net cs) up)
+      ∙ ap (λ k. length (rest net (clone_at cs k) (parting_with_last net cs (suc c)))) down
+      ∙ sym (ap (dropped_at net cs) up)
 
   module _ (valid : IsNet net) (in_net : AreInNet net cs) (dropped : ℕ) where
     -- what is dropped of the lines before is within them

@@ -16,14 +16,14 @@ use Rattle.sim_base.specs.declared.message.Msg.{Msg}
 use Rattle.net_model.specs.Net.{Net}
 use Rattle.run_laws.specs.Merges.{merge, merge_at, merge_by}
 use Rattle.run_laws.specs.Simulation.{Simulation}
-use Rattle.run_laws.specs.Laws.{before}
-use Rattle.run_laws.specs.SharedTexts.{from_on, station_sum}
+use Rattle.run_laws.specs.Laws.{entries_before}
+use Rattle.run_laws.specs.SharedTexts.{entries_from, station_sum}
 use Rattle.run_laws.proofs.Lists.{filter_swap}
 use Rattle.run_laws.proofs.Queue.{all_from}
 use Rattle.run_laws.proofs.SharedTextsWeighing.{rest_length, trace_split}
 use Rattle.stations.specs.Good.{sender_of, number_of}
 use Rattle.stations.specs.Handling.{StateView}
-use Rattle.stations.specs.Laws.{IsCounted}
+use Rattle.stations.specs.Laws.{HasFewNumbers}
 use Rattle.stations.specs.Runs.{simulation, trace_of, log_at}
 use Rattle.stations.proofs.GoodLaws.{lawful-stations, stations-to_stations, fresh-stations}
 use Rattle.stations.proofs.KeyLaws.{log_keys-small}
@@ -173,11 +173,11 @@ module _ (world : WorldView) (over : IsOver world) (c : ℕ) (there : c < length
   clone = clone_at world.clones c
 
   -- its decisions and its logs are few enough for numbers that fit words
-  counted : IsCounted net clone world.front
+  counted : HasFewNumbers net clone world.front
   counted = record {
     there = over.in_net.plans c there;
     short = over.short c there;
-    within = λ s low high. over.within s c low high there;
+    within = λ s here. over.within s c (record { low = here.0; high = here.1 }) there;
   }
 
   -- the keys of its logs fit words
@@ -205,23 +205,23 @@ module _ (world : WorldView) (over : IsOver world) (c : ℕ) (there : c < length
 
   -- what a walk has from a time on
   pub walk_is : (s t : ℕ) (log walk : List (Entry Msg Line)) → log ≡ log_at net clone s world.front
-      → walk ≡ from_time t log → walk ≡ from_on sim t (log_at net clone s net.horizon)
+      → walk ≡ from_time t log → walk ≡ entries_from sim t (log_at net clone s net.horizon)
   walk_is s t log walk e f = f ∙ ap (from_time t) (e ∙ ap (log_at net clone s) over.done)
 
   -- one log more is merged
-  pub gathered : (i t : ℕ) (left log walk new : List (Entry Msg Line))
+  pub merge_of_rests-next : (i t : ℕ) (left log walk new : List (Entry Msg Line))
       → left ≡ merge_of_rests sim sender_of number_of clone t i →
       log ≡ log_at net clone (i + 1) world.front → walk ≡ from_time t log → new ≡ merge by_key left walk
       → new ≡ merge_of_rests sim sender_of number_of clone t (i + 1)
-  gathered i t left log walk new e f g h =
+  merge_of_rests-next i t left log walk new e f g h =
       let up : i + 1 ≡ suc i = omega arith in
       h ∙ ap₂ (merge by_key) e (walk_is (i + 1) t log walk f g
-      ∙ ap (λ s. from_on sim t (log_at net clone s net.horizon)) up)
+      ∙ ap (λ s. entries_from sim t (log_at net clone s net.horizon)) up)
       ∙ ap (merge_of_rests sim sender_of number_of clone t) (sym up)
 
   -- all of them are the trace from the time on
   pub all_gathered : (n t : ℕ) (left : List (Entry Msg Line)) → n ≡ length net.sites
-      → left ≡ merge_of_rests sim sender_of number_of clone t n → left ≡ from_on sim t (trace_of net clone)
+      → left ≡ merge_of_rests sim sender_of number_of clone t n → left ≡ entries_from sim t (trace_of net clone)
   all_gathered n t left many e =
       e ∙ ap (merge_of_rests sim sender_of number_of clone t) many
       ∙ rest_is_merge (lawful-stations net over.valid) (stations-to_stations net over.valid)
@@ -233,7 +233,8 @@ module _ (world : WorldView) (over : IsOver world) (c : ℕ) (there : c < length
       ≡ length (merge_of_rests sim sender_of number_of clone t i) + length (from_time t log)
   counted_log i t log e =
       let left : List (Entry Msg Line) = merge_of_rests sim sender_of number_of clone t i in
-      sym (ap length (gathered i t left log (from_time t log) (merge by_key left (from_time t log)) refl e refl refl))
+      sym (ap length (merge_of_rests-next i t left log (from_time t log) (merge by_key left (from_time t log)) refl e
+      refl refl))
       ∙ merge_length by_key left (from_time t log)
 
   -- how long the lines of a log are that a world tells
@@ -275,7 +276,7 @@ module _ (world : WorldView) (over : IsOver world) (c : ℕ) (there : c < length
       omega (arith, early, done, late)))
 
   -- so there are no entries
-  pub none_over : (t : ℕ) → net.horizon ≤ t → length (from_on sim t (trace_of net clone)) ≡ 0
+  pub none_over : (t : ℕ) → net.horizon ≤ t → length (entries_from sim t (trace_of net clone)) ≡ 0
   none_over t late = sym (ap length (all_gathered (length net.sites) t
       (merge_of_rests sim sender_of number_of clone t (length net.sites)) refl refl)) ∙ none (length net.sites)
     where
@@ -304,36 +305,38 @@ module _ (world : WorldView) (over : IsOver world) (c : ℕ) (there : c < length
 
   -- what comes from a time on is what comes before another, and then what comes from there on
   trace_splits : (early late : ℕ) → early ≤ late → (part : List (Entry Msg Line))
-      × (from_on sim early (trace_of net clone) ≡ part ++ from_on sim late (trace_of net clone))
+      × (entries_from sim early (trace_of net clone) ≡ part ++ entries_from sim late (trace_of net clone))
   trace_splits early late l =
       let trace : List (Entry Msg Line) = trace_of net clone in
-      let first : List (Entry Msg Line) = before sim late trace in (
-        from_on sim early first,
-        ap (from_on sim early) (trace_split (lawful-stations net over.valid) (stations-to_stations net over.valid)
+      let first : List (Entry Msg Line) = entries_before sim late trace in (
+        entries_from sim early first,
+        ap (entries_from sim early) (trace_split (lawful-stations net over.valid) (stations-to_stations net over.valid)
             (fresh-stations net over.valid) clone late (over.in_net.plans c there))
             ∙ filter-append (λ (e : Entry Msg Line). not (nat_lt e.msg.key.time early)) first (from_time late trace)
-            ∙ ap (λ k. from_on sim early first ++ k) (late_twice early late trace l),
+            ∙ ap (λ k. entries_from sim early first ++ k) (late_twice early late trace l),
       )
 
   -- so from a later time on there are no more entries
-  pub fewer_later : (early late all some : ℕ) → early ≤ late → all ≡ length (from_on sim early (trace_of net clone))
-      → some ≡ length (from_on sim late (trace_of net clone)) → some ≤ all
+  pub fewer_later : (early late all some : ℕ) → early ≤ late
+      → all ≡ length (entries_from sim early (trace_of net clone))
+      → some ≡ length (entries_from sim late (trace_of net clone)) → some ≤ all
   fewer_later early late all some l a s =
       let split = trace_splits early late l in
       let b = ap length split.1 in
-      let d = length-append split.0 (from_on sim late (trace_of net clone)) in
+      let d = length-append split.0 (entries_from sim late (trace_of net clone)) in
       omega (arith, a, s, b, d)
 
   -- and those that there are more come first
-  pub left_later : (early late all some : ℕ) → early ≤ late → all ≡ length (from_on sim early (trace_of net clone))
-      → some ≡ length (from_on sim late (trace_of net clone))
-      → drop (all - some) (from_on sim early (trace_of net clone)) ≡ from_on sim late (trace_of net clone)
+  pub left_later : (early late all some : ℕ) → early ≤ late
+      → all ≡ length (entries_from sim early (trace_of net clone))
+      → some ≡ length (entries_from sim late (trace_of net clone))
+      → drop (all - some) (entries_from sim early (trace_of net clone)) ≡ entries_from sim late (trace_of net clone)
   left_later early late all some l a s =
       let split = trace_splits early late l in
       let b = ap length split.1 in
-      let d = length-append split.0 (from_on sim late (trace_of net clone)) in
+      let d = length-append split.0 (entries_from sim late (trace_of net clone)) in
       let n : all - some ≡ length split.0 = omega (arith, a, s, b, d) in
-      ap₂ drop n split.1 ∙ drop-append_seam split.0 (from_on sim late (trace_of net clone))
+      ap₂ drop n split.1 ∙ drop-append_seam split.0 (entries_from sim late (trace_of net clone))
 
 -- ---- the lengths of the logs of the first stations
 
@@ -368,6 +371,6 @@ module _ (world : WorldView) (over : IsOver world) (view : WorldTracesView)
 
 -- the lines of what a cursor was given are the clone's rest
 pub lines_are : (net model : Net) (c : Clone) (t : ℕ) (left : List (Entry Msg Line)) → model ≡ net
-    → left ≡ from_on (simulation net) t (trace_of net c) → flat_map (entry_line model) left ≡ rest net c t
+    → left ≡ entries_from (simulation net) t (trace_of net c) → flat_map (entry_line model) left ≡ rest net c t
 unfolding rest
 lines_are net model c t left is e = ap₂ (λ n es. flat_map (entry_line n) es) is e

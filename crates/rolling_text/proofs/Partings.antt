@@ -7,64 +7,69 @@ use Rattle.std.proofs.lemmas.Bool.Decides.{same_from_decides}
 use Rattle.std.proofs.lemmas.List.{drop_more}
 use Rattle.std.proofs.Math.ListN.{drop_of_length-le}
 use Rattle.sim_base.specs.declared.decision.Planned.{Planned}
-use Rattle.run_laws.specs.SharedTexts.{parting}
+use Rattle.run_laws.specs.SharedTexts.{parting_time}
 use Rattle.rolling_text.specs.Sharing.{same_plan}
 use Rattle.rolling_text.proofs.SamePlans.{same_plan-Decides}
 
--- ---- parting, by any test of two decisions
+-- ---- parting_time, by any test of two decisions
 
 module _ (same : Planned → Planned → Bool) where
   -- a time taken in at the end may be taken in first
-  least_first : (x most : ℕ) (ps qs : List Planned) → min x (parting same most ps qs) ≡ parting same (min most x) ps qs
+  least_first : (x most : ℕ) (ps qs : List Planned) →
+      min x (parting_time same most ps qs) ≡ parting_time same (min most x) ps qs
   least_first x most [] [] = grind arith
   least_first x most (p ∷ ps) [] = let h = least_first x most ps [] in grind (arith, h)
   least_first x most [] (q ∷ qs) = let h = least_first x most [] qs in grind (arith, h)
   least_first x most (p ∷ ps) (q ∷ qs) = by (same p q) (least_first x most ps qs)
     where
-      by : (b : Bool) → min x (parting same most ps qs) ≡ parting same (min most x) ps qs →
-          min x (if b then parting same most ps qs else min (min p.at q.at) (parting same most ps qs)) ≡
-          (if b then parting same (min most x) ps qs else min (min p.at q.at) (parting same (min most x) ps qs))
+      by : (b : Bool) → min x (parting_time same most ps qs) ≡ parting_time same (min most x) ps qs →
+          min x (if b then parting_time same most ps qs else min (min p.at q.at) (parting_time same most ps qs)) ≡
+          (if b then parting_time same (min most x) ps qs
+          else min (min p.at q.at) (parting_time same (min most x) ps qs))
       by true h = h
       by false h = grind (arith, h)
 
   -- one place more of both lists, where they have the same there, leaves the parting as it is
   both_more : (least : ℕ) (ps qs : List Planned) (i : ℕ) (d e : Planned) → i < length ps → i < length qs
       → same (get_or ps i d) (get_or qs i e) ≡ true →
-      parting same least (drop i ps) (drop i qs) ≡ parting same least (drop (i + 1) ps) (drop (i + 1) qs)
+      parting_time same least (drop i ps) (drop i qs) ≡ parting_time same least (drop (i + 1) ps) (drop (i + 1) qs)
   both_more least ps qs i d e k l h =
-      ap₂ (parting same least) (drop_more ps i d k) (drop_more qs i e l)
-      ∙ ap (λ b. if b then parting same least (drop (i + 1) ps) (drop (i + 1) qs)
-      else min (min (get_or ps i d).at (get_or qs i e).at) (parting same least (drop (i + 1) ps) (drop (i + 1) qs))) h
+      ap₂ (parting_time same least) (drop_more ps i d k) (drop_more qs i e l)
+      ∙ ap (λ b. if b then parting_time same least (drop (i + 1) ps) (drop (i + 1) qs)
+      else min (min (get_or ps i d).at (get_or qs i e).at)
+      (parting_time same least (drop (i + 1) ps) (drop (i + 1) qs))) h
 
   -- and where they have not, it does so with the lesser of the two times taken in
   other_more : (least : ℕ) (ps qs : List Planned) (i : ℕ) (d e : Planned) → i < length ps → i < length qs
       → same (get_or ps i d) (get_or qs i e) ≡ false →
-      parting same least (drop i ps) (drop i qs) ≡ parting same
+      parting_time same least (drop i ps) (drop i qs) ≡ parting_time same
       (min least (min (get_or ps i d).at (get_or qs i e).at)) (drop (i + 1) ps) (drop (i + 1) qs)
   other_more least ps qs i d e k l h =
-      ap₂ (parting same least) (drop_more ps i d k) (drop_more qs i e l)
-      ∙ ap (λ b. if b then parting same least (drop (i + 1) ps) (drop (i + 1) qs)
-      else min (min (get_or ps i d).at (get_or qs i e).at) (parting same least (drop (i + 1) ps) (drop (i + 1) qs))) h
+      ap₂ (parting_time same least) (drop_more ps i d k) (drop_more qs i e l)
+      ∙ ap (λ b. if b then parting_time same least (drop (i + 1) ps) (drop (i + 1) qs)
+      else min (min (get_or ps i d).at (get_or qs i e).at)
+      (parting_time same least (drop (i + 1) ps) (drop (i + 1) qs))) h
       ∙ least_first (min (get_or ps i d).at (get_or qs i e).at) least (drop (i + 1) ps) (drop (i + 1) qs)
 
   -- of one list alone
   one_more : (least : ℕ) (ps : List Planned) (i : ℕ) (d : Planned) → i < length ps →
-      parting same least (drop i ps) [] ≡ parting same (min least (get_or ps i d).at) (drop (i + 1) ps) []
-  one_more least ps i d l = ap (λ xs. parting same least xs []) (drop_more ps i d l)
+      parting_time same least (drop i ps) [] ≡ parting_time same (min least (get_or ps i d).at) (drop (i + 1) ps) []
+  one_more least ps i d l = ap (λ xs. parting_time same least xs []) (drop_more ps i d l)
       ∙ least_first (get_or ps i d).at least (drop (i + 1) ps) []
 
   -- it is the same whichever list comes first, where the other one is empty
-  turned : (least : ℕ) (qs : List Planned) → parting same least [] qs ≡ parting same least qs []
-  turned least [] = refl
-  turned least (q ∷ qs) = ap (min q.at) (turned least qs)
+  parting_time-turned : (least : ℕ) (qs : List Planned) → parting_time same least [] qs ≡ parting_time same least qs []
+  parting_time-turned least [] = refl
+  parting_time-turned least (q ∷ qs) = ap (min q.at) (parting_time-turned least qs)
 
   -- where one list has ended, the other one is left
-  tails : (least : ℕ) (ps qs : List Planned) → (ps ≡ []) ⊎ (qs ≡ [])
-      → parting same least ps qs ≡ parting same (parting same least ps []) qs []
-  tails least ps qs h = elim h [
-    | inl a ↦ ap (λ xs. parting same least xs qs) a ∙ turned least qs
-        ∙ ap (λ xs. parting same (parting same least xs []) qs []) (sym a)
-    | inr b ↦ ap (parting same least ps) b ∙ ap (λ xs. parting same (parting same least ps []) xs []) (sym b)
+  parting_time-tails : (least : ℕ) (ps qs : List Planned) → (ps ≡ []) ⊎ (qs ≡ [])
+      → parting_time same least ps qs ≡ parting_time same (parting_time same least ps []) qs []
+  parting_time-tails least ps qs h = elim h [
+    | inl a ↦ ap (λ xs. parting_time same least xs qs) a ∙ parting_time-turned least qs
+        ∙ ap (λ xs. parting_time same (parting_time same least xs []) qs []) (sym a)
+    | inr b ↦ ap (parting_time same least ps) b
+        ∙ ap (λ xs. parting_time same (parting_time same least ps []) xs []) (sym b)
   ]
 
 -- ---- as the loops go on, each with its result so far
@@ -72,39 +77,41 @@ module _ (same : Planned → Planned → Bool) where
 module _ (least most : ℕ) (ps qs : List Planned) (i : ℕ) (d e : Planned) (in_ps : i < length ps)
     (in_qs : i < length qs) (r : Bool)
     (decides : Decides r (get_or ps i d ≡ get_or qs i e))
-    (so_far : parting same_plan least (drop i ps) (drop i qs) ≡ parting same_plan most ps qs) where
+    (so_far : parting_time same_plan least (drop i ps) (drop i qs) ≡ parting_time same_plan most ps qs) where
   -- what tells equal decisions tells what is the same
   told_apart : r ≡ same_plan (get_or ps i d) (get_or qs i e)
   told_apart = same_from_decides r (same_plan (get_or ps i d) (get_or qs i e)) decides
       (same_plan-Decides (get_or ps i d) (get_or qs i e))
 
   -- where the decisions at the place are equal, one place more of both lists leaves the result as it is
-  pub equal_next : r ≡ true → parting same_plan least (drop (i + 1) ps) (drop (i + 1) qs) ≡ parting same_plan most ps qs
+  pub equal_next : r ≡ true →
+      parting_time same_plan least (drop (i + 1) ps) (drop (i + 1) qs) ≡ parting_time same_plan most ps qs
   equal_next h = sym (both_more same_plan least ps qs i d e in_ps in_qs (sym told_apart ∙ h)) ∙ so_far
 
   -- where they are not, so does one place more with the lesser of their times taken in
   pub other_next : (both new : ℕ) → r ≡ false → both ≡ min (get_or ps i d).at (get_or qs i e).at → new
       ≡ min least both →
-      parting same_plan new (drop (i + 1) ps) (drop (i + 1) qs) ≡ parting same_plan most ps qs
+      parting_time same_plan new (drop (i + 1) ps) (drop (i + 1) qs) ≡ parting_time same_plan most ps qs
   other_next both new h b n =
-      ap (λ t. parting same_plan t (drop (i + 1) ps) (drop (i + 1) qs)) (n ∙ ap (min least) b)
+      ap (λ t. parting_time same_plan t (drop (i + 1) ps) (drop (i + 1) qs)) (n ∙ ap (min least) b)
       ∙ sym (other_more same_plan least ps qs i d e in_ps in_qs (sym told_apart ∙ h)) ∙ so_far
 
 -- where one list alone is left, one place more of it, with its time taken in, leaves the result as it is
 pub list_next : (least most new : ℕ) (ps : List Planned) (i : ℕ) (d : Planned) → i < length ps
     → new ≡ min least (get_or ps i d).at →
-    parting same_plan least (drop i ps) [] ≡ parting same_plan most ps []
-    → parting same_plan new (drop (i + 1) ps) [] ≡ parting same_plan most ps []
-list_next least most new ps i d l n h = ap (λ t. parting same_plan t (drop (i + 1) ps) []) n
+    parting_time same_plan least (drop i ps) [] ≡ parting_time same_plan most ps []
+    → parting_time same_plan new (drop (i + 1) ps) [] ≡ parting_time same_plan most ps []
+list_next least most new ps i d l n h = ap (λ t. parting_time same_plan t (drop (i + 1) ps) []) n
     ∙ sym (one_more same_plan least ps i d l) ∙ h
 
 -- behind the places that both have, one of the lists has ended
 pub lists_end : (least most : ℕ) (ps qs : List Planned) (i : ℕ) (left last : ℕ) → i ≡ min (length ps) (length qs) →
-    parting same_plan least (drop i ps) (drop i qs) ≡ parting same_plan most ps qs →
-    left ≡ parting same_plan least (drop i ps) [] → last ≡ parting same_plan left (drop i qs) []
-    → last ≡ parting same_plan most ps qs
+    parting_time same_plan least (drop i ps) (drop i qs) ≡ parting_time same_plan most ps qs →
+    left ≡ parting_time same_plan least (drop i ps) [] → last ≡ parting_time same_plan left (drop i qs) []
+    → last ≡ parting_time same_plan most ps qs
 lists_end least most ps qs i left last at h l k =
-    k ∙ ap (λ t. parting same_plan t (drop i qs) []) l ∙ sym (tails same_plan least (drop i ps) (drop i qs) ended) ∙ h
+    k ∙ ap (λ t. parting_time same_plan t (drop i qs) []) l
+    ∙ sym (parting_time-tails same_plan least (drop i ps) (drop i qs) ended) ∙ h
   where
     ended : (drop i ps ≡ []) ⊎ (drop i qs ≡ [])
     ended = elim (cases_lt (length ps) (length qs)) [

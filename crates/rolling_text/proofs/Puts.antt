@@ -2,21 +2,21 @@
 use Rattle.std.proofs.Common.{◌≡◌, ℕ, ◌+◌, ◌≤◌, refl, sym, ap, subst, ◌∙◌, arith, Bool, true, false, List, [], ◌++◌}
 use Rattle.std.proofs.Common.{append-nil, length, length-append, if◌then◌else◌}
 use Rattle.std.proofs.lemmas.List.{append_assoc}
-use Rattle.sim_outer.specs.Causes.{IsCounted, HasRisen}
+use Rattle.sim_outer.specs.Counts.{IsCounted, HasRisen}
 use Rattle.sim_outer.specs.Views.{SinkView}
 use Rattle.sim_outer.proofs.Appending.{appended_nothing, appended_then, part_then}
 use Rattle.rolling_text.specs.Pages.{PageView}
-use Rattle.rolling_text.specs.Puts.{IsTaken, IsPut, IsCutOff, IsPutTo}
+use Rattle.rolling_text.specs.Puts.{IsPartPut, IsPut, IsCutOff, IsPutTo}
 
--- ---- IsTaken, IsPut, IsCutOff
+-- ---- IsPartPut, IsPut, IsCutOff
 
 -- nothing was taken yet
-taken_none : (v : SinkView) → IsTaken [] v v
+taken_none : (v : SinkView) → IsPartPut [] v v
 taken_none v = record { bytes = appended_nothing v.bytes; later = omega arith; same = refl }
 
 -- one part was taken, and then another
-taken_then : (a b : List ℕ) (old mid new : SinkView) → IsTaken a old mid → IsTaken b mid new
-    → IsTaken (a ++ b) old new
+taken_then : (a b : List ℕ) (old mid new : SinkView) → IsPartPut a old mid → IsPartPut b mid new
+    → IsPartPut (a ++ b) old new
 taken_then a b old mid new h k = let x = h.later in let y = k.later in record {
   bytes = appended_then a b old.bytes mid.bytes new.bytes h.bytes k.bytes;
   later = omega (arith, x, y);
@@ -24,7 +24,7 @@ taken_then a b old mid new h k = let x = h.later in let y = k.later in record {
 }
 
 -- and then the rest, which ends the call
-put_then : (a b : List ℕ) (old mid new : SinkView) → IsTaken a old mid → IsPut b mid new → IsPut (a ++ b) old new
+put_then : (a b : List ℕ) (old mid new : SinkView) → IsPartPut a old mid → IsPut b mid new → IsPut (a ++ b) old new
 put_then a b old mid new h k = let x = h.later in let y = k.later in record {
   bytes = appended_then a b old.bytes mid.bytes new.bytes h.bytes k.bytes;
   later = omega (arith, x, y);
@@ -36,7 +36,7 @@ rose_earlier : (a b c : ℕ) → a ≤ b → HasRisen b c → HasRisen a c
 rose_earlier a b c l r = omega (arith, l, r)
 
 -- one part was taken, and another cut off, to which more would have come
-pub cut_then : (a b c : List ℕ) (old mid new : SinkView) → IsTaken a old mid → IsCutOff b mid new
+pub cut_then : (a b c : List ℕ) (old mid new : SinkView) → IsPartPut a old mid → IsCutOff b mid new
     → IsCutOff (a ++ (b ++ c)) old new
 cut_then a b c old mid new h k = let x = h.later in let y = k.later in record {
   bytes = part_then a b c old.bytes mid.bytes new.bytes h.bytes k.bytes;
@@ -122,17 +122,17 @@ part_fits part others left text reserved e h =
 
 module _ (head rest text : List ℕ) (is : head ++ rest ≡ text) (v0 v1 v2 : SinkView) where
   -- taken whole
-  pub text_put : (v3 : SinkView) → IsTaken head v0 v1 → IsTaken rest v1 v2 → IsPut [] v2 v3 → IsPut text v0 v3
+  pub text_put : (v3 : SinkView) → IsPartPut head v0 v1 → IsPartPut rest v1 v2 → IsPut [] v2 v3 → IsPut text v0 v3
   text_put v3 a b c = subst (λ l. IsPut l v0 v3) (append-nil (head ++ rest) ∙ is)
       (put_then (head ++ rest) [] v0 v2 v3 (taken_then head rest v0 v1 v2 a b) c)
 
   -- cut off behind its head
-  pub rest_cut : IsTaken head v0 v1 → IsCutOff rest v1 v2 → IsCutOff text v0 v2
+  pub rest_cut : IsPartPut head v0 v1 → IsCutOff rest v1 v2 → IsCutOff text v0 v2
   rest_cut a b = subst (λ l. IsCutOff l v0 v2) (ap (λ l. head ++ l) (append-nil rest) ∙ is)
       (cut_then head rest [] v0 v1 v2 a b)
 
   -- and where it ends
-  pub end_cut : (v3 : SinkView) → IsTaken head v0 v1 → IsTaken rest v1 v2 → IsCutOff [] v2 v3 → IsCutOff text v0 v3
+  pub end_cut : (v3 : SinkView) → IsPartPut head v0 v1 → IsPartPut rest v1 v2 → IsCutOff [] v2 v3 → IsCutOff text v0 v3
   end_cut v3 a b c = subst (λ l. IsCutOff l v0 v3) (append-nil (head ++ rest) ∙ is)
       (cut_then (head ++ rest) [] [] v0 v2 v3 (taken_then head rest v0 v1 v2 a b) c)
 
@@ -140,9 +140,9 @@ module _ (head rest text : List ℕ) (is : head ++ rest ≡ text) (v0 v1 v2 : Si
 
 -- some of it is kept, and what comes then is put alone
 pub both_taken : (all left less : List ℕ) (p q r : PageView) (old mid new : SinkView) → less ≡ []
-    → IsPutTo true all left p q old mid → IsPutTo false left less q r mid new → IsTaken all old new
+    → IsPutTo true all left p q old mid → IsPutTo false left less q r mid new → IsPartPut all old new
 both_taken all left less p q r old mid new none h k =
-    subst (λ l. IsTaken l old new)
+    subst (λ l. IsPartPut l old new)
     (ap (λ l. h.done ++ l) (sym (append-nil k.done) ∙ ap (λ l. k.done ++ l) (sym none) ∙ k.parts) ∙ h.parts)
     (taken_then h.done k.done old mid new h.taken k.taken)
 
@@ -152,12 +152,12 @@ both_taken all left less p q r old mid new none h k =
 pub record IsTakenTo (all left : List ℕ) (old new : SinkView) : Type 0 where
   pub done : List ℕ
   pub parts : done ++ left ≡ all
-  pub taken : IsTaken done old new
+  pub taken : IsPartPut done old new
 
 module _ (all left part less : List ℕ) (old mid new : SinkView) (h : IsTakenTo all left old mid)
     (parts : part ++ less ≡ left) where
   -- the next part is taken
-  pub taken_more : IsTaken part mid new → IsTakenTo all less old new
+  pub taken_more : IsPartPut part mid new → IsTakenTo all less old new
   taken_more k = record {
     done = h.done ++ part;
     parts = append_assoc h.done part less ∙ ap (λ l. h.done ++ l) parts ∙ h.parts;

@@ -10,10 +10,10 @@ use Rattle.sim_base.specs.declared.entry.Line.{Line}
 use Rattle.sim_base.specs.declared.message.Msg.{Msg}
 use Rattle.net_model.specs.Net.{Net}
 use Rattle.net_model.specs.Rules.{IsNet}
-use Rattle.run_laws.specs.Laws.{before}
+use Rattle.run_laws.specs.Laws.{entries_before}
 use Rattle.run_laws.specs.Merges.{merge}
 use Rattle.run_laws.specs.Queue.{In}
-use Rattle.run_laws.specs.SharedTexts.{from_on, shared_to}
+use Rattle.run_laws.specs.SharedTexts.{entries_from, parting_of}
 use Rattle.run_laws.proofs.Lists.{in_filter, in_append, filter_all}
 use Rattle.run_laws.proofs.Merges.{in_merge}
 use Rattle.run_laws.proofs.Queue.{all_from}
@@ -30,7 +30,7 @@ use Rattle.trace_cursor.specs.Words.{by_key}
 use Rattle.world_core.specs.Worlds.{AreInNet, WorldView}
 use Rattle.rolling_text.specs.Lengths.{log_length, first_lengths}
 use Rattle.rolling_text.specs.Sharing.{same_plan}
-use Rattle.rolling_text.specs.Texts.{HaveShortLines, body, parting_at, shared_at}
+use Rattle.rolling_text.specs.Texts.{HaveShortLines, body, parting_at, parting_with_last}
 use Rattle.rolling_text.specs.WorldTraces.{IsOver}
 use Rattle.rolling_text.proofs.Keeping.{rest_from_0}
 use Rattle.rolling_text.proofs.LogLaws.{all_measured, from_short, log_measured, lengths_more}
@@ -71,14 +71,14 @@ sum_short net (e ∷ es) h =
 -- the lines of one station more, merged
 pub met_more : (net : Net) (c : Clone) (i t : ℕ)
     → HaveShortLines net (merge_of_rests (simulation net) sender_of number_of c t i) →
-    HaveShortLines net (from_on (simulation net) t (log_at net c (i + 1) net.horizon))
+    HaveShortLines net (entries_from (simulation net) t (log_at net c (i + 1) net.horizon))
     → HaveShortLines net (merge_of_rests (simulation net) sender_of number_of c t (i + 1))
 met_more net c i t h k =
     let up : i + 1 ≡ suc i = omega arith in
     subst (λ n. HaveShortLines net (merge_of_rests (simulation net) sender_of number_of c t n)) (sym up)
     (short_merge net by_key (merge_of_rests (simulation net) sender_of number_of c t i)
-    (from_on (simulation net) t (log_at net c (suc i) net.horizon)) h
-    (subst (λ n. HaveShortLines net (from_on (simulation net) t (log_at net c n net.horizon))) up k))
+    (entries_from (simulation net) t (log_at net c (suc i) net.horizon)) h
+    (subst (λ n. HaveShortLines net (entries_from (simulation net) t (log_at net c n net.horizon))) up k))
 
 -- ---- the bound of a clone's lines, by its logs
 
@@ -128,27 +128,27 @@ module _ (world : WorldView) (over : IsOver world) (c : ℕ) (there : c < length
 module _ (net : Net) (valid : IsNet net) (cs : List Clone) (in_net : AreInNet net cs) where
   -- every clone but the first has lines of the one before it
   short_next : (c : ℕ) → 1 ≤ c → c < length cs → HaveShortLines net (trace_of net (clone_at cs (c - 1)))
-      → HaveShortLines net (from_on (simulation net) (shared_at net cs c) (trace_of net (clone_at cs c)))
+      → HaveShortLines net (entries_from (simulation net) (parting_with_last net cs c) (trace_of net (clone_at cs c)))
       → HaveShortLines net (trace_of net (clone_at cs c))
   short_next c some there h k =
       let old = clone_at cs (c - 1) in
       let new = clone_at cs c in
-      let time = shared_to (simulation net) same_plan old new in
+      let time = parting_of (simulation net) same_plan old new in
       let law = lawful-stations net valid in
       let split = trace_split law (stations-to_stations net valid) (fresh-stations net valid) new time
       (in_net.plans c there) in
       let agree = agree_to_parting law same_plan old new (tells_plans net)
       (in_net.ends (c - 1) (omega (arith, there))) (in_net.ends c there) in
       record {
-        each = λ e i. elim (in_append (before (simulation net) time (trace_of net new))
-            (from_on (simulation net) time (trace_of net new)) e (subst (λ l. In e l) split i)) [
+        each = λ e i. elim (in_append (entries_before (simulation net) time (trace_of net new))
+            (entries_from (simulation net) time (trace_of net new)) e (subst (λ l. In e l) split i)) [
               | inl a ↦ h.each e (in_filter _ (trace_of net old) e (subst (λ l. In e l) (sym agree) a)).0
               | inr b ↦ k.each e b
             ];
       }
 
   -- the first clone has all lines from where it parts on
-  short_first : HaveShortLines net (from_on (simulation net) 0 (trace_of net (clone_at cs 0)))
+  short_first : HaveShortLines net (entries_from (simulation net) 0 (trace_of net (clone_at cs 0)))
       → HaveShortLines net (trace_of net (clone_at cs 0))
   short_first h =
       let late : Entry Msg Line → Bool = λ e. not (nat_lt e.msg.key.time 0) in
@@ -159,12 +159,12 @@ module _ (net : Net) (valid : IsNet net) (cs : List Clone) (in_net : AreInNet ne
   -- so it is of each clone
   pub short_at : (c time : ℕ) → c < length cs → time ≡ parting_at net cs c
       → (1 ≤ c → HaveShortLines net (trace_of net (clone_at cs (c - 1))))
-      → HaveShortLines net (from_on (simulation net) time (trace_of net (clone_at cs c)))
+      → HaveShortLines net (entries_from (simulation net) time (trace_of net (clone_at cs c)))
       → HaveShortLines net (trace_of net (clone_at cs c))
   short_at zero time there t h k = short_first
-      (subst (λ u. HaveShortLines net (from_on (simulation net) u (trace_of net (clone_at cs 0)))) t k)
+      (subst (λ u. HaveShortLines net (entries_from (simulation net) u (trace_of net (clone_at cs 0)))) t k)
   short_at (suc c) time there t h k = short_next (suc c) (omega arith) there (h (omega arith))
-      (subst (λ u. HaveShortLines net (from_on (simulation net) u (trace_of net (clone_at cs (suc c))))) t k)
+      (subst (λ u. HaveShortLines net (entries_from (simulation net) u (trace_of net (clone_at cs (suc c))))) t k)
 
 -- ---- body
 

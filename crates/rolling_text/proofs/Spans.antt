@@ -9,7 +9,7 @@ use Rattle.sim_base.specs.declared.entry.Line.{Line}
 use Rattle.sim_base.specs.declared.message.Msg.{Msg}
 use Rattle.sim_outer.specs.Views.{SinkView}
 use Rattle.net_model.specs.Net.{Net}
-use Rattle.run_laws.specs.SharedTexts.{from_on}
+use Rattle.run_laws.specs.SharedTexts.{entries_from}
 use Rattle.stations.specs.Runs.{simulation, trace_of}
 use Rattle.trace_report.specs.TraceText.{entry_line}
 use Rattle.world_core.specs.Worlds.{WorldView}
@@ -29,8 +29,8 @@ both_ok (Err e) A B P a b f = tt
 -- ---- the lines of what a cursor was given, from a time on, and of what it has left, from another time on
 
 module _ (net model : Net) (c : Clone) (from until count : ℕ) (left others : List (Entry Msg Line)) (is : model ≡ net)
-    (given : left ≡ from_on (simulation net) from (trace_of net c))
-    (behind : drop count left ≡ from_on (simulation net) until (trace_of net c))
+    (given : left ≡ entries_from (simulation net) from (trace_of net c))
+    (behind : drop count left ≡ entries_from (simulation net) until (trace_of net c))
     (taken : others ≡ drop count left) where
   -- those that it was given
   lines_from : flat_map (entry_line model) left ≡ rest net c from
@@ -58,19 +58,20 @@ module _ (world : WorldView) (over : IsOver world) (view : WorldTracesView)
     (seen : record { net = world.net; clones = world.clones } ≡ view) (c : ℕ) (there : c < length view.clones) where
   -- the entries of the clone from a time on
   abbrev trace_from : ℕ → List (Entry Msg Line)
-  trace_from t = from_on (simulation world.net) t (trace_of world.net (clone_at world.clones c))
+  trace_from t = entries_from (simulation world.net) t (trace_of world.net (clone_at world.clones c))
 
   -- as many entries of what a cursor was given as come before another time, and then what comes from there on
   pub span_seen : (from until all some : ℕ) (left : List (Entry Msg Line)) → from ≤ until → left ≡ trace_from from
       → all ≡ length left → some ≡ length (trace_from until)
-      → (some ≤ all) × (left ≡ from_on (simulation view.net) from (trace_of view.net (clone_at view.clones c)))
-      × (drop (all - some) left ≡ from_on (simulation view.net) until (trace_of view.net (clone_at view.clones c)))
+      → (some ≤ all) × (left ≡ entries_from (simulation view.net) from (trace_of view.net (clone_at view.clones c)))
+      × (drop (all - some) left ≡ entries_from (simulation view.net) until (trace_of view.net (clone_at view.clones c)))
   span_seen from until all some left order given count few =
       let here = there_too world over view seen c there in
       let entries = count ∙ ap length given in
       let as_seen : (t : ℕ) → trace_from t
-      ≡ from_on (simulation view.net) t (trace_of view.net (clone_at view.clones c)) =
-      λ t. ap (λ (v : WorldTracesView). from_on (simulation v.net) t (trace_of v.net (clone_at v.clones c))) seen in (
+      ≡ entries_from (simulation view.net) t (trace_of view.net (clone_at view.clones c)) =
+      λ t. ap (λ (v : WorldTracesView). entries_from (simulation v.net) t
+      (trace_of v.net (clone_at v.clones c))) seen in (
         fewer_later world over c here from until all some order entries few,
         given ∙ as_seen from,
         ap (drop (all - some)) given ∙ left_later world over c here from until all some order entries few
@@ -80,8 +81,8 @@ module _ (world : WorldView) (over : IsOver world) (view : WorldTracesView)
   -- at the horizon those are all
   pub span_over : (from until all : ℕ) (left : List (Entry Msg Line)) → from ≤ until → world.net.horizon ≤ until
       → left ≡ trace_from from → all ≡ length left
-      → (left ≡ from_on (simulation view.net) from (trace_of view.net (clone_at view.clones c)))
-      × (drop all left ≡ from_on (simulation view.net) until (trace_of view.net (clone_at view.clones c)))
+      → (left ≡ entries_from (simulation view.net) from (trace_of view.net (clone_at view.clones c)))
+      × (drop all left ≡ entries_from (simulation view.net) until (trace_of view.net (clone_at view.clones c)))
   span_over from until all left order beyond given count =
       let span = span_seen from until all 0 left order given count
       (sym (none_over world over c (there_too world over view seen c there) until beyond)) in

@@ -14,14 +14,14 @@ IsNextSpan span (Made lines) = IsMade span lines.items
 IsNextSpan span Own = Unit {0}
 
 -- the spans come one after the other: the first begins at a time, and the last ends at another
-abbrev pub AreInOrder : Net → Clone → ℕ → List GivenSpan → ℕ → Type 0
-AreInOrder net list from [] until = from ≡ until
-AreInOrder net list from (b ∷ bs) until =
+abbrev pub SpansAreJoined : Net → Clone → ℕ → List GivenSpan → ℕ → Type 0
+SpansAreJoined net list from [] until = from ≡ until
+SpansAreJoined net list from (b ∷ bs) until =
     IfSome b.mailbox (λ m. m ≡ Some (record { net = net; list = list; from = from; until = b.until }))
-    × (from ≤ b.until) × AreInOrder net list b.until bs until
+    × (from ≤ b.until) × SpansAreJoined net list b.until bs until
 
 -- what is given of a text is given in order
 pub record AreGiven (traces : WorldTracesView) (c made : ℕ) (spans : List GivenSpan) (given until : ℕ) : Type 0 where
   pub there : c < length traces.clones
-  pub in_order : AreInOrder traces.net (clone_at traces.clones c) made spans given
+  pub in_order : SpansAreJoined traces.net (clone_at traces.clones c) made spans given
   pub within : given ≤ until

@@ -2,14 +2,14 @@
 use Rattle.std.specs.Prelude.{ℕ, length, sum_by}
 use Rattle.sim_base.specs.Clones.{Clone}
 use Rattle.net_model.specs.Net.{Net}
-use Rattle.run_laws.specs.SharedTexts.{from_on, station_sum}
+use Rattle.run_laws.specs.SharedTexts.{entries_from, station_sum}
 use Rattle.stations.specs.Runs.{simulation, log_at}
 use Rattle.trace_report.specs.TraceText.{entry_line}
 
 -- those of a station's log from a time on
 abbrev pub log_length : Net → Clone → ℕ → ℕ → ℕ
 log_length net c t s = sum_by (λ e. length (entry_line net e))
-    (from_on (simulation net) t (log_at net c s net.horizon))
+    (entries_from (simulation net) t (log_at net c s net.horizon))
 
 -- those of the logs of the first n stations together
 unfoldable pub first_lengths : Net → Clone → ℕ → ℕ → ℕ

@@ -1,5 +1,5 @@
 -- What makers are asked for, and what the caller of them has out.
-use Rattle.std.specs.Prelude.{◌≡◌, ℕ, List, ◌++◌}
+use Rattle.std.specs.Prelude.{◌≡◌, ℕ, ◌<◌, ◌≤◌, List, ◌++◌, length}
 use Rattle.sim_base.specs.Clones.{Clone, clone_at}
 use Rattle.net_model.specs.Net.{Net}
 use Rattle.rolling_text.specs.Texts.{rest}
@@ -11,6 +11,11 @@ pub record Span : Type 0 where
   pub list : Clone
   pub from : ℕ
   pub until : ℕ
+
+-- one of these clones, by its place, and a time with another that is no earlier
+pub record HasSpan (traces : WorldTracesView) (c from until : ℕ) : Type 0 where
+  pub there : c < length traces.clones
+  pub order : from ≤ until
 
 -- the lines of one of these clones from a time on and before another
 abbrev pub span_between : WorldTracesView → ℕ → ℕ → ℕ → Span

@@ -1,12 +1,12 @@
 -- The put of a text in parts.
 use Rattle.std.specs.Prelude.{◌≡◌, ℕ, ◌≤◌, Bool, List, [], ◌++◌, if◌then◌else◌}
 use Rattle.sim_outer.specs.Bytes.{IsAppended, IsPrefixAppended}
-use Rattle.sim_outer.specs.Causes.{IsCounted, HasRisen}
+use Rattle.sim_outer.specs.Counts.{IsCounted, HasRisen}
 use Rattle.sim_outer.specs.Views.{SinkView}
 use Rattle.rolling_text.specs.Pages.{PageView}
 
 -- this much of a text was taken, whose put goes on
-pub record IsTaken (part : List ℕ) (old new : SinkView) : Type 0 where
+pub record IsPartPut (part : List ℕ) (old new : SinkView) : Type 0 where
   pub bytes : IsAppended old.bytes part new.bytes
   pub later : old.faults ≤ new.faults
   pub same : new.calls ≡ old.calls
@@ -28,6 +28,6 @@ pub record IsCutOff (text : List ℕ) (old new : SinkView) : Type 0 where
 pub record IsPutTo (keeps : Bool) (all left : List ℕ) (page page_now : PageView) (old new : SinkView) : Type 0 where
   pub done : List ℕ
   pub parts : done ++ left ≡ all
-  pub taken : IsTaken done old new
+  pub taken : IsPartPut done old new
   pub page_is : page_now.text ≡ page.text ++ (if keeps then done else [])
   pub reserved : page.reserved ≤ page_now.reserved

@@ -7,7 +7,7 @@ use Rattle.sim_base.specs.declared.entry.Line.{Line}
 use Rattle.sim_base.specs.declared.message.Msg.{Msg}
 use Rattle.net_model.specs.Net.{Net}
 use Rattle.run_laws.specs.Queue.{In}
-use Rattle.run_laws.specs.SharedTexts.{from_on, shared_to}
+use Rattle.run_laws.specs.SharedTexts.{entries_from, parting_of}
 use Rattle.stations.specs.Runs.{simulation, trace_of}
 use Rattle.trace_report.specs.declared.line.TheConstants.{MOST_LINE}
 use Rattle.trace_report.specs.TraceText.{entry_line}
@@ -22,7 +22,7 @@ body net c = flat_map (entry_line net) (trace_of net c)
 
 -- those from a time on
 unfoldable pub rest : Net → Clone → ℕ → List ℕ
-rest net c t = flat_map (entry_line net) (from_on (simulation net) t (trace_of net c))
+rest net c t = flat_map (entry_line net) (entries_from (simulation net) t (trace_of net c))
 
 -- the lines of the clone before this one
 abbrev pub body_before : Net → List Clone → ℕ → List ℕ
@@ -30,18 +30,18 @@ body_before net cs zero = []
 body_before net cs (suc c) = body net (clone_at cs c)
 
 -- the time before which a clone and the one before it have one trace
-abbrev pub shared_at : Net → List Clone → ℕ → ℕ
-shared_at net cs c = shared_to (simulation net) same_plan (clone_at cs (c - 1)) (clone_at cs c)
+abbrev pub parting_with_last : Net → List Clone → ℕ → ℕ
+parting_with_last net cs c = parting_of (simulation net) same_plan (clone_at cs (c - 1)) (clone_at cs c)
 
 -- from which time on a clone's lines are its own: all of them, where there is no clone before it
 abbrev pub parting_at : Net → List Clone → ℕ → ℕ
 parting_at net cs zero = 0
-parting_at net cs (suc c) = shared_at net cs (suc c)
+parting_at net cs (suc c) = parting_with_last net cs (suc c)
 
 -- how much of the lines of the clone before it follows there
 abbrev pub dropped_at : Net → List Clone → ℕ → ℕ
 dropped_at net cs zero = 0
-dropped_at net cs (suc c) = length (rest net (clone_at cs (suc c - 1)) (shared_at net cs (suc c)))
+dropped_at net cs (suc c) = length (rest net (clone_at cs (suc c - 1)) (parting_with_last net cs (suc c)))
 
 -- the lines that are kept of the clone before this one are its first, and so many bytes of them are dropped
 pub record AreLeft (net : Net) (cs : List Clone) (c dropped : ℕ) (lines : List ℕ) : Type 0 where
@@ -63,7 +63,7 @@ pub record CanPut (net : Net) (texts : Texts) : Type 0 where
   pub line : MOST_LINE ≤ length texts.piece.items
 
 -- all that the texts of these clones need is there: a buffer that fits the longest, too
-pub record IsReady (net : Net) (cs : List Clone) (texts : Texts) : Type 0 where
+pub record AreTextsReady (net : Net) (cs : List Clone) (texts : Texts) : Type 0 where
   pub fits : AllFit net cs texts.page.reserved
   pub margin : length texts.page.text ≡ MARGIN
   pub can : CanPut net texts

@@ -29,7 +29,12 @@ pub record IsOver (world : WorldView) : Type 0 where
   pub within : NoneBeyond world.net world.clones world.front
   pub short : AreShort world.clones
 
--- and what its lines are made with: the stations' names
+-- a world at the horizon that has this clone
+pub record IsOverWith (world : WorldView) (c : ℕ) : Type 0 where
+  pub over : IsOver world
+  pub there : c < length world.clones
+
+-- a world at the horizon, and what its lines are made with: the stations' names
 pub record MayTrace (world : WorldView) (names : List Slot) : Type 0 where
   pub over : IsOver world
   pub names_are : AreNames world.net names

@@ -4,7 +4,7 @@ ghost use Rattle.std.specs.List.{flat_map};
 ghost use Rattle.trace_report.specs.Slots.{AreNames};
 ghost use Rattle.trace_report.specs.declared.line.TheConstants.{MOST_LINE};
 ghost use Rattle.trace_report.specs.TraceText.{entry_line, trace_text};
-ghost use Rattle.rolling_text.specs.Puts.{IsTaken, IsPut, IsCutOff};
+ghost use Rattle.rolling_text.specs.Puts.{IsPartPut, IsPut, IsCutOff};
 
 use crate::texts::PIECE;
 use log_chain::{Log, Walk};
@@ -46,7 +46,7 @@ fn make_piece(
 
 // Puts the name line as parts of a text.
 fn put_name_line<O: Sink>(name: &Name, out: &mut O) -> Result<(), PutFailed>
-    ensures ok { OnOk result (IsTaken (codes "clone " ++ name.now ++ codes "\n") (O.view out.old) (O.view out.new)) }
+    ensures ok { OnOk result (IsPartPut (codes "clone " ++ name.now ++ codes "\n") (O.view out.old) (O.view out.new)) }
     ensures err { OnErr result (IsCutOff (codes "clone " ++ name.now ++ codes "\n") (O.view out.old) (O.view out.new)) }
 {
     match out.put_part(b"clone ") {
@@ -65,7 +65,7 @@ fn put_name_line<O: Sink>(name: &Name, out: &mut O) -> Result<(), PutFailed>
 
 // Puts the lines of a log as parts of a text.
 fn put_log<O: Sink>(model: &Model, log: &Log, out: &mut O) -> Result<(), PutFailed>
-    ensures ok { OnOk result (IsTaken (flat_map (entry_line model.now) log.now) (O.view out.old) (O.view out.new)) }
+    ensures ok { OnOk result (IsPartPut (flat_map (entry_line model.now) log.now) (O.view out.old) (O.view out.new)) }
     ensures err { OnErr result (IsCutOff (flat_map (entry_line model.now) log.now) (O.view out.old) (O.view out.new)) }
 {
     let names = Names::of(model);

@@ -6,11 +6,11 @@
 ghost use Rattle.std.specs.Prelude.{◌≡◌, ℕ, ◌^◌, ◌<◌, ◌≤◌, length};
 ghost use Rattle.sim_base.specs.Clones.{clone_at};
 ghost use Rattle.stations.specs.Runs.{simulation, trace_of};
-ghost use Rattle.run_laws.specs.SharedTexts.{from_on};
+ghost use Rattle.run_laws.specs.SharedTexts.{entries_from};
 ghost use Rattle.log_chain.specs.Times.{RiseByTime, from_time};
 ghost use Rattle.trace_report.specs.Slots.{AreNames};
 ghost use Rattle.rolling_text.specs.Texts.{HaveShortLines, body, parting_at};
-ghost use Rattle.rolling_text.specs.WorldTraces.{IsOver, MayTrace};
+ghost use Rattle.rolling_text.specs.WorldTraces.{IsOverWith, MayTrace};
 
 use crate::world_traces::WorldTraces;
 use log_chain::Log;
@@ -34,7 +34,7 @@ fn meet_log(model: &Model, names: &Names, log: &Log, from: u64)
 fn meet_rest(world: &World, names: &Names, c: u32, from: u64)
     requires may_trace { MayTrace world.now names.now }
     requires there { c < length world.now.clones }
-    ensures short { HaveShortLines world.now.net (from_on (simulation world.now.net) from
+    ensures short { HaveShortLines world.now.net (entries_from (simulation world.now.net) from
         (trace_of world.now.net (clone_at world.now.clones c))) }
 {
     let model = world.model();
@@ -45,8 +45,7 @@ fn meet_rest(world: &World, names: &Names, c: u32, from: u64)
 
 // How many bytes the lines of a clone have at most, by how many they are.
 fn bound_of(world: &World, c: u32) -> usize
-    requires over { IsOver world.now }
-    requires there { c < length world.now.clones }
+    requires clone { IsOverWith world.now c }
     requires short { HaveShortLines world.now.net (trace_of world.now.net (clone_at world.now.clones c)) }
     ensures bound { length (body world.now.net (clone_at world.now.clones c)) ≤ result }
     ensures few { result ≤ 2 ^ 40 }
@@ -66,7 +65,7 @@ pub(crate) fn parts_at(traces: &WorldTraces<'_>, c: u32) -> u64
     if c == 0 {
         return 0;
     }
-    traces.shared_to(c)
+    traces.parting_with_last(c)
 }
 
 /// How many bytes the lines of each clone have at most.

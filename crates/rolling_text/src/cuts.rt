@@ -5,7 +5,7 @@ use crate::logs::{Busiest, busiest_of};
 use crate::world_traces::WorldTraces;
 
 // A span has about so many lines: to order it costs little beside them, and its buffer stays near the processor.
-const LINES: u64 = 8_192;
+const LINES_OF_A_SPAN: u64 = 8_192;
 
 /// What is left of a text, cut into pieces by the log of the station that handles most of it. All times are hints.
 #[derive(Drop)]
@@ -22,7 +22,7 @@ impl<'a> Cuts<'a> {
         requires there { c < length traces.now.clones }
     {
         let busiest = busiest_of(traces.world, c, from, until);
-        let pieces = busiest.all / LINES + 1;
+        let pieces = busiest.all / LINES_OF_A_SPAN + 1;
         Cuts {
             busiest,
             pieces,

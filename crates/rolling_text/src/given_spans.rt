@@ -4,8 +4,8 @@
 //!   written      | span of the first | of the second | the caller's own | left
 //!                made                                                   given  until
 //! ```
-ghost use Rattle.std.specs.Prelude.{◌≡◌, ◌<◌, ◌≤◌, [], ◌∷◌, ◌++◌, None, Some, length, IfSome, OnOk, OnErr};
-ghost use Rattle.rolling_text.specs.Orders.{span_between, span_since, span_until};
+ghost use Rattle.std.specs.Prelude.{◌≡◌, ◌≤◌, [], ◌∷◌, ◌++◌, None, Some, IfSome, OnOk, OnErr};
+ghost use Rattle.rolling_text.specs.Orders.{HasSpan, span_between, span_since, span_until};
 ghost use Rattle.rolling_text.specs.GivenSpans.{IsNextSpan};
 
 use crate::cuts::Cuts;
@@ -87,8 +87,7 @@ impl<'a> GivenSpans<'a> {
         from: u64,
         until: u64,
     ) -> GivenSpans<'a>
-        requires there { c < length traces.now.clones }
-        requires order { from ≤ until }
+        requires span { HasSpan traces.now c from until }
         ensures value { result ≡ span_between traces.now c from until }
     {
         GivenSpans {

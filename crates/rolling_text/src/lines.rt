@@ -3,12 +3,12 @@ ghost use Rattle.std.specs.Prelude.{◌≡◌, ◌+◌, ◌<◌, ◌≤◌, true
 ghost use Rattle.std.specs.List.{flat_map};
 ghost use Rattle.sim_base.specs.Clones.{clone_at};
 ghost use Rattle.stations.specs.Runs.{simulation, trace_of};
-ghost use Rattle.run_laws.specs.SharedTexts.{from_on};
+ghost use Rattle.run_laws.specs.SharedTexts.{entries_from};
 ghost use Rattle.trace_report.specs.Slots.{AreNames};
 ghost use Rattle.trace_report.specs.declared.line.TheConstants.{MOST_LINE};
 ghost use Rattle.trace_report.specs.TraceText.{entry_line};
 ghost use Rattle.rolling_text.specs.Puts.{IsPutTo, IsCutOff};
-ghost use Rattle.rolling_text.specs.WorldTraces.{IsOver};
+ghost use Rattle.rolling_text.specs.WorldTraces.{IsOverWith};
 
 use crate::page::Page;
 use crate::texts::PIECE;
@@ -20,11 +20,10 @@ use trace_report::{MOST_LINE, Names, write_stored};
 use world_core::World;
 
 /// Gives a cursor what the logs of a clone have from a time on. Returns how many entries that is.
-pub(crate) fn gather<'a>(cursor: &mut Cursor<'a>, world: &'a World, c: u32, time: u64) -> u64
-    requires over { IsOver world.now }
-    requires there { c < length world.now.clones }
+pub(crate) fn fill_cursor<'a>(cursor: &mut Cursor<'a>, world: &'a World, c: u32, time: u64) -> u64
+    requires clone { IsOverWith world.now c }
     requires most { cursor.old.most ≡ length world.now.net.sites }
-    ensures left { cursor.new.left ≡ from_on (simulation world.now.net) time
+    ensures left { cursor.new.left ≡ entries_from (simulation world.now.net) time
         (trace_of world.now.net (clone_at world.now.clones c)) }
     ensures count { result ≡ length cursor.new.left }
     ensures most { cursor.new.most ≡ cursor.old.most }

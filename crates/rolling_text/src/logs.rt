@@ -6,10 +6,10 @@ ghost use Rattle.net_model.specs.declared.limits.TheConstants.{MOST_LIMIT};
 ghost use Rattle.trace_report.specs.Slots.{AreNames};
 ghost use Rattle.trace_report.specs.declared.line.TheConstants.{MOST_LINE};
 ghost use Rattle.trace_report.specs.TraceText.{entry_line};
-ghost use Rattle.run_laws.specs.SharedTexts.{from_on};
+ghost use Rattle.run_laws.specs.SharedTexts.{entries_from};
 ghost use Rattle.stations.specs.Runs.{simulation, trace_of};
 ghost use Rattle.rolling_text.specs.Texts.{rest};
-ghost use Rattle.rolling_text.specs.WorldTraces.{IsOver};
+ghost use Rattle.rolling_text.specs.WorldTraces.{IsOverWith, MayTrace};
 
 use log_chain::Log;
 use net_model::Model;
@@ -39,8 +39,7 @@ fn log_len(model: &Model, names: &Names, log: &Log, from: u64, until: u64) -> us
 
 /// How long the lines of a clone from a time on and before another are.
 pub(crate) fn len_between(world: &World, names: &Names, c: u32, from: u64, until: u64) -> usize
-    requires names { AreNames world.now.net names.now }
-    requires over { IsOver world.now }
+    requires may_trace { MayTrace world.now names.now }
     requires there { c < length world.now.clones }
     requires order { from ≤ until }
     ensures value { result + length (rest world.now.net (clone_at world.now.clones c) until)
@@ -57,9 +56,8 @@ pub(crate) fn len_between(world: &World, names: &Names, c: u32, from: u64, until
 
 /// How many messages the clone handled from a time on.
 pub(crate) fn count_from(world: &World, c: u32, time: u64) -> u64
-    requires over { IsOver world.now }
-    requires there { c < length world.now.clones }
-    ensures value { result ≡ length (from_on (simulation world.now.net) time
+    requires clone { IsOverWith world.now c }
+    ensures value { result ≡ length (entries_from (simulation world.now.net) time
         (trace_of world.now.net (clone_at world.now.clones c))) }
 {
     let mut count: u64 = 0;
@@ -90,8 +88,7 @@ pub(crate) struct Busiest<'a> {
 
 /// The station that handled most of what a clone handled from a time on and before another.
 pub(crate) fn busiest_of<'a>(world: &'a World, c: u32, from: u64, until: u64) -> Busiest<'a>
-    requires over { IsOver world.now }
-    requires there { c < length world.now.clones }
+    requires clone { IsOverWith world.now c }
 {
     let mut busiest = Busiest {
         log: None,

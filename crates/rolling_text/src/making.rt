@@ -1,6 +1,6 @@
 //! Makers: workers that stay for one whole text, and make the lines of one span of time after another.
-ghost use Rattle.std.specs.Prelude.{◌≡◌, ◌<◌, ◌≤◌, None, Some, length, IfOk};
-ghost use Rattle.rolling_text.specs.Orders.{Span, IsMade, span_between};
+ghost use Rattle.std.specs.Prelude.{◌≡◌, None, Some, IfOk};
+ghost use Rattle.rolling_text.specs.Orders.{HasSpan, Span, IsMade, span_between};
 
 use crate::world_traces::WorldTraces;
 use crate::writing::make_lines;
@@ -22,14 +22,13 @@ pub(crate) struct Order<'a> {
 }
 
 impl<'a> std::marker::Model for Order<'a> {
-    ghost use Rattle.std.specs.Prelude.{◌<◌, ◌≤◌, length};
-    ghost use Rattle.rolling_text.specs.Orders.{Span, span_between};
+    ghost use Rattle.rolling_text.specs.Orders.{HasSpan, Span, span_between};
 
     ghost Value = { Span };
 
     ghost view = { λ o. span_between o.traces.now o.c o.from o.until };
 
-    ghost invariant = { λ o. (o.c < length o.traces.now.clones) × (o.from ≤ o.until) };
+    ghost invariant = { λ o. HasSpan o.traces.now o.c o.from o.until };
 }
 
 /// The lines, or out of memory.
@@ -65,8 +64,7 @@ impl<'a> std::marker::Model for Maker<'a> {
 impl<'a> Order<'a> {
     /// An order for a span of time.
     pub(crate) fn new(traces: &'a WorldTraces<'a>, c: u32, from: u64, until: u64) -> Order<'a>
-        requires there { c < length traces.now.clones }
-        requires order { from ≤ until }
+        requires span { HasSpan traces.now c from until }
         ensures value { result ≡ span_between traces.now c from until }
     {
         Order {

@@ -1,7 +1,7 @@
 //! A buffer whose memory is taken once, and written forward.
 ghost use Rattle.std.specs.Prelude.{◌≡◌, ◌+◌, ◌^◌, ◌<◌, ◌≤◌, ◌++◌, [], true, if◌then◌else◌};
 ghost use Rattle.std.specs.Prelude.{length, take, drop, IfOk, OnOk, OnErr};
-ghost use Rattle.rolling_text.specs.Puts.{IsTaken, IsPutTo, IsCutOff};
+ghost use Rattle.rolling_text.specs.Puts.{IsPartPut, IsPutTo, IsCutOff};
 
 use sim_base::NoMemory;
 use sim_outer::{PutFailed, Sink};
@@ -96,7 +96,7 @@ impl Page {
     /// Puts this text from a place on, as a part.
     pub fn put_from<O: Sink>(&self, start: usize, out: &mut O) -> Result<(), PutFailed>
         requires within { start ≤ length self.now.text }
-        ensures ok { OnOk result (IsTaken (drop start self.now.text) (O.view out.old) (O.view out.new)) }
+        ensures ok { OnOk result (IsPartPut (drop start self.now.text) (O.view out.old) (O.view out.new)) }
         ensures err { OnErr result (IsCutOff (drop start self.now.text) (O.view out.old) (O.view out.new)) }
     {
         match out.put_part(&self.bytes[start..]) {

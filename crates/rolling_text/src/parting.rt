@@ -1,13 +1,13 @@
 //! Where the decision lists of two clones part.
 ghost use Rattle.std.specs.Prelude.{◌≡◌, []};
-ghost use Rattle.run_laws.specs.SharedTexts.{parting as parting'};
+ghost use Rattle.run_laws.specs.SharedTexts.{parting_time as parting_time'};
 ghost use Rattle.rolling_text.specs.Sharing.{same_plan as same_plan'};
 
 use sim_base::{Planned, same_plan};
 
 // The least of a time and those of the decisions.
 fn least_of(plans: &[Planned], most: u64) -> u64
-    ensures value { result ≡ parting' same_plan' most plans.now [] }
+    ensures value { result ≡ parting_time' same_plan' most plans.now [] }
 {
     let mut least = most;
     for plan in plans {
@@ -17,8 +17,8 @@ fn least_of(plans: &[Planned], most: u64) -> u64
 }
 
 /// The least time, from `most` down, of a decision that one of the two lists has at a place and the other has not.
-pub(crate) fn parting(first: &[Planned], second: &[Planned], most: u64) -> u64
-    ensures value { result ≡ parting' same_plan' most first.now second.now }
+pub(crate) fn parting_time(first: &[Planned], second: &[Planned], most: u64) -> u64
+    ensures value { result ≡ parting_time' same_plan' most first.now second.now }
 {
     let both = first.len().min(second.len());
     let mut least = most;

@@ -2,11 +2,11 @@
 ghost use Rattle.std.specs.Prelude.{◌≡◌, ◌+◌, ◌<◌, ◌≤◌, ◌++◌, length, drop, codes, IfOk, OnOk, OnErr};
 ghost use Rattle.sim_base.specs.Clones.{clone_at};
 ghost use Rattle.sim_outer.specs.Bytes.{IsAppended, IsPrefixAppended};
-ghost use Rattle.sim_outer.specs.Causes.{AreCounted, HasRisen};
+ghost use Rattle.sim_outer.specs.Counts.{AreCounted, HasRisen};
 ghost use Rattle.rolling_text.specs.declared.texts.TheConstants.{MARGIN};
 ghost use Rattle.rolling_text.specs.Counting.{AreCountedTo};
-ghost use Rattle.rolling_text.specs.Puts.{IsTaken, IsPut, IsCutOff};
-ghost use Rattle.rolling_text.specs.Texts.{AllFit, AreLeft, CanPut, IsReady, body, parting_at, rest};
+ghost use Rattle.rolling_text.specs.Puts.{IsPartPut, IsPut, IsCutOff};
+ghost use Rattle.rolling_text.specs.Texts.{AllFit, AreLeft, AreTextsReady, CanPut, body, parting_at, rest};
 ghost use Rattle.trace_report.specs.Outputs.{clone_text, clone_texts};
 
 use crate::beside::put_lines;
@@ -83,7 +83,7 @@ fn put_rest<'a, O: Sink, R: Threads + Wait + Sync>(
     requires fits { length texts.old.page.text + length (rest traces.now.net (clone_at traces.now.clones c) time)
         ≤ texts.old.page.reserved }
     // all of these lines are put
-    ensures ok { OnOk result (IsTaken (rest traces.now.net (clone_at traces.now.clones c) time)
+    ensures ok { OnOk result (IsPartPut (rest traces.now.net (clone_at traces.now.clones c) time)
         (O.view out.old) (O.view out.new)) }
     // and the page keeps those before the next one parts
     ensures page { OnOk result (texts.new.page.text ++ rest traces.now.net (clone_at traces.now.clones c) late
@@ -177,7 +177,7 @@ pub fn put_texts<'a, O: Sink, R: Threads + Wait + Sync>(
     mut texts: Texts<'a>,
     out: &mut O,
 ) -> Result<(), PutFailed>
-    requires ready { IsReady traces.now.net traces.now.clones texts }
+    requires ready { AreTextsReady traces.now.net traces.now.clones texts }
     // all texts, or the beginning of them and a fault
     ensures ok { OnOk result (IsAppended (O.view out.old).bytes (clone_texts traces.now.net traces.now.clones)
         (O.view out.new).bytes) }

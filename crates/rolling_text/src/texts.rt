@@ -1,6 +1,6 @@
 //! The memory for all texts.
 ghost use Rattle.std.specs.Prelude.{IfOk};
-ghost use Rattle.rolling_text.specs.Texts.{IsReady};
+ghost use Rattle.rolling_text.specs.Texts.{AreTextsReady};
 
 use crate::bounds::greatest_bound;
 use crate::page::Page;
@@ -29,7 +29,7 @@ pub struct Texts<'a> {
 
 /// Takes all memory that the texts need. Writing them needs no more.
 pub fn prepare<'a>(alloc: Global, traces: &WorldTraces<'a>) -> Result<Texts<'a>, NoMemory>
-    ensures ready { IfOk result (λ texts. IsReady traces.now.net traces.now.clones texts) }
+    ensures ready { IfOk result (λ texts. AreTextsReady traces.now.net traces.now.clones texts) }
 {
     let page = Page::new(alloc, MARGIN, MARGIN + greatest_bound(traces))?;
     let stations = traces.world.model().len();

@@ -3,11 +3,11 @@ ghost use Rattle.std.specs.Prelude.{◌≡◌, ◌<◌, ◌≤◌, length};
 ghost use Rattle.sim_base.specs.Clones.{clone_at};
 ghost use Rattle.sim_base.specs.declared.lists.TheConstants.{MOST_CLONES};
 ghost use Rattle.net_model.specs.Rules.{IsNet};
-ghost use Rattle.rolling_text.specs.Texts.{shared_at};
+ghost use Rattle.rolling_text.specs.Texts.{parting_with_last as parting_with_last'};
 ghost use Rattle.rolling_text.specs.WorldTraces.{AreShort};
 ghost use Rattle.world_core.specs.Worlds.{AreInNet};
 
-use crate::parting::parting;
+use crate::parting::parting_time;
 use sim_base::Name;
 use trace_report::Names;
 use world_core::World;
@@ -66,15 +66,15 @@ impl<'a> WorldTraces<'a> {
     }
 
     /// The time before which a clone and the one before it have one trace.
-    pub fn shared_to(&self, c: u32) -> u64
+    pub fn parting_with_last(&self, c: u32) -> u64
         requires some { 1 ≤ c }
         requires there { c < length self.now.clones }
-        ensures value { result ≡ shared_at self.now.net self.now.clones c }
+        ensures value { result ≡ parting_with_last' self.now.net self.now.clones c }
     {
         let lists = self.world.lists();
         let horizon = self.world.model().horizon();
         let first = lists.end_of(c - 1).unwrap_or(horizon);
         let second = lists.end_of(c).unwrap_or(horizon);
-        parting(lists.list(c - 1), lists.list(c), first.min(second))
+        parting_time(lists.list(c - 1), lists.list(c), first.min(second))
     }
 }

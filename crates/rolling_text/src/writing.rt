@@ -1,14 +1,14 @@
 //! The lines of a clone in a span of time: put, or in a buffer of their own.
-ghost use Rattle.std.specs.Prelude.{◌≡◌, ◌<◌, ◌≤◌, length, drop, IfOk, OnOk, OnErr};
+ghost use Rattle.std.specs.Prelude.{◌≡◌, ◌≤◌, length, drop, IfOk, OnOk, OnErr};
 ghost use Rattle.sim_base.specs.Clones.{clone_at};
 ghost use Rattle.stations.specs.Runs.{simulation, trace_of};
-ghost use Rattle.run_laws.specs.SharedTexts.{from_on};
-ghost use Rattle.rolling_text.specs.Orders.{IsMade, span_between};
+ghost use Rattle.run_laws.specs.SharedTexts.{entries_from};
+ghost use Rattle.rolling_text.specs.Orders.{HasSpan, IsMade, span_between};
 ghost use Rattle.rolling_text.specs.TextSpans.{IsSpanCutOff, IsSpanPut, MayPut};
 ghost use Rattle.rolling_text.specs.Texts.{CanPut};
 ghost use Rattle.rolling_text.specs.WorldTraces.{IsWalk};
 
-use crate::lines::{add_entries, gather, put_entries};
+use crate::lines::{add_entries, fill_cursor, put_entries};
 use crate::logs::count_from;
 use crate::text_span::TextSpan;
 use crate::texts::Texts;
@@ -27,20 +27,19 @@ fn gather_span<'a>(
     from: u64,
     until: u64,
 ) -> u64
-    requires there { c < length traces.now.clones }
+    requires span { HasSpan traces.now c from until }
     requires walk { IsWalk traces.now.net walk.old }
-    requires order { from ≤ until }
     // what it gives: in the cursor, what the clone handled from the time on
-    ensures left { walk.new.left ≡ from_on (simulation traces.now.net) from
+    ensures left { walk.new.left ≡ entries_from (simulation traces.now.net) from
         (trace_of traces.now.net (clone_at traces.now.clones c)) }
     // behind so many of these entries, what it handled from the other time on
-    ensures behind { drop result walk.new.left ≡ from_on (simulation traces.now.net) until
+    ensures behind { drop result walk.new.left ≡ entries_from (simulation traces.now.net) until
         (trace_of traces.now.net (clone_at traces.now.clones c)) }
     ensures within { result ≤ length walk.new.left }
     // what is kept: how many logs the cursor may have
     ensures walk { IsWalk traces.now.net walk.new }
 {
-    let all = gather(walk, traces.world, c, from);
+    let all = fill_cursor(walk, traces.world, c, from);
     // nothing comes from the horizon on, where the last span of a text ends
     if until >= traces.world.model().horizon() {
         return all;
@@ -58,8 +57,7 @@ pub(crate) fn make_lines(
     from: u64,
     until: u64,
 ) -> Result<Vec<u8>, NoMemory>
-    requires there { c < length traces.now.clones }
-    requires order { from ≤ until }
+    requires span { HasSpan traces.now c from until }
     ensures made { IfOk result (λ bytes. IsMade (span_between traces.now c from until) bytes.items) }
 {
     let model = traces.world.model();

@@ -1,51 +1,53 @@
 -- Before anything was handled, the first copy of each station stands for the first clone.
 use Rattle.std.proofs.Common.{◌≡◌, ◌↔◌, ℕ, zero, suc, ◌<◌, ◌≤◌, min, List, [], ◌∷◌, ◌++◌, inl, inr}
-use Rattle.std.proofs.Common.{Option, Some, None, Bool, true, ◌==◌, ◌&&◌, nat_lt, refl, sym, ap, ◌∙◌, subst, arith}
+use Rattle.std.proofs.Common.{Option, Some, None, Bool, true, ◌==◌, ◌&&◌, nat_lt, refl, sym, ap, ◌∙◌, subst}
+use Rattle.std.proofs.Common.{arith, eq-eqb}
 use Rattle.std.specs.List.{filter}
-use Rattle.std.proofs.lemmas.Bool.{cases_Bool, cases_eq, and_parts}
+use Rattle.std.proofs.lemmas.Bool.{cases_Bool, cases_eq, eqb-true, and_parts}
 use Rattle.sim_base.specs.Clones.{Clone, base, clone_at}
 use Rattle.run_laws.specs.Queue.{insert_all, In}
 use Rattle.run_laws.specs.Machine.{run_to}
 use Rattle.run_laws.specs.Simulation.{Simulation}
-use Rattle.run_laws.specs.World.{and_first, openings, begin}
+use Rattle.run_laws.specs.World.{and_first, first_messages, first_world}
 use Rattle.run_laws.specs.Runs.{run, end_of, run_of, log_at, state_at, all_due, due_at}
 use Rattle.run_laws.specs.Handlers.{IsStation, HandlesLawfully, SendsToStations, IsStationOf}
 use Rattle.sim_base.specs.Marked.{SortedMarked}
-use Rattle.run_laws.specs.Copies.{Copy, Carries, takes, messages_taken, first_pending, first_copy, ends_of, Stands}
+use Rattle.run_laws.specs.Copies.{Copy, AreOf, Carries, takes, messages_taken, first_pending, first_copy}
+use Rattle.run_laws.specs.Copies.{ends_of, Stands}
 use Rattle.run_laws.proofs.Queue.{in_insert_all, insert_all_new, same_elements}
 use Rattle.run_laws.proofs.Lists.{in_filter, filter_keeps, sorted_filter, in_own}
 use Rattle.run_laws.proofs.Lists.{own_from, in_append, append_old, append_new}
-use Rattle.run_laws.proofs.Worlds.{in_openings}
+use Rattle.run_laws.proofs.Worlds.{in_first_messages}
 use Rattle.run_laws.proofs.Parts.{part_yes, part_no, sorted_part}
 use Rattle.run_laws.proofs.Late.{due_sorted}
 
--- ---- openings
+-- ---- first_messages
 
 module _ {S M N : Type 0} (sim : Simulation S M N) where
-  -- a station's first message joins the openings
+  -- a station's first message joins those before it
   first_new : (ms : List M) (f : Option M) (m : M) → f ≡ Some m → In m (and_first sim ms f)
   first_new ms None m e = let h : ⊥ = cc in absurd h
   first_new ms (Some x) m e = let h : m ≡ x = cc in append_new ms (x ∷ []) m (inl h)
 
-  -- and the openings before it stay
+  -- and they stay
   first_old : (ms : List M) (f : Option M) (m : M) → In m ms → In m (and_first sim ms f)
   first_old ms None m i = i
   first_old ms (Some x) m i = append_old ms (x ∷ []) m i
 
-  -- the first message of each station is one of the openings
-  openings_have : (n s : ℕ) (m : M) → IsStationOf n s → (sim.setup s).first ≡ Some m → In m (openings sim n)
-  openings_have zero s m here e = let low : 0 < s = here.0 in let high : s ≤ 0 = here.1 in
+  -- the first message of each station is among them
+  first_messages_have : (n s : ℕ) (m : M) → IsStationOf n s → (sim.setup s).first ≡ Some m → In m (first_messages sim n)
+  first_messages_have zero s m here e = let low : 0 < s = here.0 in let high : s ≤ 0 = here.1 in
       absurd (omega (arith, low, high))
-  openings_have (suc n) s m here e = elim (cases_eq s (suc n)) [
-    | inl p ↦ first_new (openings sim n) (sim.setup (suc n)).first m (ap (λ r. (sim.setup r).first) (sym p) ∙ e)
-    | inr n' ↦ first_old (openings sim n) (sim.setup (suc n)).first m (openings_have n s m
+  first_messages_have (suc n) s m here e = elim (cases_eq s (suc n)) [
+    | inl p ↦ first_new (first_messages sim n) (sim.setup (suc n)).first m (ap (λ r. (sim.setup r).first) (sym p) ∙ e)
+    | inr n' ↦ first_old (first_messages sim n) (sim.setup (suc n)).first m (first_messages_have n s m
         (here.0, let high : s ≤ suc n = here.1 in let k : s ≤ n = omega (arith, n', high) in k) e)
   ]
 
   -- ---- run_of
 
   -- before 0 nothing is handled
-  pub run_at_0 : (c : Clone) → run_of sim c 0 ≡ begin sim c.plans
+  pub run_at_0 : (c : Clone) → run_of sim c 0 ≡ first_world sim c.plans
   unfolding run_to
   run_at_0 c = let e : min 0 (end_of sim c) ≡ 0 = omega arith in ap (run sim c.plans) e
 
@@ -53,7 +55,7 @@ module _ {S M N : Type 0} (sim : Simulation S M N) where
 
 module _ {S M N K : Type 0} (sim : Simulation S M N) (has : K → ℕ → Bool) (only : K) (ends : ℕ → ℕ) (c : ℕ) where
   -- what a clone takes of what a station opens with
-  in_first_pending : (f : Option M) (z : M) → In z (messages_taken sim has ends c (first_pending sim only f)) →
+  in_first_pending : (f : Option M) (z : M) → In z (messages_taken sim has ends c (first_pending only f)) →
       (f ≡ Some z) × (takes sim has ends z only c ≡ true)
   in_first_pending None z i = absurd i
   in_first_pending (Some m) z i = elim (cases_Bool (takes sim has ends m only c)) [
@@ -66,12 +68,12 @@ module _ {S M N K : Type 0} (sim : Simulation S M N) (has : K → ℕ → Bool) 
 
   -- it takes the first message, where its marks have it and it comes before its end
   first_pending_has : (f : Option M) (z : M) → f ≡ Some z → takes sim has ends z only c ≡ true →
-      In z (messages_taken sim has ends c (first_pending sim only f))
-  first_pending_has f z e t = subst (λ f. In z (messages_taken sim has ends c (first_pending sim only f))) (sym e)
+      In z (messages_taken sim has ends c (first_pending only f))
+  first_pending_has f z e t = subst (λ f. In z (messages_taken sim has ends c (first_pending only f))) (sym e)
       (subst (In z) (sym (part_yes (takes sim has ends) c (z, only) [] t)) (inl refl))
 
   -- one message is in order
-  first_sorted : (f : Option M) → SortedMarked sim.order (first_pending sim only f)
+  first_sorted : (f : Option M) → SortedMarked sim.order (first_pending only f)
   first_sorted None = tt
   first_sorted (Some m) = (tt, tt)
 
@@ -79,17 +81,21 @@ module _ {S M N K : Type 0} (sim : Simulation S M N) (has : K → ℕ → Bool) 
 
 module _ {S M N K : Type 0} {sim : Simulation S M N} {Good : ℕ → S → Type 0} (law : HandlesLawfully sim Good)
     (to_stations : SendsToStations sim Good) (has : K → ℕ → Bool) (only : K)
-    (first_alone : (c : ℕ) → (has only c ≡ true) ↔ (c ≡ 0)) (s : ℕ) (here : IsStation sim s) where
+    (of_first : AreOf has only 0) (s : ℕ) (here : IsStation sim s) where
+  -- the marks have the first clone, and no other
+  first_alone : (c : ℕ) → (has only c ≡ true) ↔ (c ≡ 0)
+  first_alone c = ((λ e. sym (eqb-true 0 c (sym (of_first c) ∙ e))), (λ e. of_first c ∙ eq-eqb 0 c (sym e)))
+
   -- what the first clone takes of it is what is due to it
-  due_first : messages_taken sim has (ends_of sim (base ∷ [])) 0 (first_pending sim only (sim.setup s).first)
+  due_first : messages_taken sim has (ends_of sim (base ∷ [])) 0 (first_pending only (sim.setup s).first)
       ≡ due_at sim base s 0
   due_first =
       let early : M → Bool = λ m. nat_lt (sim.time m) (end_of sim base) in
-      let all : List M = openings sim sim.stations ++ [] in
+      let all : List M = first_messages sim sim.stations ++ [] in
       let begun : (run_of sim base 0).pending ≡ insert_all sim.order all [] = ap (λ w. w.pending) (run_at_0 sim base) in
       same_elements law.order.order.total (messages_taken sim has (ends_of sim (base ∷ [])) 0
-      (first_pending sim only (sim.setup s).first)) (due_at sim base s 0)
-      (sorted_part (takes sim has (ends_of sim (base ∷ []))) sim.order 0 (first_pending sim only (sim.setup s).first)
+      (first_pending only (sim.setup s).first)) (due_at sim base s 0)
+      (sorted_part (takes sim has (ends_of sim (base ∷ []))) sim.order 0 (first_pending only (sim.setup s).first)
       (first_sorted sim has only (ends_of sim (base ∷ [])) 0 (sim.setup s).first))
       (sorted_filter sim.order (λ m. sim.to m == s) (all_due sim base 0) (due_sorted law base 0))
       (λ z i. let h = in_first_pending sim has only (ends_of sim (base ∷ [])) 0 (sim.setup s).first z i in
@@ -98,14 +104,14 @@ module _ {S M N K : Type 0} {sim : Simulation S M N} {Good : ℕ → S → Type 
       own_from sim.to s (all_due sim base 0) z
       (filter_keeps early (run_of sim base 0).pending z
       (subst (In z) (sym begun) (insert_all_new law.order.order all [] z
-      (append_old (openings sim sim.stations) [] z (openings_have sim sim.stations s z here h.0))))
+      (append_old (first_messages sim sim.stations) [] z (first_messages_have sim sim.stations s z here h.0))))
       t)
       (to_stations.first s z here h.0))
       (λ z i. let h = in_own sim.to s (all_due sim base 0) z i in
       let k = in_filter early (run_of sim base 0).pending z h.0 in
       elim (in_insert_all law.order.order all [] z (subst (In z) begun k.0)) [
-        | inl a ↦ elim (in_append (openings sim sim.stations) [] z a) [
-          | inl b ↦ let o = in_openings sim sim.stations z b in
+        | inl a ↦ elim (in_append (first_messages sim sim.stations) [] z a) [
+          | inl b ↦ let o = in_first_messages sim sim.stations z b in
               let same : o.0 ≡ s = sym (to_stations.first o.0 z o.1 o.2) ∙ h.1 in
               first_pending_has sim has only (ends_of sim (base ∷ [])) 0 (sim.setup s).first z
               (subst (λ r. (sim.setup r).first ≡ Some z) same o.2)

@@ -9,7 +9,7 @@ use Rattle.run_laws.specs.Queue.{In}
 use Rattle.run_laws.specs.Machine.{Config, run_to, Next, stay, go, IsSettled}
 use Rattle.run_laws.specs.Simulation.{Simulation}
 use Rattle.run_laws.specs.World.{to_it}
-use Rattle.run_laws.specs.Window.{Part, earlier_than, part_step}
+use Rattle.run_laws.specs.Window.{LocalStation, earlier_than, local_step}
 use Rattle.run_laws.specs.Handlers.{IsLawful, HandlesLawfully}
 use Rattle.run_laws.specs.Prefixes.{IsCount, IsGained}
 use Rattle.sim_base.specs.Marked.{JoinsMarks, SortedMarked}
@@ -44,7 +44,7 @@ disjoint_append {S} {M} {N} {K} has (x ∷ xs) ys f g h = (
 module _ {S M N : Type 0} {sim : Simulation S M N} {Good : ℕ → S → Type 0} (law : HandlesLawfully sim Good)
     (end s : ℕ) where
   -- a station that drops what it sends at an end or later is lawful too
-  pub until_lawful : IsLawful sim.time (part_step sim.to (handle_until sim end) s) (λ p. Good s p.state)
+  pub until_lawful : IsLawful sim.time (local_step sim.to (handle_until sim end) s) (λ p. Good s p.state)
   until_lawful = record {
     keeps = λ p m g. law.keeps s p.state m g;
     later = λ p m g. all_from (λ x. sim.time m < sim.time x)
@@ -57,15 +57,15 @@ module _ {S M N : Type 0} {sim : Simulation S M N} {Good : ℕ → S → Type 0}
 module _ {S M N K : Type 0} {sim : Simulation S M N} {Good : ℕ → S → Type 0} (law : HandlesLawfully sim Good)
     {has : K → ℕ → Bool} {join : K → K → K} (j : JoinsMarks has join) (ends : ℕ → ℕ) (s bound : ℕ) where
   -- what clone c sees
-  abbrev seen : ℕ → Copy S M N K → List (M × K) → Config (Part S M N) M
+  abbrev seen : ℕ → Copy S M N K → List (M × K) → Config (LocalStation S M N) M
   seen c r sent = view sim has ends c r sent
 
   -- the turns that it takes
-  abbrev Goes : ℕ → Config (Part S M N) M → Config (Part S M N) M → Type 0
+  abbrev Goes : ℕ → Config (LocalStation S M N) M → Config (LocalStation S M N) M → Type 0
   Goes = Turns sim has ends s bound
 
   -- it has nothing left before the bound
-  abbrev Settles : Config (Part S M N) M → Type 0
+  abbrev Settles : Config (LocalStation S M N) M → Type 0
   Settles = IsSettled sim.time bound
 
   -- the logs that the clones come to, cut to the limit
@@ -76,7 +76,7 @@ module _ {S M N K : Type 0} {sim : Simulation S M N} {Good : ℕ → S → Type 
 
   -- each clone of a copy comes to an end of its turns
   pub turns-settle : (r : Copy S M N K) (sent : List (M × K)) (c : ℕ) → Good s r.state →
-      SortedMarked sim.order r.pending → (d : Config (Part S M N) M) × Goes c (seen c r sent) d × Settles d
+      SortedMarked sim.order r.pending → (d : Config (LocalStation S M N) M) × Goes c (seen c r sent) d × Settles d
   turns-settle r sent c g sorted =
       let h = run_reach law.order (until_lawful law (ends c) s) bound bound (seen c r sent) (omega arith)
       (record {
@@ -84,7 +84,7 @@ module _ {S M N K : Type 0} {sim : Simulation S M N} {Good : ℕ → S → Type 
         sorted = sorted_part (takes sim has ends) sim.order c r.pending sorted;
         from_t = all_from_zero sim.time (messages_taken sim has ends c r.pending);
       }) in (
-        run_to sim.order (part_step sim.to (handle_until sim (ends c)) s) sim.time (seen c r sent) bound,
+        run_to sim.order (local_step sim.to (handle_until sim (ends c)) s) sim.time (seen c r sent) bound,
         h.0,
         h.1.from_t,
       )
@@ -203,7 +203,7 @@ module _ {S M N K : Type 0} {sim : Simulation S M N} {Good : ℕ → S → Type 
       let new : Copy S M N K = handled_by sim join s r m q in
       let out : List (M × K) = sent ++ sends_aside sim s r m in
       let next : (c : ℕ) → Carries has r c
-      → Next sim.order sim.time (part_step sim.to (handle_until sim (ends c)) s) bound (seen c r sent)
+      → Next sim.order sim.time (local_step sim.to (handle_until sim (ends c)) s) bound (seen c r sent)
       (seen c new out) = λ c i. handled_view sim j ends law.order s bound c r m k q sent p sorted i
       (all c i) early in
       let first = turns-settle r sent any.0 good sorted in

@@ -9,10 +9,10 @@ use Rattle.std.proofs.lemmas.List.{append_cancel_left}
 use Rattle.std.proofs.lemmas.List.Elements.{filter_agree}
 use Rattle.sim_base.specs.declared.entry.Entry.{Entry}
 use Rattle.run_laws.specs.Queue.{insert_all, In, Sorted}
-use Rattle.run_laws.specs.Machine.{Config, after, Next, Reach, stay, go, IsSettled}
+use Rattle.run_laws.specs.Machine.{Config, config_after, Next, Reach, stay, go, IsSettled}
 use Rattle.run_laws.specs.Simulation.{Simulation}
 use Rattle.run_laws.specs.World.{to_it}
-use Rattle.run_laws.specs.Window.{Part, to_others, earlier_than, part_step}
+use Rattle.run_laws.specs.Window.{LocalStation, to_others, earlier_than, local_step}
 use Rattle.run_laws.specs.Handlers.{IsTimed}
 use Rattle.sim_base.specs.Marked.{JoinsMarks, SortedMarked}
 use Rattle.run_laws.specs.Copies.{Copy, Carries, insert_marked_all, handle_until, handled_by}
@@ -20,49 +20,47 @@ use Rattle.run_laws.specs.Copies.{sends_aside, takes, messages_taken, view}
 use Rattle.run_laws.proofs.Queue.{all_in, all_from}
 use Rattle.run_laws.proofs.Lists.{filter_swap, filter_none}
 use Rattle.run_laws.proofs.Machine.{reach_first, is_settled-no_next, is_settled-stays}
+use Rattle.run_laws.proofs.Worlds.{entry_of}
 use Rattle.run_laws.proofs.Parts.{part_yes, part-append, part-map, part-insert_all}
 
 -- ---- logs
 
 module _ {S M N : Type 0} (sim : Simulation S M N) (s bound : ℕ) where
   -- the turns of a station whose sends from an end on are dropped
-  abbrev TurnsUntil : ℕ → Config (Part S M N) M → Config (Part S M N) M → Type 0
-  TurnsUntil end = Reach sim.order sim.time (part_step sim.to (handle_until sim end) s) bound
-
-  -- the entry of a message that is handled in a state
-  abbrev pub new_entry : S → M → Entry M N
-  new_entry st m = record { msg = m; line = (sim.handle s st m).line }
+  abbrev TurnsUntil : ℕ → Config (LocalStation S M N) M → Config (LocalStation S M N) M → Type 0
+  TurnsUntil end = Reach sim.order sim.time (local_step sim.to (handle_until sim end) s) bound
 
   -- the log only grows
-  pub log_grows : (end : ℕ) {c d : Config (Part S M N) M} → TurnsUntil end c d →
+  pub log_grows : (end : ℕ) {c d : Config (LocalStation S M N) M} → TurnsUntil end c d →
       (l : List (Entry M N)) × (d.at.log ≡ c.at.log ++ l)
   log_grows end {c} stay = ([], sym (append-nil c.at.log))
   log_grows end {c} {d} (go {d = e} r n) =
       let h = log_grows end r in
-      let x : Entry M N = new_entry e.at.state n.m in
+      let x : Entry M N = entry_of sim s e.at.state n.m in
       (h.0 ++ x ∷ [], ap (λ u. u.at.log) n.is ∙ (ap (λ l. l ++ x ∷ []) h.1 ∙ append_assoc c.at.log h.0 (x ∷ [])))
 
   -- where there is a message to handle, what the log gains begins with it
-  pub log_begins : (end : ℕ) (c d : Config (Part S M N) M) (m : M) (q : List M) → c.pending ≡ m ∷ q
+  pub log_begins : (end : ℕ) (c d : Config (LocalStation S M N) M) (m : M) (q : List M) → c.pending ≡ m ∷ q
       → sim.time m < bound →
       TurnsUntil end c d → IsSettled sim.time bound d →
-      (l : List (Entry M N)) × (d.at.log ≡ c.at.log ++ new_entry c.at.state m ∷ l)
+      (l : List (Entry M N)) × (d.at.log ≡ c.at.log ++ entry_of sim s c.at.state m ∷ l)
   log_begins end c d m q p early r f =
-      let e : Config (Part S M N) M = after sim.order (part_step sim.to (handle_until sim end) s) c.at m q in
-      let n : Next sim.order sim.time (part_step sim.to (handle_until sim end) s) bound c e =
+      let e : Config (LocalStation S M N) M =
+      config_after sim.order (local_step sim.to (handle_until sim end) s) c.at m q in
+      let n : Next sim.order sim.time (local_step sim.to (handle_until sim end) s) bound c e =
       record { m = m; q = q; pending = p; early = early; is = refl } in
       elim (reach_first r n) [
         | inl a ↦ absurd (is_settled-no_next d e f
-            (subst (λ x. Next sim.order sim.time (part_step sim.to (handle_until sim end) s) bound x e) (sym a) n))
-        | inr t ↦ let h = log_grows end t in (h.0, h.1 ∙ append_assoc c.at.log (new_entry c.at.state m ∷ []) h.0)
+            (subst (λ x. Next sim.order sim.time (local_step sim.to (handle_until sim end) s) bound x e) (sym a) n))
+        | inr t ↦ let h = log_grows end t in (h.0, h.1 ∙ append_assoc c.at.log (entry_of sim s c.at.state m ∷ []) h.0)
       ]
 
   -- nothing is left before the bound, or there is a next message
-  abbrev SettledOrNext : Config (Part S M N) M → Type 0
+  abbrev SettledOrNext : Config (LocalStation S M N) M → Type 0
   SettledOrNext d = IsSettled sim.time bound d ⊎ ((y : M) × (ys : List M) × (d.pending ≡ y ∷ ys) × (sim.time y < bound))
 
   -- so it is by the pending messages
-  settled_or_next_by : IsTimed sim.order sim.time → (d : Config (Part S M N) M) (q : List M) → d.pending ≡ q →
+  settled_or_next_by : IsTimed sim.order sim.time → (d : Config (LocalStation S M N) M) (q : List M) → d.pending ≡ q →
       Sorted sim.order q → SettledOrNext d
   settled_or_next_by o d [] e k = inl (subst (AllByRecursion (λ m. bound ≤ sim.time m)) (sym e) tt)
   settled_or_next_by o d (y ∷ ys) e k = elim (cases_lt (sim.time y) bound) [
@@ -75,19 +73,20 @@ module _ {S M N : Type 0} (sim : Simulation S M N) (s bound : ℕ) where
   ]
 
   -- one of the two holds of a station with its messages in order
-  pub settled_or_next : IsTimed sim.order sim.time → (d : Config (Part S M N) M) → Sorted sim.order d.pending →
+  pub settled_or_next : IsTimed sim.order sim.time → (d : Config (LocalStation S M N) M) → Sorted sim.order d.pending →
       SettledOrNext d
   settled_or_next o d sorted = settled_or_next_by o d d.pending refl sorted
 
   -- two stations with one log: the first has m to handle, the second has no m; so their logs part
-  pub logs_part : (end1 end2 : ℕ) (c d c2 d2 : Config (Part S M N) M) (m : M) (q : List M) → c.at.log ≡ d.at.log →
+  pub logs_part : (end1 end2 : ℕ) (c d c2 d2 : Config (LocalStation S M N) M) (m : M) (q : List M) →
+      c.at.log ≡ d.at.log →
       c.pending ≡ m ∷ q → sim.time m < bound →
       ((z : M) → In z d.pending → z ≡ m → ⊥) → SettledOrNext d →
       TurnsUntil end1 c c2 → IsSettled sim.time bound c2 → TurnsUntil end2 d d2 → IsSettled sim.time bound d2 →
       c2.at.log ≡ d2.at.log → ⊥
   logs_part end1 end2 c d c2 d2 m q e p early other w r f t g same =
       let a = log_begins end1 c c2 m q p early r f in
-      let x : Entry M N = new_entry c.at.state m in
+      let x : Entry M N = entry_of sim s c.at.state m in
       elim w [
         | inl done ↦
             let b : d2 ≡ d = is_settled-stays done t in
@@ -96,7 +95,7 @@ module _ {S M N : Type 0} (sim : Simulation S M N) (s bound : ℕ) where
             absurd (cc)
         | inr n ↦
             let b = log_begins end2 d d2 n.0 n.1 n.2 n.3 t g in
-            let y : Entry M N = new_entry d.at.state n.0 in
+            let y : Entry M N = entry_of sim s d.at.state n.0 in
             let k : x ∷ a.0 ≡ y ∷ b.0 = append_cancel_left c.at.log (x ∷ a.0) (y ∷ b.0)
             (sym a.1 ∙ (same ∙ (b.1 ∙ ap (λ l. l ++ y ∷ b.0) (sym e)))) in
             let h : x ≡ y = cc in
@@ -104,14 +103,14 @@ module _ {S M N : Type 0} (sim : Simulation S M N) (s bound : ℕ) where
       ]
 
   -- the same, and what each gained first is another entry
-  pub firsts_part : (end1 end2 : ℕ) (c d c2 d2 : Config (Part S M N) M) (m : M) (q : List M) (e : Entry M N)
+  pub firsts_part : (end1 end2 : ℕ) (c d c2 d2 : Config (LocalStation S M N) M) (m : M) (q : List M) (e : Entry M N)
       (u v : List (Entry M N)) → c.at.log ≡ d.at.log → c.pending ≡ m ∷ q → sim.time m < bound →
       ((z : M) → In z d.pending → z ≡ m → ⊥) → SettledOrNext d →
       TurnsUntil end1 c c2 → IsSettled sim.time bound c2 → TurnsUntil end2 d d2 → IsSettled sim.time bound d2 →
       c2.at.log ≡ c.at.log ++ e ∷ u → d2.at.log ≡ d.at.log ++ e ∷ v → ⊥
   firsts_part end1 end2 c d c2 d2 m q e u v eq p early other w r f t g has1 has2 =
       let a = log_begins end1 c c2 m q p early r f in
-      let x : Entry M N = new_entry c.at.state m in
+      let x : Entry M N = entry_of sim s c.at.state m in
       let k1 : x ∷ a.0 ≡ e ∷ u = append_cancel_left c.at.log (x ∷ a.0) (e ∷ u) (sym a.1 ∙ has1) in
       let h1 : x ≡ e = cc in
       elim w [
@@ -122,7 +121,7 @@ module _ {S M N : Type 0} (sim : Simulation S M N) (s bound : ℕ) where
             absurd (cc)
         | inr n ↦
             let b = log_begins end2 d d2 n.0 n.1 n.2 n.3 t g in
-            let y : Entry M N = new_entry d.at.state n.0 in
+            let y : Entry M N = entry_of sim s d.at.state n.0 in
             let k2 : y ∷ b.0 ≡ e ∷ v = append_cancel_left d.at.log (y ∷ b.0) (e ∷ v) (sym b.1 ∙ has2) in
             let h2 : y ≡ e = cc in
             other n.0 (subst (In n.0) (sym n.2) (inl refl)) (ap (λ u. u.msg) (h2 ∙ sym h1))
@@ -188,7 +187,7 @@ module _ {S M N K : Type 0} (sim : Simulation S M N) (has : K → ℕ → Bool) 
 
 -- two stations with equal parts are equal
 station_parts : {S M N : Type 0} (st : S) (log : List (Entry M N)) (a b p q : List M) → a ≡ b → p ≡ q →
-    ◌≡◌ {A = Config (Part S M N) M} (record { at = record { state = st; log = log; aside = a }; pending = p })
+    ◌≡◌ {A = Config (LocalStation S M N) M} (record { at = record { state = st; log = log; aside = a }; pending = p })
     (record { at = record { state = st; log = log; aside = b }; pending = q })
 station_parts st log a b p q e f = cc
 
@@ -207,7 +206,7 @@ module _ {S M N K : Type 0} (sim : Simulation S M N) {has : K → ℕ → Bool} 
   -- one shared handling is a turn of each clone of the copy that takes the message
   pub handled_view : (bound c : ℕ) (a : Copy S M N K) (m : M) (k : K) (q sent : List (M × K)) → a.pending ≡ (m, k) ∷ q →
       SortedMarked sim.order a.pending → Carries has a c → takes sim has ends m k c ≡ true → sim.time m < bound →
-      Next sim.order sim.time (part_step sim.to (handle_until sim (ends c)) s) bound (view sim has ends c a sent)
+      Next sim.order sim.time (local_step sim.to (handle_until sim (ends c)) s) bound (view sim has ends c a sent)
       (view sim has ends c (handled_by sim join s a m q) (sent ++ sends_aside sim s a m))
   handled_view bound c a m k q sent p sorted in_set takes_it early =
       let sq : SortedMarked sim.order ((m, k) ∷ q) = subst (SortedMarked sim.order) p sorted in

@@ -17,11 +17,11 @@ use Rattle.run_laws.proofs.Prefixes.{count_same}
 
 module _ {X : Type 0} (same : X → X → Bool) (decides : (x y : X) → Decides (same x y) (x ≡ y)) where
   -- a member is an element
-  found : (x : X) (ys : List X) → is_member same ys x ≡ true → In x ys
-  found x [] e = absurd (false≢true e)
-  found x (y ∷ ys) e = elim (or_cases (same x y) (is_member same ys x) e) [
+  in_if_member : (x : X) (ys : List X) → is_member same ys x ≡ true → In x ys
+  in_if_member x [] e = absurd (false≢true e)
+  in_if_member x (y ∷ ys) e = elim (or_cases (same x y) (is_member same ys x) e) [
     | inl t ↦ inl ((decides x y).0 t)
-    | inr t ↦ inr (found x ys t)
+    | inr t ↦ inr (in_if_member x ys t)
   ]
 
   -- and an element a member
@@ -40,7 +40,10 @@ module _ {X : Type 0} (same : X → X → Bool) (decides : (x y : X) → Decides
           members = h.members;
           apart = h.apart;
           exact = λ z i. inr (h.exact z i);
-          all = λ z i. elim i [ inl d ↦ h.all z (subst (λ u. In u xs) (sym d) (found x xs t)) | inr k ↦ h.all z k ];
+          all = λ z i. elim i [
+            | inl d ↦ h.all z (subst (λ u. In u xs) (sym d) (in_if_member x xs t))
+            | inr k ↦ h.all z k
+          ];
           number = h.number ∙ ap length (sym (ap (λ b. cond b (unique_keys same xs) (x ∷ unique_keys same xs)) t));
         }
         | inr f ↦ record {

@@ -1,6 +1,6 @@
 -- Copies stand for the clones after a decision, an end and a fork, where they stood for them before.
 use Rattle.std.proofs.Common.{◌≡◌, ℕ, ◌+◌, ◌≤◌, ◌<◌, List, [], ◌∷◌, ◌++◌, inl, inr, Bool, true, false, cond, ◌==◌, ◌&&◌}
-use Rattle.std.proofs.Common.{nat_lt, min, None, refl, sym, ap, ◌∙◌, subst, arith, length, length-set, eq-eqb}
+use Rattle.std.proofs.Common.{nat_lt, min, refl, sym, ap, ◌∙◌, subst, arith, length, length-set, eq-eqb}
 use Rattle.std.specs.List.{AllZip}
 use Rattle.std.proofs.lemmas.Bool.{cases_Bool, cases_eq, ne_eqb, lt-ltb, ltb-true, false≢true, and_right}
 use Rattle.std.proofs.lemmas.List.{length_push}
@@ -11,12 +11,12 @@ use Rattle.run_laws.specs.Queue.{insert, In}
 use Rattle.run_laws.specs.Simulation.{Simulation}
 use Rattle.run_laws.specs.World.{log_of, to_it}
 use Rattle.run_laws.specs.Window.{earlier_than}
-use Rattle.run_laws.specs.Runs.{run, end_of, run_of, log_at, state_at, due_at}
+use Rattle.run_laws.specs.Runs.{run, end_of, IsTimelyPlan, IsTimelyEnd, MayFork, run_of, log_at, state_at, due_at}
 use Rattle.run_laws.specs.Handlers.{HandlesLawfully}
 use Rattle.run_laws.specs.Laws.{AddsDue, DropsDue}
 use Rattle.sim_base.specs.Marked.{SortedMarked}
 use Rattle.run_laws.specs.Copies.{Copy, Carries, Disjoint, takes, messages_taken, takes_as}
-use Rattle.run_laws.specs.Copies.{origin_of, IsGiven, IsForked, ends_of, Stands}
+use Rattle.run_laws.specs.Copies.{AreOf, IsSameCopy, origin_of, IsGiven, IsForked, ends_of, Stands}
 use Rattle.run_laws.proofs.Forks.{end_of-fork}
 use Rattle.run_laws.proofs.Parts.{part-congr, part-filter}
 use Rattle.run_laws.proofs.Late.{decision_adds_due, end_drops_due}
@@ -50,9 +50,7 @@ module _ {S M N K : Type 0} (sim : Simulation S M N) (has : K → ℕ → Bool) 
 
   -- a copy for the changed clones, against what it was
   record Matches (cs : List Clone) (front s : ℕ) (a b : Copy S M N K) : Type 0 where
-    pub set : b.set ≡ a.set
-    pub log : b.log ≡ a.log
-    pub state : b.state ≡ a.state
+    pub same : IsSameCopy a b
     pub due : (c : ℕ) → Carries has a c
         → messages_taken sim has (ends_of sim cs) c b.pending ≡ due_at sim (clone_at cs c) s front
     pub sorted : SortedMarked sim.order b.pending
@@ -66,23 +64,23 @@ module _ {S M N K : Type 0} (sim : Simulation S M N) (has : K → ℕ → Bool) 
       Stands sim has cs front s copies → Stands sim has next front s done
   stands_matched cs next front s copies done many logs states was each apart st =
       let own : (b : Copy S M N K) (c : ℕ) (i : In b done) → Carries has b c → Carries has (was b i).0 c =
-      λ b c i h. subst (λ u. has u c ≡ true) (was b i).2.set h in
+      λ b c i h. subst (λ u. has u c ≡ true) (was b i).2.same.set h in
       record {
         inhabited = λ b i. let x = was b i in let e = st.inhabited x.0 x.1 in
-            (e.0, subst (λ u. has u e.0 ≡ true) (sym x.2.set) e.1);
+            (e.0, subst (λ u. has u e.0 ≡ true) (sym x.2.same.set) e.1);
         carried = λ c l. let x = st.carried c (omega (arith, many, l)) in let y = each x.0 x.1 in
             (y.0, y.1, subst (λ u. has u c ≡ true) (sym y.2) x.2);
         living = λ b c i h. let x = was b i in let l = st.living x.0 c x.1 (own b c i h) in omega (arith, many, l);
         disjoint = apart;
-        log = λ b c i h. let x = was b i in x.2.log ∙ (st.log x.0 c x.1 (own b c i h) ∙ sym (logs c));
-        state = λ b c i h. let x = was b i in x.2.state ∙ (st.state x.0 c x.1 (own b c i h) ∙ sym (states c));
+        log = λ b c i h. let x = was b i in x.2.same.log ∙ (st.log x.0 c x.1 (own b c i h) ∙ sym (logs c));
+        state = λ b c i h. let x = was b i in x.2.same.state ∙ (st.state x.0 c x.1 (own b c i h) ∙ sym (states c));
         due = λ b c i h. (was b i).2.due c (own b c i h);
         shared = λ a b c d i l h k e.
             let x = was a i in let y = was b l in
             let g : x.0 ≡ y.0 = st.shared x.0 y.0 c d x.1 y.1 (own a c i h) (own b d l k)
             (sym (logs c) ∙ (e ∙ logs d)) in
             one_of has done a b c apart i l h
-            (subst (λ u. has u c ≡ true) (x.2.set ∙ (ap (λ u. u.set) g ∙ sym y.2.set)) h);
+            (subst (λ u. has u c ≡ true) (x.2.same.set ∙ (ap (λ u. u.set) g ∙ sym y.2.same.set)) h);
         sorted = λ b i. (was b i).2.sorted;
       }
 
@@ -134,9 +132,7 @@ module _ {S M N K : Type 0} {sim : Simulation S M N} {Good : ℕ → S → Type 
           b,
           i,
           record {
-            set = refl;
-            log = refl;
-            state = refl;
+            same = record { set = refl; log = refl; state = refl };
             due = λ c g. taken_ends sim has (ends_of sim (clones_with_plan cs who p)) (ends_of sim cs) c b.pending
                 (ends_added c)
                 ∙ st.due b c i g
@@ -153,11 +149,10 @@ module _ {S M N K : Type 0} {sim : Simulation S M N} {Good : ℕ → S → Type 
         (λ a i. (a, i, refl)) st.disjoint st
 
     -- a late decision for a station is given to the clone that it is for, and to no other
-    stands_decision : (copies done : List (Copy S M N K)) (k : K) → sim.to message ≡ s → has k who ≡ true →
-        ((c : ℕ) → (c ≡ who → ⊥) → has k c ≡ false) →
+    stands_decision : (copies done : List (Copy S M N K)) (k : K) → sim.to message ≡ s → AreOf has k who →
         AllZip (IsGiven sim has (ends_of sim cs) message k) copies done → Stands sim has cs front s copies →
         Stands sim has (clones_with_plan cs who p) front s done
-    stands_decision copies done k to_s for_it for_no_other zip st =
+    stands_decision copies done k to_s of_who zip st =
         let apart = disjoint_given sim has (ends_of sim cs) message k copies done zip st.disjoint in
         stands_matched sim has cs (clones_with_plan cs who p) front s copies done
         (length-set cs who (with_plan (clone_at cs who) p)) logs_added states_added
@@ -165,9 +160,7 @@ module _ {S M N K : Type 0} {sim : Simulation S M N} {Good : ℕ → S → Type 
           x.0,
           x.1,
           record {
-            set = x.2.set;
-            log = x.2.log;
-            state = x.2.state;
+            same = x.2.same;
             due = λ c g. taken_ends sim has (ends_of sim (clones_with_plan cs who p)) (ends_of sim cs) c b.pending
                 (ends_added c)
                 ∙ x.2.parts c g
@@ -178,7 +171,7 @@ module _ {S M N K : Type 0} {sim : Simulation S M N} {Good : ℕ → S → Type 
           },
         ))
         (λ a i. let y = zip_each (IsGiven sim has (ends_of sim cs) message k) copies done a zip i in
-        (y.0, y.1, y.2.set)) apart st
+        (y.0, y.1, y.2.same.set)) apart st
       where
         -- what is due to each clone then
         given : (c : ℕ) →
@@ -191,17 +184,17 @@ module _ {S M N K : Type 0} {sim : Simulation S M N} {Good : ℕ → S → Type 
             (adds.due_here s ∙ ap (λ t. cond t (insert sim.order message (due_at sim (clone_at cs who) s front))
             (due_at sim (clone_at cs who) s front))
             (ap (λ b. nat_lt (sim.time message) (end_of sim (clone_at cs who)) && b) (eq-eqb (sim.to message) s to_s)
-            ∙ and_swap (has k who) (nat_lt (sim.time message) (end_of sim (clone_at cs who))) for_it))
+            ∙ and_swap (has k who) (nat_lt (sim.time message) (end_of sim (clone_at cs who)))
+            (of_who who ∙ eq-eqb who who refl)))
             (λ c n. ap (λ b. cond (b && nat_lt (sim.time message) (ends_of sim cs c))
             (insert sim.order message (due_at sim (clone_at cs c) s front)) (due_at sim (clone_at cs c) s front))
-            (sym (for_no_other c n)))
+            (sym (of_who c ∙ ne_eqb who c (λ e. n (sym e)))))
 
   -- an end at or after the front leaves the copies as they are
-  pub stands_end : (copies : List (Copy S M N K)) (at : ℕ) → front ≤ at → at ≤ end_of sim (clone_at cs who) →
+  pub stands_end : (copies : List (Copy S M N K)) (at : ℕ) → IsTimelyEnd sim (clone_at cs who) front at →
       Stands sim has cs front s copies → Stands sim has (clones_with_end cs who at) front s copies
-  stands_end copies at late within st =
-      let drops : DropsDue sim (clone_at cs who) at front =
-      end_drops_due law (clone_at cs who) at front late within in
+  stands_end copies at end st =
+      let drops : DropsDue sim (clone_at cs who) at front = end_drops_due law (clone_at cs who) at front end in
       stands_matched sim has cs (clones_with_end cs who at) front s copies copies
       (length-set cs who (with_end (clone_at cs who) at))
       (set_cases (λ c k. log_at sim k s front ≡ log_at sim (clone_at cs c) s front) cs who
@@ -212,15 +205,13 @@ module _ {S M N K : Type 0} {sim : Simulation S M N} {Good : ℕ → S → Type 
         b,
         i,
         record {
-          set = refl;
-          log = refl;
-          state = refl;
+          same = record { set = refl; log = refl; state = refl };
           due = λ c g. taken_ends sim has (ends_of sim (clones_with_end cs who at))
               (λ t. end_of sim (clone_at (clones_with_end cs who at) c)) c b.pending refl
               ∙ set_cases (λ c k. Carries has b c
               → messages_taken sim has (λ t. end_of sim k) c b.pending ≡ due_at sim k s front) cs who
               (with_end (clone_at cs who) at) is_there
-              (λ g. taken_earlier sim has (ends_of sim cs) (λ t. at) who b.pending within
+              (λ g. taken_earlier sim has (ends_of sim cs) (λ t. at) who b.pending end.within
               ∙ ap (earlier_than sim.time at) (st.due b who i g) ∙ sym (drops.due_here s))
               (λ c n g. taken_ends sim has (λ t. end_of sim (clone_at cs c)) (ends_of sim cs) c b.pending refl
               ∙ st.due b c i g)
@@ -257,14 +248,14 @@ module _ {S M N K : Type 0} (sim : Simulation S M N) (has : K → ℕ → Bool) 
       ]
 
   -- a new clone beside its old one, which has no end
-  pub stands_fork : (front s : ℕ) (copies done : List (Copy S M N K)) → old < length cs → (clone_at cs old).end ≡ None →
+  pub stands_fork : (front s : ℕ) (copies done : List (Copy S M N K)) → MayFork cs old →
       AllZip (IsForked sim has (ends_of sim cs) old (length cs)) copies done → Stands sim has cs front s copies →
       Stands sim has (clones_with_fork cs name old) front s done
-  stands_fork front s copies done there no_end zip st =
+  stands_fork front s copies done may zip st =
       let new : ℕ = length cs in
       let k : Clone = fork_of (clone_at cs old) name in
       let many : length (clones_with_fork cs name old) ≡ length cs + 1 = length_push cs k in
-      let same_end : end_of sim k ≡ end_of sim (clone_at cs old) = end_of-fork sim (clone_at cs old) name no_end in
+      let same_end : end_of sim k ≡ end_of sim (clone_at cs old) = end_of-fork sim (clone_at cs old) name may.going in
       let same_run : run_of sim k front ≡ run_of sim (clone_at cs old) front =
       ap (λ e. run sim (clone_at cs old).plans (min front e)) same_end in
       let apart = disjoint_forked (ends_of sim cs) new copies done zip st.disjoint in
@@ -324,7 +315,7 @@ module _ {S M N K : Type 0} (sim : Simulation S M N) (has : K → ℕ → Bool) 
       -- the origin of each clone was there before
       within : (c : ℕ) → c < length cs + 1 → origin_of old (length cs) c < length cs
       within c k = elim (cases_eq c (length cs)) [
-        | inl e ↦ subst (λ b. cond b old c < length cs) (sym (eq-eqb c (length cs) e)) there
+        | inl e ↦ subst (λ b. cond b old c < length cs) (sym (eq-eqb c (length cs) e)) may.there
         | inr n ↦ subst (λ b. cond b old c < length cs) (sym (ne_eqb c (length cs) n)) (less n)
       ]
         where
@@ -344,24 +335,24 @@ module _ {S M N K : Type 0} (sim : Simulation S M N) (has : K → ℕ → Bool) 
 module _ {S M N K : Type 0} {sim : Simulation S M N} {Good : ℕ → S → Type 0} (law : HandlesLawfully sim Good)
     (has : K → ℕ → Bool) (cs : List Clone) (front s who : ℕ) (p : Planned) (m : M) where
   -- a decision, by the message that it is
-  pub stands_after_decision : (k : K) (copies done : List (Copy S M N K)) → who < length cs →
-      m ≡ sim.set_message (length (clone_at cs who).plans) p → front ≤ sim.time m → sim.to m ≡ s →
-      has k who ≡ true → ((c : ℕ) → (c ≡ who → ⊥) → has k c ≡ false) →
+  pub stands_after_decision : (k : K) (copies done : List (Copy S M N K)) →
+      IsTimelyPlan sim cs front who p m → sim.to m ≡ s →
+      AreOf has k who →
       AllZip (IsGiven sim has (ends_of sim cs) m k) copies done → Stands sim has cs front s copies →
       Stands sim has (clones_with_plan cs who p) front s done
-  stands_after_decision k copies done there is late to_s for_it for_no_other zip st =
+  stands_after_decision k copies done timely to_s of_who zip st =
       subst (λ m. front ≤ sim.time m → sim.to m ≡ s → AllZip (IsGiven sim has (ends_of sim cs) m k) copies done
-      → Stands sim has (clones_with_plan cs who p) front s done) (sym is)
-      (λ late to_s zip. stands_decision law has cs front s who there p late copies done k to_s for_it for_no_other zip
-      st)
-      late to_s zip
+      → Stands sim has (clones_with_plan cs who p) front s done) (sym timely.is)
+      (λ late to_s zip. stands_decision law has cs front s who timely.there p late copies done k to_s of_who
+      zip st)
+      timely.late to_s zip
 
   -- and of one for another station
-  pub stands_after_other_decision : (copies : List (Copy S M N K)) → who < length cs →
-      m ≡ sim.set_message (length (clone_at cs who).plans) p → front ≤ sim.time m → (sim.to m ≡ s → ⊥) →
+  pub stands_after_other_decision : (copies : List (Copy S M N K)) → IsTimelyPlan sim cs front who p m →
+      (sim.to m ≡ s → ⊥) →
       Stands sim has cs front s copies → Stands sim has (clones_with_plan cs who p) front s copies
-  stands_after_other_decision copies there is late not st =
+  stands_after_other_decision copies timely not st =
       subst (λ m. front ≤ sim.time m → (sim.to m ≡ s → ⊥) → Stands sim has (clones_with_plan cs who p) front s copies)
-      (sym is)
-      (λ late not. stands_other_decision law has cs front s who there p late copies not st)
-      late not
+      (sym timely.is)
+      (λ late not. stands_other_decision law has cs front s who timely.there p late copies not st)
+      timely.late not

@@ -45,10 +45,14 @@ module _ {S M N K : Type 0} (sim : Simulation S M N) (has : K → ℕ → Bool) 
   pub given_none : (new : List (Copy S M N K)) → Disjoint has new →
       ((a : Copy S M N K) → In a new → SortedMarked sim.order a.pending) → SoFarGiven sim has ends [] new new
   given_none new d s = record {
-    from = λ b i. (b, i, refl, refl, refl, λ c z h l. inl l, λ c z h l. elim l [ inl k ↦ k | inr k ↦ absurd k ]);
-    each = λ a i. (a, i, refl);
-    disjoint = d;
-    sorted = s;
+    from = λ b i. (
+      b,
+      i,
+      record { set = refl; log = refl; state = refl },
+      λ c z h l. inl l,
+      λ c z h l. elim l [ inl k ↦ k | inr k ↦ absurd k ],
+    );
+    clones = record { each = λ a i. (a, i, refl); disjoint = d; sorted = s };
   }
 
 -- ---- AllZip
@@ -116,7 +120,7 @@ module _ {S M N K : Type 0} (sim : Simulation S M N) (has : K → ℕ → Bool) 
   pub disjoint_given : (m : M) (k : K) (xs ys : List (Copy S M N K)) → AllZip (IsGiven sim has ends m k) xs ys →
       Disjoint has xs → Disjoint has ys
   disjoint_given m k xs ys = disjoint_zip has (IsGiven sim has ends m k) (λ c. c)
-      (λ a b c g i. subst (λ t. has t c ≡ true) g.set i) xs ys
+      (λ a b c g i. subst (λ t. has t c ≡ true) g.same.set i) xs ys
 
   -- ---- SoFarGiven, message by message
 
@@ -133,14 +137,16 @@ module _ {S M N K : Type 0} (sim : Simulation S M N) (has : K → ℕ → Bool) 
         (messages_taken sim has ends c y.0.pending) in (
           x.0,
           x.1,
-          y.2.set ∙ x.2,
-          y.2.log ∙ x.3,
-          y.2.state ∙ x.4,
+          record {
+            set = y.2.same.set ∙ x.2.set;
+            log = y.2.same.log ∙ x.2.log;
+            state = y.2.same.state ∙ x.2.state;
+          },
           λ c z g l.
-              let p = y.2.parts c (subst (λ t. has t c ≡ true) (sym x.2) g) in
+              let p = y.2.parts c (subst (λ t. has t c ≡ true) (sym x.2.set) g) in
               let was : In z (messages_taken sim has ends c y.0.pending)
               → In z (messages_taken sim has ends c x.0.pending)
-              ⊎ In z (messages_taken sim has ends c (msgs ++ (m, k) ∷ [])) = λ u. elim (x.5 c z g u) [
+              ⊎ In z (messages_taken sim has ends c (msgs ++ (m, k) ∷ [])) = λ u. elim (x.3 c z g u) [
                 | inl v ↦ inl v
                 | inr v ↦ inr (part_push_old (takes sim has ends) c msgs (m, k) z v)
               ] in
@@ -152,7 +158,7 @@ module _ {S M N K : Type 0} (sim : Simulation S M N) (has : K → ℕ → Bool) 
                 | inr e ↦ was (subst (In z) (p ∙ ap (λ b. given b c) e) l)
               ],
           λ c z g l.
-              let p = y.2.parts c (subst (λ t. has t c ≡ true) (sym x.2) g) in
+              let p = y.2.parts c (subst (λ t. has t c ≡ true) (sym x.2.set) g) in
               let was : In z (messages_taken sim has ends c y.0.pending)
               → In z (messages_taken sim has ends c b.pending) =
               λ u. subst (In z) (sym p) (elim (cases_Bool (takes sim has ends m k c)) [
@@ -160,46 +166,44 @@ module _ {S M N K : Type 0} (sim : Simulation S M N) (has : K → ℕ → Bool) 
                 | inr e ↦ subst (λ b. In z (given b c)) (sym e) u
               ]) in
               elim l [
-                | inl u ↦ was (x.6 c z g (inl u))
+                | inl u ↦ was (x.4 c z g (inl u))
                 | inr u ↦ elim (in_part_push (takes sim has ends) c msgs (m, k) z u) [
-                  | inl v ↦ was (x.6 c z g (inr v))
+                  | inl v ↦ was (x.4 c z g (inr v))
                   | inr v ↦ subst (In z) (sym p)
                       (subst (λ b. In z (given b c)) (sym v.0)
                       (subst (λ t. In t (insert sim.order m (q c))) (sym v.1) (insert_new o m (q c))))
                 ]
               ],
         );
-    each = λ a i. let b = h.each a i in let d = zip_each (IsGiven sim has ends m k) done next b.0 zip b.1 in
-        (d.0, d.1, d.2.set ∙ b.2);
-    disjoint = disjoint_given m k done next zip h.disjoint;
-    sorted = λ a i. (zip_from (IsGiven sim has ends m k) done next a zip i).2.sorted;
+    clones = record {
+      each = λ a i. let b = h.clones.each a i in let d = zip_each (IsGiven sim has ends m k) done next b.0 zip b.1 in
+          (d.0, d.1, d.2.same.set ∙ b.2);
+      disjoint = disjoint_given m k done next zip h.clones.disjoint;
+      sorted = λ a i. (zip_from (IsGiven sim has ends m k) done next a zip i).2.sorted;
+    };
   }
 
 -- ---- IsDelivered
 
 -- where the messages are, for each clone, those that the stations sent to s, all is delivered
-pub delivered : {S M N K : Type 0} (sim : Simulation S M N) (has : K → ℕ → Bool) (cs : List Clone) (s : ℕ)
+pub IsDelivered-SoFarGiven : {S M N K : Type 0} (sim : Simulation S M N) (has : K → ℕ → Bool) (cs : List Clone) (s : ℕ)
     (sent : ℕ → List (M × K)) (msgs : List (M × K)) (new done : List (Copy S M N K)) →
     ((c : ℕ) (z : M) → In z (messages_taken sim has (ends_of sim cs) c msgs)
     → (r : ℕ) × In z (messages_taken sim has (ends_of sim cs) c (sent r)) × (sim.to z ≡ s)) →
     ((c r : ℕ) (z : M) → In z (messages_taken sim has (ends_of sim cs) c (sent r)) → sim.to z ≡ s
     → In z (messages_taken sim has (ends_of sim cs) c msgs)) →
     SoFarGiven sim has (ends_of sim cs) msgs new done → IsDelivered sim has cs s sent new done
-delivered sim has cs s sent msgs new done f g h = record {
+IsDelivered-SoFarGiven sim has cs s sent msgs new done f g h = record {
   from = λ b i. let x = h.from b i in (
     x.0,
     x.1,
     record {
-      set = x.2;
-      log = x.3;
-      state = x.4;
-      from = λ c z k l. elim (x.5 c z k l) [ inl u ↦ inl u | inr u ↦ inr (f c z u) ];
-      still = λ c z k l. x.6 c z k (inl l);
-      got = λ c r z k l t. x.6 c z k (inr (g c r z l t));
+      same = x.2;
+      from = λ c z k l. elim (x.3 c z k l) [ inl u ↦ inl u | inr u ↦ inr (f c z u) ];
+      still = λ c z k l. x.4 c z k (inl l);
+      got = λ c r z k l t. x.4 c z k (inr (g c r z l t));
     },
   );
-  each = h.each;
-  one = λ a b i l c k t. one_of has done a b c h.disjoint i l k t;
-  disjoint = h.disjoint;
-  sorted = h.sorted;
+  one = λ a b i l c k t. one_of has done a b c h.clones.disjoint i l k t;
+  clones = h.clones;
 }

@@ -6,7 +6,7 @@ use Rattle.sim_base.specs.Clones.{Clone, clone_at, clones_with_fork, fork_of, wi
 use Rattle.sim_base.specs.declared.decision.Planned.{Planned}
 use Rattle.run_laws.specs.Queue.{insert, In}
 use Rattle.run_laws.specs.Simulation.{Simulation}
-use Rattle.run_laws.specs.Runs.{end_of, all_due, due_at}
+use Rattle.run_laws.specs.Runs.{end_of, IsTimelyEnd, MayFork, all_due, due_at}
 use Rattle.run_laws.specs.Fronts.{earlier, least_time, least_of, least, window_end, next_front}
 use Rattle.run_laws.specs.Handlers.{IsStation, AreForStations, HandlesLawfully, SendsToStations, IsStationOf}
 use Rattle.run_laws.specs.Handlers.{AllAreForStations}
@@ -79,9 +79,9 @@ module _ {S M N : Type 0} {sim : Simulation S M N} {Good : ℕ → S → Type 0}
       by m q false = refl
 
   -- with an end at the front or later
-  pub least_of-with_end : (c : Clone) (at front : ℕ) → front ≤ at → at ≤ end_of sim c →
+  pub least_of-with_end : (c : Clone) (at front : ℕ) → IsTimelyEnd sim c front at →
       least_of sim (with_end c at) front ≡ time_before at (least_of sim c front)
-  least_of-with_end c at front l e = ap (least_time sim.time) (end_drops_due law c at front l e).due
+  least_of-with_end c at front end = ap (least_time sim.time) (end_drops_due law c at front end).due
       ∙ least-earlier_than law.order at (all_due sim c front) (due_sorted law c front)
 
 module _ {S M N : Type 0} {sim : Simulation S M N} {Good : ℕ → S → Type 0} (law : HandlesLawfully sim Good)
@@ -127,9 +127,9 @@ module _ {S M N : Type 0} (sim : Simulation S M N) (front : ℕ) where
       least-of_same (Some t) a = ((a.0.0, to a.0.0 a.0.1, a.0.2), λ m h. a.1 m (from m h))
 
   -- with a fork
-  least-forked : (cs : List Clone) (old : ℕ) (name : List ℕ) → old < length cs → (clone_at cs old).end ≡ None →
+  least-forked : (cs : List Clone) (old : ℕ) (name : List ℕ) → MayFork cs old →
       least sim (clones_with_fork cs name old) front ≡ least sim cs front
-  least-forked cs old name there no_end =
+  least-forked cs old name may =
       let k : Clone = fork_of (clone_at cs old) name in
       least-unique sim.time (DueIn (cs ++ k ∷ [])) (DueIn cs) (least sim (cs ++ k ∷ []) front) (least sim cs front)
       (λ m h. elim (in_append cs (k ∷ []) h.0 h.1) [
@@ -137,8 +137,9 @@ module _ {S M N : Type 0} (sim : Simulation S M N) (front : ℕ) where
         | inr i ↦ elim i [
           | inl e ↦ (
             clone_at cs old,
-            clone_in cs old there,
-            subst (In m) (ap (λ u. all_due sim u front) e ∙ all_due-fork sim (clone_at cs old) name no_end front) h.2,
+            clone_in cs old may.there,
+            subst (In m)
+                (ap (λ u. all_due sim u front) e ∙ all_due-fork sim (clone_at cs old) name may.going front) h.2,
           )
           | inr n ↦ absurd n
         ]
@@ -147,9 +148,9 @@ module _ {S M N : Type 0} (sim : Simulation S M N) (front : ℕ) where
       (least-is (cs ++ k ∷ [])) (least-is cs)
 
   -- so the next front with a fork is the one without it
-  pub next_front-forked : (cs : List Clone) (old : ℕ) (name : List ℕ) → old < length cs → (clone_at cs old).end ≡ None →
+  pub next_front-forked : (cs : List Clone) (old : ℕ) (name : List ℕ) → MayFork cs old →
       next_front sim (clones_with_fork cs name old) front ≡ next_front sim cs front
-  next_front-forked cs old name there no_end = ap (window_end sim) (least-forked cs old name there no_end)
+  next_front-forked cs old name may = ap (window_end sim) (least-forked cs old name may)
 
 -- ---- least, by the copies of all stations
 

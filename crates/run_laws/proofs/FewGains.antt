@@ -16,12 +16,12 @@ use Rattle.sim_base.specs.Marked.{SortedMarked}
 use Rattle.run_laws.specs.Queue.{In}
 use Rattle.run_laws.specs.Machine.{run_to}
 use Rattle.run_laws.specs.Simulation.{Simulation}
-use Rattle.run_laws.specs.Window.{part_step}
+use Rattle.run_laws.specs.Window.{local_step}
 use Rattle.run_laws.specs.Handlers.{HandlesLawfully}
 use Rattle.run_laws.specs.Runs.{log_at}
 use Rattle.run_laws.specs.Sharing.{prefixes, same_list, logs_at}
 use Rattle.run_laws.specs.StepLaws.{AreReady}
-use Rattle.run_laws.specs.CountLaws.{AreSized, NoneIsBeyond, AreFew}
+use Rattle.run_laws.specs.CountLaws.{AreSized, AreWithinLimitAt, AreFew}
 use Rattle.run_laws.specs.Prefixes.{IsCount, IsGained}
 use Rattle.run_laws.specs.Copies.{Copy, Carries, handle_until, takes, messages_taken, view, IsCutLog, GainTogether}
 use Rattle.run_laws.proofs.Running.{all_from_zero, run_is}
@@ -41,7 +41,7 @@ module _ {S M N K : Type 0} {sim : Simulation S M N} {Good : ℕ → S → Type 
       (sorted : SortedMarked sim.order r.pending) where
     -- the log that a clone of the copy comes to
     abbrev last_log : ℕ → List (Entry M N)
-    last_log c = (run_to sim.order (part_step sim.to (handle_until sim (ends c)) s) sim.time
+    last_log c = (run_to sim.order (local_step sim.to (handle_until sim (ends c)) s) sim.time
         (view sim has ends c r sent) bound).at.log
 
     -- there is one for each clone
@@ -103,7 +103,7 @@ module _ {S M N K : Type 0} {sim : Simulation S M N} {Good : ℕ → S → Type 
 module _ {S M N : Type 0} (sim : Simulation S M N) where
   -- where no log is beyond the limit
   pub counts_are_few : (same : Entry M N → Entry M N → Bool) (cs : List Clone) (s front : ℕ) →
-      NoneIsBeyond sim cs s front →
+      AreWithinLimitAt sim cs s front →
       AreFew sim same cs s front
   counts_are_few same cs s front short =
       let logs : List (List (Entry M N)) = logs_at sim cs s front in

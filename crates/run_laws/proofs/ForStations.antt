@@ -6,13 +6,13 @@ use Rattle.sim_base.specs.declared.decision.Planned.{Planned}
 use Rattle.sim_base.proofs.ListLaws.{all_push}
 use Rattle.run_laws.specs.Queue.{In}
 use Rattle.run_laws.specs.Simulation.{Simulation}
-use Rattle.run_laws.specs.World.{openings, set_messages, begin}
+use Rattle.run_laws.specs.World.{first_messages, set_messages, first_world}
 use Rattle.run_laws.specs.Runs.{run, end_of, run_of, all_due}
 use Rattle.run_laws.specs.Handlers.{IsStation, AreForStations, HandlesLawfully, SendsToStations}
 use Rattle.run_laws.proofs.Queue.{all_in, in_insert_all}
 use Rattle.run_laws.proofs.Lists.{in_filter, in_append}
 use Rattle.run_laws.proofs.Running.{fine_keeps}
-use Rattle.run_laws.proofs.Worlds.{in_openings, in_set_messages, world_lawful, begins_fine, run_reached, entry_of}
+use Rattle.run_laws.proofs.Worlds.{in_first_messages, in_set_messages, world_lawful, begins_fine, run_reached, entry_of}
 
 -- ---- IsStation
 
@@ -20,12 +20,12 @@ module _ {S M N : Type 0} {sim : Simulation S M N} {Good : ℕ → S → Type 0}
     (stations : SendsToStations sim Good) where
   -- what a world begins with is for stations
   begins_for_stations : (plans : List Planned) → AreForStations sim plans → (z : M)
-      → In z (begin sim plans).pending →
+      → In z (first_world sim plans).pending →
       IsStation sim (sim.to z)
   begins_for_stations plans there z i =
-      elim (in_insert_all law.order.order (openings sim sim.stations ++ set_messages sim 0 plans) [] z i) [
-        | inl j ↦ elim (in_append (openings sim sim.stations) (set_messages sim 0 plans) z j) [
-          | inl k ↦ let h = in_openings sim sim.stations z k in
+      elim (in_insert_all law.order.order (first_messages sim sim.stations ++ set_messages sim 0 plans) [] z i) [
+        | inl j ↦ elim (in_append (first_messages sim sim.stations) (set_messages sim 0 plans) z j) [
+          | inl k ↦ let h = in_first_messages sim sim.stations z k in
               subst (IsStation sim) (sym (stations.first h.0 z h.1 h.2)) h.1
           | inr k ↦ let h = in_set_messages sim 0 plans z k in
               subst (IsStation sim) (sym (ap sim.to h.4 ∙ stations.set_message h.0 h.1))

@@ -15,13 +15,13 @@ use Rattle.run_laws.specs.Queue.{In}
 use Rattle.run_laws.specs.Machine.{Config, Reach, IsSettled}
 use Rattle.run_laws.specs.Simulation.{Simulation}
 use Rattle.run_laws.specs.World.{World, log_of, world_step}
-use Rattle.run_laws.specs.Window.{Part, local}
+use Rattle.run_laws.specs.Window.{LocalStation, local_run}
 use Rattle.run_laws.specs.Runs.{end_of, run_of, log_at, state_at, all_due, due_at}
 use Rattle.run_laws.specs.Fronts.{next_front}
 use Rattle.run_laws.specs.Sharing.{prefixes, same_list, logs_at, copies, handled_once, handled_to_limit, IsBeyond}
 use Rattle.run_laws.specs.Handlers.{HandlesLawfully}
-use Rattle.run_laws.specs.Laws.{before}
-use Rattle.run_laws.specs.CountLaws.{TellsEntries, NoneIsBeyond}
+use Rattle.run_laws.specs.Laws.{entries_before}
+use Rattle.run_laws.specs.CountLaws.{TellsEntries, AreWithinLimitAt}
 use Rattle.run_laws.specs.Prefixes.{Apart, IsCount, IsGained}
 use Rattle.sim_base.specs.Marked.{JoinsMarks, SortedMarked}
 use Rattle.run_laws.specs.Copies.{Copy, Carries, Disjoint, takes, messages_taken, view, IsNarrowed, Turns}
@@ -31,11 +31,10 @@ use Rattle.run_laws.proofs.Lists.{in_filter, in_own, append_old, filter_all}
 use Rattle.run_laws.proofs.Machine.{reach_keeps}
 use Rattle.run_laws.proofs.Running.{fine_keeps}
 use Rattle.run_laws.proofs.Worlds.{run_reached, run_goes_on, entry_of}
-use Rattle.run_laws.proofs.Fronts.{trace_below, before-late, log_at_front}
+use Rattle.run_laws.proofs.Fronts.{trace_below, entries_before-late, log_at_front}
 use Rattle.run_laws.proofs.CloneWindows.{windows_give_run}
 use Rattle.run_laws.proofs.NextFronts.{all_due-from_front}
 use Rattle.run_laws.proofs.Parts.{sorted_part}
-use Rattle.run_laws.proofs.CopyViews.{new_entry}
 use Rattle.run_laws.proofs.Prefixes.{count_same, count_both, count_unique, gained_same, longer_than_itself}
 use Rattle.run_laws.proofs.ComesTo.{until_lawful, turns-settle, cut_of_some}
 use Rattle.run_laws.proofs.Steps.{ends_alone}
@@ -130,40 +129,42 @@ module _ {S M N K : Type 0} {sim : Simulation S M N} {Good : ℕ → S → Type 
   pub record AtFront (a : Copy S M N K) (c : ℕ) : Type 0 where
     pub good : Good s a.state
     pub sorted : SortedMarked sim.order a.pending
-    pub log_before : before sim front a.log ≡ a.log
+    pub log_before : entries_before sim front a.log ≡ a.log
     pub from_front : AllByRecursion (λ m. front ≤ sim.time m) (messages_taken sim has ends c a.pending)
 
   -- what a copy had before the front shows in what it gained
   gained_before : (a : Copy S M N K) (p : List (Entry M N)) → ((c : ℕ) → Carries has a c → AtFront a c) →
-      Gains sim has ends s bound a p → before sim front p ≡ a.log
+      Gains sim has ends s bound a p → entries_before sim front p ≡ a.log
   gained_before a p at g =
       let cut = g.is_log in
       let c : ℕ = cut.clone in
       let h = at cut.clone cut.is_in in
-      let kept : before sim front cut.last.at.log ≡ a.log =
-      fine_keeps law.order (until_lawful law (ends cut.clone) s) front (λ d. before sim front d.at.log ≡ a.log)
+      let kept : entries_before sim front cut.last.at.log ≡ a.log =
+      fine_keeps law.order (until_lawful law (ends cut.clone) s) front (λ d. entries_before sim front d.at.log ≡ a.log)
       h.log_before
-      (λ x m q f early h. before-late law front x.log (new_entry sim s bound x.state m) f.from_t.0 ∙ h)
+      (λ x m q f early h. entries_before-late law front x.log (entry_of sim s x.state m) f.from_t.0 ∙ h)
       (record {
         good = h.good;
         sorted = sorted_part (takes sim has ends) sim.order cut.clone a.pending h.sorted;
         from_t = h.from_front;
       })
       cut.ran in
-      let own : List (Entry M N) = before sim front (g.first ∷ g.more) in
+      let own : List (Entry M N) = entries_before sim front (g.first ∷ g.more) in
       let rest : List (Entry M N) = g.rest ++ drop sim.limit cut.last.at.log in
       let whole : cut.last.at.log ≡ p ++ rest = sym (take-append-drop sim.limit cut.last.at.log)
       ∙ ap (λ l. l ++ drop sim.limit cut.last.at.log) (sym cut.is ∙ g.prefix)
       ∙ append_assoc p g.rest (drop sim.limit cut.last.at.log) in
-      let is : before sim front p ≡ a.log ++ own = ap (before sim front) g.longer
+      let is : entries_before sim front p ≡ a.log ++ own = ap (entries_before sim front) g.longer
       ∙ filter-append (λ e. nat_lt (sim.time e.msg) front) a.log (g.first ∷ g.more)
       ∙ ap (λ l. l ++ own) h.log_before in
-      let both : a.log ++ (own ++ before sim front rest) ≡ a.log ++ [] =
-      sym (append_assoc a.log own (before sim front rest)) ∙ ap (λ l. l ++ before sim front rest) (sym is)
-      ∙ sym (filter-append (λ e. nat_lt (sim.time e.msg) front) p rest) ∙ sym (ap (before sim front) whole) ∙ kept
+      let both : a.log ++ (own ++ entries_before sim front rest) ≡ a.log ++ [] =
+      sym (append_assoc a.log own (entries_before sim front rest))
+      ∙ ap (λ l. l ++ entries_before sim front rest) (sym is)
+      ∙ sym (filter-append (λ e. nat_lt (sim.time e.msg) front) p rest)
+      ∙ sym (ap (entries_before sim front) whole) ∙ kept
       ∙ sym (append-nil a.log) in
-      let none : own ≡ [] = nothing_first own (before sim front rest)
-      (append_cancel_left a.log (own ++ before sim front rest) [] both) in
+      let none : own ≡ [] = nothing_first own (entries_before sim front rest)
+      (append_cancel_left a.log (own ++ entries_before sim front rest) [] both) in
       is ∙ ap (λ l. a.log ++ l) none ∙ append-nil a.log
 
   -- no copies gain nothing
@@ -182,8 +183,8 @@ module _ {S M N K : Type 0} {sim : Simulation S M N} {Good : ℕ → S → Type 
       (λ p h. elim h [ inl g ↦ (a, inl refl, g) | inr g ↦ (g.0, inr g.1, g.2) ])
       (λ p g. elim g.1 [ inl e ↦ inl (subst (λ u. Gains sim has ends s bound u p) e g.2) | inr i ↦ inr (g.0, i, g.2) ])
       (count_both (Gains sim has ends s bound a) (GainedBy sim has ends s bound old) m n (λ p g h.
-      let e : before sim front p ≡ a.log = gained_before a p (λ c k. at a c (inl refl) k) g in
-      let f : before sim front p ≡ h.0.log = gained_before h.0 p (λ c k. at h.0 c (inr h.1) k) h.2 in
+      let e : entries_before sim front p ≡ a.log = gained_before a p (λ c k. at a c (inl refl) k) g in
+      let f : entries_before sim front p ≡ h.0.log = gained_before h.0 p (λ c k. at h.0 c (inr h.1) k) h.2 in
       differ h.0 g.is_log.clone h.2.is_log.clone h.1 g.is_log.is_in h.2.is_log.is_in (sym e ∙ f)) x y)
 
   -- copies that gain together, and one more
@@ -221,7 +222,8 @@ module _ {S M N K : Type 0} {sim : Simulation S M N} {Good : ℕ → S → Type 
   at_front a c i h = record {
     good = good_state a c i h;
     sorted = st.sorted a i;
-    log_before = ap (before sim front) (st.log a c i h) ∙ log_at_front law (clone_at cs c) s front front (omega arith)
+    log_before = ap (entries_before sim front) (st.log a c i h)
+        ∙ log_at_front law (clone_at cs c) s front front (omega arith)
         ∙ sym (st.log a c i h);
     from_front = subst (AllByRecursion (λ m. front ≤ sim.time m)) (sym (st.due a c i h))
         (due_at-from_front law (clone_at cs c) s front);
@@ -254,15 +256,16 @@ module _ {S M N K : Type 0} {sim : Simulation S M N} {Good : ℕ → S → Type 
         let e : ℕ = ends_of sim cs c in
         let w = windows_give_run law cs k front bound (clone_in cs c (st.living a c i h)) later within in
         ap (λ u. u.at.log)
-        (ap (λ l. local sim s l a.state (messages_taken sim has (ends_of sim cs) c a.pending) bound e)
+        (ap (λ l. local_run sim s l a.state (messages_taken sim has (ends_of sim cs) c a.pending) bound e)
         (st.log a c i h)
-        ∙ (ap (λ l. local sim s (log_at sim k s front) l (messages_taken sim has (ends_of sim cs) c a.pending) bound e)
+        ∙ (ap (λ l. local_run sim s (log_at sim k s front) l
+        (messages_taken sim has (ends_of sim cs) c a.pending) bound e)
         (st.state a c i h)
-        ∙ ap (λ l. local sim s (log_at sim k s front) (state_at sim k s front) l bound e) (st.due a c i h)))
+        ∙ ap (λ l. local_run sim s (log_at sim k s front) (state_at sim k s front) l bound e) (st.due a c i h)))
         ∙ sym (w.log s)
 
     -- and so do the clone's turns
-    pub last_log : (a : Copy S M N K) (c : ℕ) (d : Config (Part S M N) M) → In a old → Carries has a c →
+    pub last_log : (a : Copy S M N K) (c : ℕ) (d : Config (LocalStation S M N) M) → In a old → Carries has a c →
         Turns sim has (ends_of sim cs) s bound c (view sim has (ends_of sim cs) c a []) d →
         IsSettled sim.time bound d → d.at.log ≡ log_at sim (clone_at cs c) s bound
     last_log a c d i h ran done = (ends_alone law j (ends_of sim cs) s bound a c d (good_state a c i h)
@@ -301,7 +304,7 @@ module _ {S M N K : Type 0} {sim : Simulation S M N} {Good : ℕ → S → Type 
 
     -- handled once at the bound, of no log more than the limit: what was at the front, and what the copies gained
     pub handled_grows_to_limit : (same : Entry M N → Entry M N → Bool) (total : ℕ) →
-        TellsEntries same → NoneIsBeyond sim cs s front →
+        TellsEntries same → AreWithinLimitAt sim cs s front →
         GainTogether sim has (ends_of sim cs) s bound old total →
         handled_to_limit sim same cs s bound ≡ handled_once sim same cs s front + total
     handled_grows_to_limit same total decides short together =
@@ -335,12 +338,12 @@ module _ {S M N K : Type 0} {sim : Simulation S M N} {Good : ℕ → S → Type 
         apart p g h =
             let k = in_map (λ k. log_at sim k s front) cs g.log g.is_log in
             let is : log_at sim k.0 s front ≡ p ++ g.rest = sym k.2 ∙ g.prefix in
-            let early : before sim front p ≡ p =
+            let early : entries_before sim front p ≡ p =
             filter_all (λ e. nat_lt (sim.time e.msg) front) p
             (all_from (λ e. nat_lt (sim.time e.msg) front ≡ true) p (λ x i.
             all_in (λ e. nat_lt (sim.time e.msg) front ≡ true) (log_at sim k.0 s front) x (log_at-below law k.0 s front)
             (subst (In x) (sym is) (append_old p g.rest x i)))) in
-            let e : before sim front p ≡ h.0.log =
+            let e : entries_before sim front p ≡ h.0.log =
             gained_before law j (ends_of sim cs) s front bound h.0 p (λ c i. at_front h.0 c h.1 i) h.2 in
             longer_than_itself h.0.log h.2.first h.2.more (sym h.2.longer ∙ sym early ∙ e)
 
@@ -431,7 +434,7 @@ module _ {S M N K : Type 0} {sim : Simulation S M N} {Good : ℕ → S → Type 
 
     -- where no log gets too long, nothing is cut
     pub handled_grows : (same : Entry M N → Entry M N → Bool) (total : ℕ) →
-        TellsEntries same → NoneIsBeyond sim cs s bound →
+        TellsEntries same → AreWithinLimitAt sim cs s bound →
         GainTogether sim has (ends_of sim cs) s bound old total →
         handled_once sim same cs s bound ≡ handled_once sim same cs s front + total
     handled_grows same total decides short together =
@@ -445,7 +448,7 @@ module _ {S M N K : Type 0} {sim : Simulation S M N} {Good : ℕ → S → Type 
 
     -- and at most so much is handled once: as much as logs cut to the limit have
     pub handled_is_few : (same : Entry M N → Entry M N → Bool) (total : ℕ) →
-        TellsEntries same → NoneIsBeyond sim cs s front →
+        TellsEntries same → AreWithinLimitAt sim cs s front →
         GainTogether sim has (ends_of sim cs) s bound old total →
         handled_once sim same cs s front + total ≤ length cs * sim.limit
     handled_is_few same total decides short together =

@@ -3,14 +3,12 @@ use Rattle.std.proofs.Common.{◌≡◌, ℕ, ◌+◌, ◌-◌, ◌<◌, ◌≤�
 use Rattle.std.proofs.Common.{Bool, true, false, cond, ◌==◌, Some, None, refl, sym, ap, ◌∙◌, arith}
 use Rattle.std.specs.declared.cmp.Ordering.TheVariants.{Equal}
 use Rattle.std.specs.List.{AllByRecursion}
-use Rattle.std.specs.Cmp.{nat_cmp_total}
 use Rattle.std.specs.Ordering.{nat_cmp, ordering_then}
 use Rattle.std.proofs.lemmas.Bool.{cases_eq, ne_eqb}
-use Rattle.std.proofs.lemmas.Cmp.{on_total, then_total}
-use Rattle.sim_base.proofs.OrderEqual.{nat_same, both_equal}
+use Rattle.sim_base.proofs.OrderEqual.{three_same, ordering_then-le}
+use Rattle.sim_base.proofs.OrderLaws.{key_total}
 use Rattle.run_laws.specs.Queue.{In}
 use Rattle.run_laws.specs.Handlers.{IsTimed, HandlesLawfully, SendsToStations}
-use Rattle.run_laws.proofs.Rising.{ordering_then-le}
 use Rattle.run_laws.specs.Examples.{Ball, ball, ball_cmp, bounces, game, AnyState}
 
 -- ---- Ball, ball_cmp
@@ -22,17 +20,14 @@ ball_parts a b c d e f p q r = cc
 -- balls that tie are one
 ball_same : (x y : Ball) → ball_cmp x y ≡ Equal → x ≡ y
 ball_same x y e =
-    let h = both_equal (nat_cmp x.time y.time) (ordering_then (nat_cmp x.number y.number) (nat_cmp x.to y.to)) e in
-    let k = both_equal (nat_cmp x.number y.number) (nat_cmp x.to y.to) h.1 in
-    ball_parts x.time x.number x.to y.time y.number y.to (nat_same x.time y.time h.0) (nat_same x.number y.number k.0)
-    (nat_same x.to y.to k.1)
+    let h = three_same x.time x.number x.to y.time y.number y.to e in
+    ball_parts x.time x.number x.to y.time y.number y.to h.0 h.1 h.2
 
 -- balls are ordered by time first
 ball_order : IsTimed ball_cmp (λ b. b.time)
 ball_order = record {
   order = record {
-    total = then_total (on_total (λ (b : Ball). b.time) nat_cmp_total)
-        (then_total (on_total (λ (b : Ball). b.number) nat_cmp_total) (on_total (λ (b : Ball). b.to) nat_cmp_total));
+    total = key_total (λ (b : Ball). b.time) (λ b. b.number) (λ b. b.to);
     same = ball_same;
   };
   timed = λ x y e. ordering_then-le x.time y.time (ordering_then (nat_cmp x.number y.number) (nat_cmp x.to y.to)) e;
@@ -49,9 +44,9 @@ one_of_two x y z false true (inr n) = absurd n
 one_of_two x y z false false i = absurd i
 
 -- what is sent is the ball, thrown back, or its bounce
-thrown : (s : ℕ) (m z : Ball) → In z (bounces s m) →
+in_bounces : (s : ℕ) (m z : Ball) → In z (bounces s m) →
     (z ≡ ball (m.time + 3) 0 (3 - s)) ⊎ (z ≡ ball (m.time + 1) (m.number + 10) s)
-thrown s m z i = one_of_two (ball (m.time + 3) 0 (3 - s)) (ball (m.time + 1) (m.number + 10) s) z (m.number == 0)
+in_bounces s m z i = one_of_two (ball (m.time + 3) 0 (3 - s)) (ball (m.time + 1) (m.number + 10) s) z (m.number == 0)
     (nat_lt m.number 10) i
 
 -- what is sent comes later
@@ -71,7 +66,7 @@ game_is_lawful = record {
   keeps = λ s st m g. tt;
   later = λ s st m g. all_later m.time (ball (m.time + 3) 0 (3 - s)) (ball (m.time + 1) (m.number + 10) s)
       (m.number == 0) (nat_lt m.number 10) (omega arith) (omega arith);
-  far = λ s st m z g i n. elim (thrown s m z i) [
+  far = λ s st m z g i n. elim (in_bounces s m z i) [
     | inl e ↦ let t = ap (λ b. b.time) e in omega (arith, t)
     | inr e ↦ absurd (n (ap (λ b. b.to) e))
   ];
@@ -94,7 +89,7 @@ game_sends_to_stations = record {
   sends = λ s st m z is g i.
       let above : 0 < s = is.0 in
       let most : s ≤ 2 = is.1 in
-      elim (thrown s m z i) [
+      elim (in_bounces s m z i) [
         | inl e ↦ let t = ap (λ b. b.to) e in (omega (arith, t, above, most), omega (arith, t, above, most))
         | inr e ↦ let t = ap (λ b. b.to) e in (omega (arith, t, above, most), omega (arith, t, above, most))
       ];

@@ -1,6 +1,6 @@
 -- What was handled once at a front: nothing at the start, and the same after a decision, an end and a fork.
 use Rattle.std.proofs.Common.{◌≡◌, ℕ, zero, suc, ◌<◌, ◌≤◌, List, [], ◌∷◌, ◌++◌, inl, inr}
-use Rattle.std.proofs.Common.{Bool, None, refl, sym, ap, ◌∙◌, subst, arith, map, length, slice_set}
+use Rattle.std.proofs.Common.{Bool, refl, sym, ap, ◌∙◌, subst, arith, map, length, slice_set}
 use Rattle.std.specs.List.{flat_map}
 use Rattle.std.specs.Set.{distinct_count}
 use Rattle.sim_base.specs.Clones.{Clone, clone_at, clones_with_plan, clones_with_end, clones_with_fork, fork_of}
@@ -10,7 +10,7 @@ use Rattle.sim_base.specs.declared.entry.Entry.{Entry}
 use Rattle.run_laws.specs.Queue.{In}
 use Rattle.run_laws.specs.Simulation.{Simulation}
 use Rattle.run_laws.specs.World.{log_of}
-use Rattle.run_laws.specs.Runs.{end_of, log_at}
+use Rattle.run_laws.specs.Runs.{IsTimelyPlan, IsTimelyEnd, MayFork, log_at}
 use Rattle.run_laws.specs.Handlers.{HandlesLawfully}
 use Rattle.run_laws.specs.Sharing.{prefixes, same_list, logs_at, handled_once}
 use Rattle.run_laws.specs.CountLaws.{TellsEntries}
@@ -51,23 +51,23 @@ module _ {S M N : Type 0} (sim : Simulation S M N) where
 
 module _ {S M N : Type 0} {sim : Simulation S M N} {Good : ℕ → S → Type 0} (law : HandlesLawfully sim Good) where
   -- a decision at the front or later
-  pub handled-added : (same : Entry M N → Entry M N → Bool) (cs : List Clone) (front s who : ℕ) (p : Planned) →
-      who < length cs →
-      front ≤ sim.time (sim.set_message (length (clone_at cs who).plans) p) →
+  pub handled-added : (same : Entry M N → Entry M N → Bool) (cs : List Clone) (front s who : ℕ) (p : Planned)
+      (m : M) → IsTimelyPlan sim cs front who p m →
       handled_once sim same (clones_with_plan cs who p) s front ≡ handled_once sim same cs s front
-  handled-added same cs front s who p there late =
+  handled-added same cs front s who p m timely =
       ap (λ l. distinct_count (same_list same) (flat_map prefixes l))
-      (map-set (λ c. log_at sim c s front) cs who (with_plan (clone_at cs who) p) there
-      (ap (λ w. log_of sim.to s w.trace) (decision_adds_due law (clone_at cs who) p front late).world))
+      (map-set (λ c. log_at sim c s front) cs who (with_plan (clone_at cs who) p) timely.there
+      (ap (λ w. log_of sim.to s w.trace) (decision_adds_due law (clone_at cs who) p front
+      (subst (λ m. front ≤ sim.time m) timely.is timely.late)).world))
 
   -- an end at the front or later
   pub handled-ended : (same : Entry M N → Entry M N → Bool) (cs : List Clone) (front s who at : ℕ) → who < length cs →
-      front ≤ at → at ≤ end_of sim (clone_at cs who) →
+      IsTimelyEnd sim (clone_at cs who) front at →
       handled_once sim same (clones_with_end cs who at) s front ≡ handled_once sim same cs s front
-  handled-ended same cs front s who at there late within =
+  handled-ended same cs front s who at there end =
       ap (λ l. distinct_count (same_list same) (flat_map prefixes l))
       (map-set (λ c. log_at sim c s front) cs who (with_end (clone_at cs who) at) there
-      (ap (λ w. log_of sim.to s w.trace) (end_drops_due law (clone_at cs who) at front late within).world))
+      (ap (λ w. log_of sim.to s w.trace) (end_drops_due law (clone_at cs who) at front end).world))
 
 module _ {S M N : Type 0} (sim : Simulation S M N) (same : Entry M N → Entry M N → Bool)
     (decides : TellsEntries same) where
@@ -82,20 +82,20 @@ module _ {S M N : Type 0} (sim : Simulation S M N) (same : Entry M N → Entry M
       (prefixes_count same decides ys)
 
   -- a fork has the log of its old clone
-  pub handled-forked : (cs : List Clone) (name : List ℕ) (old s front : ℕ) → old < length cs →
-      (clone_at cs old).end ≡ None → handled_once sim same (clones_with_fork cs name old) s front
+  pub handled-forked : (cs : List Clone) (name : List ℕ) (old s front : ℕ) → MayFork cs old →
+      handled_once sim same (clones_with_fork cs name old) s front
       ≡ handled_once sim same cs s front
-  handled-forked cs name old s front there open_end =
+  handled-forked cs name old s front may =
       let k : Clone = fork_of (clone_at cs old) name in
       let f : Clone → List (Entry M N) = λ c. log_at sim c s front in
       let here : List (List (Entry M N)) = logs_at sim cs s front in
-      let log : f k ≡ f (clone_at cs old) = log_at-fork sim (clone_at cs old) name open_end s front in
+      let log : f k ≡ f (clone_at cs old) = log_at-fork sim (clone_at cs old) name may.going s front in
       same_prefixes (logs_at sim (clones_with_fork cs name old) s front) here
       (λ l i. let h = in_map f (cs ++ k ∷ []) l i in elim (in_append cs (k ∷ []) h.0 h.1) [
         | inl j ↦ subst (λ u. In u here) (sym h.2) (map_has f cs h.0 j)
         | inr j ↦ elim j [
           | inl e ↦ subst (λ u. In u here) (sym (h.2 ∙ ap f e ∙ log))
-              (map_has f cs (clone_at cs old) (clone_in cs old there))
+              (map_has f cs (clone_at cs old) (clone_in cs old may.there))
           | inr z ↦ absurd z
         ]
       ])

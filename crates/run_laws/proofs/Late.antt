@@ -9,9 +9,9 @@ use Rattle.sim_base.specs.declared.decision.Planned.{Planned}
 use Rattle.run_laws.specs.Queue.{insert, insert_all, Sorted}
 use Rattle.run_laws.specs.Machine.{run_to}
 use Rattle.run_laws.specs.Simulation.{Simulation}
-use Rattle.run_laws.specs.World.{to_it, world_step, openings, set_messages, begin}
+use Rattle.run_laws.specs.World.{to_it, world_step, first_messages, set_messages, first_world}
 use Rattle.run_laws.specs.Window.{earlier_than}
-use Rattle.run_laws.specs.Runs.{run, end_of, run_of, all_due, due_at}
+use Rattle.run_laws.specs.Runs.{run, end_of, IsTimelyEnd, run_of, all_due, due_at}
 use Rattle.run_laws.specs.Handlers.{HandlesLawfully}
 use Rattle.run_laws.specs.Laws.{and_pending, AddsDue, DropsDue}
 use Rattle.run_laws.proofs.Queue.{insert_all-push, same_elements}
@@ -19,7 +19,7 @@ use Rattle.run_laws.proofs.Lists.{in_filter, filter_keeps, sorted_filter, filter
 use Rattle.run_laws.proofs.Running.{run_late}
 use Rattle.run_laws.proofs.Worlds.{world_lawful, begins_fine, run_fine}
 
--- ---- set_messages, begin
+-- ---- set_messages, first_world
 
 module _ {S M N : Type 0} (sim : Simulation S M N) where
   -- the last decision has the place after the others
@@ -31,11 +31,12 @@ module _ {S M N : Type 0} (sim : Simulation S M N) where
       (let e : suc k + length plans ≡ k + suc (length plans) = omega arith in e))
 
   -- a world with one decision more begins with one message more
-  begin-push : (plans : List Planned) (p : Planned) →
-      begin sim (plans ++ p ∷ []) ≡ and_pending sim.order (sim.set_message (length plans) p) (begin sim plans)
-  begin-push plans p =
+  first_world-push : (plans : List Planned) (p : Planned) →
+      first_world sim (plans ++ p ∷ [])
+      ≡ and_pending sim.order (sim.set_message (length plans) p) (first_world sim plans)
+  first_world-push plans p =
       let m = sim.set_message (length plans) p in
-      let first = openings sim sim.stations in
+      let first = first_messages sim sim.stations in
       let last : set_messages sim 0 (plans ++ p ∷ []) ≡ set_messages sim 0 plans ++ m ∷ [] = set_messages-push 0 plans p
       ∙ ap (λ n. set_messages sim 0 plans ++ sim.set_message n p ∷ [])
       (let e : 0 + length plans ≡ length plans = omega arith in e) in
@@ -44,7 +45,7 @@ module _ {S M N : Type 0} (sim : Simulation S M N) where
       ap (λ l. insert_all sim.order (first ++ l) []) last
       ∙ ap (λ l. insert_all sim.order l []) (sym (append_assoc first (set_messages sim 0 plans) (m ∷ [])))
       ∙ insert_all-push sim.order (first ++ set_messages sim 0 plans) m [] in
-      ap (λ q. record { at = (begin sim plans).at; pending = q }) all
+      ap (λ q. record { at = (first_world sim plans).at; pending = q }) all
 
 -- ---- cond
 
@@ -69,8 +70,8 @@ module _ {S M N : Type 0} {sim : Simulation S M N} {Good : ℕ → S → Type 0}
       front ≤ sim.time (sim.set_message (length plans) p) →
       run sim (plans ++ p ∷ []) front ≡ and_pending sim.order (sim.set_message (length plans) p) (run sim plans front)
   run_late_plan plans p front l =
-      ap (λ w. run_to sim.order (world_step sim.to sim.handle) sim.time w front) (begin-push sim plans p)
-      ∙ run_late law.order (world_lawful law) front (begin sim plans) (sim.set_message (length plans) p) l
+      ap (λ w. run_to sim.order (world_step sim.to sim.handle) sim.time w front) (first_world-push sim plans p)
+      ∙ run_late law.order (world_lawful law) front (first_world sim plans) (sim.set_message (length plans) p) l
       (begins_fine law plans)
 
   -- what is due is in order
@@ -123,13 +124,15 @@ module _ {S M N : Type 0} {sim : Simulation S M N} {Good : ℕ → S → Type 0}
       filter_keeps (λ m. nat_lt (sim.time m) at) q z (in_filter (λ m. nat_lt (sim.time m) end) q z h.0).0 h.1)
 
   -- an end at or after a front drops what is due from it on
-  pub end_drops_due : (c : Clone) (at front : ℕ) → front ≤ at → at ≤ end_of sim c → DropsDue sim c at front
-  end_drops_due c at front l e =
+  pub end_drops_due : (c : Clone) (at front : ℕ) → IsTimelyEnd sim c front at → DropsDue sim c at front
+  end_drops_due c at front end =
+      let late = end.late in
+      let within = end.within in
       let same : min front at ≡ min front (end_of sim c) = omega arith in
       let is : run_of sim (with_end c at) front ≡ run_of sim c front = ap (run sim c.plans) same in
       let d : all_due sim (with_end c at) front ≡ earlier_than sim.time at (all_due sim c front) =
       ap (λ w. earlier_than sim.time at w.pending) is
-      ∙ earlier_end (run_of sim c front).pending at (end_of sim c) e
+      ∙ earlier_end (run_of sim c front).pending at (end_of sim c) within
       (run_fine law c.plans (min front (end_of sim c))).sorted in
       record {
         world = ap (λ w. w.at) is;

@@ -2,22 +2,23 @@
 use Rattle.std.proofs.Common.{◌≡◌, ℕ, zero, suc, ◌+◌, ◌-◌, ◌≤◌, ◌<◌, List, [], ◌∷◌, ◌++◌, ◌⊎◌, inl, inr, Bool}
 use Rattle.std.proofs.Common.{refl, sym, ap, ◌∙◌, subst, arith, length, length-append, take}
 use Rattle.std.proofs.lemmas.List.{take_all, append_cancel_left}
-use Rattle.std.proofs.Math.Seq.{take-append-add, take-append_seam}
+use Rattle.std.proofs.Math.Seq.{take-append-add}
 use Rattle.sim_base.specs.declared.entry.Entry.{Entry}
 use Rattle.run_laws.specs.Queue.{In}
 use Rattle.run_laws.specs.Machine.{Next, stay, go, IsSettled}
 use Rattle.run_laws.specs.Simulation.{Simulation}
-use Rattle.run_laws.specs.Window.{part_step}
+use Rattle.run_laws.specs.Window.{local_step}
 use Rattle.run_laws.specs.Handlers.{IsTimed}
 use Rattle.run_laws.specs.Prefixes.{IsCount, IsGained}
 use Rattle.sim_base.specs.Marked.{JoinsMarks, SortedMarked}
+use Rattle.sim_base.proofs.ListLaws.{take-append}
 use Rattle.run_laws.specs.Copies.{Copy, Carries, handle_until, handled_by, sends_aside, takes}
 use Rattle.run_laws.specs.Copies.{messages_taken, view, IsCutLog, GoesOver, AllTake}
 use Rattle.run_laws.proofs.Machine.{reach_first, reach_trans, is_settled-stays, is_settled-no_next}
 use Rattle.run_laws.proofs.Parts.{sorted_part}
 use Rattle.run_laws.proofs.Prefixes.{gained_none, gained_more, gained_both, gained_same}
-use Rattle.run_laws.proofs.CopyViews.{new_entry, log_grows, log_begins}
-use Rattle.run_laws.proofs.CopyViews.{firsts_part, settled_or_next, handled_view}
+use Rattle.run_laws.proofs.Worlds.{entry_of}
+use Rattle.run_laws.proofs.CopyViews.{log_grows, log_begins, firsts_part, settled_or_next, handled_view}
 
 -- ---- take
 
@@ -27,10 +28,6 @@ pub cut_goes_on : {E : Type 0} (limit : ℕ) (xs g : List E) → length xs ≤ l
 cut_goes_on limit xs g l =
     let e : limit ≡ length xs + (limit - length xs) = omega (arith, l) in
     ap (λ n. take n (xs ++ g)) e ∙ take-append-add xs g (limit - length xs)
-
--- cut where its first part ends, a list is that part
-cut_at : {E : Type 0} (limit : ℕ) (xs g : List E) → length xs ≡ limit → take limit (xs ++ g) ≡ xs
-cut_at limit xs g e = ap (λ n. take n (xs ++ g)) (sym e) ∙ take-append_seam xs g
 
 -- a cut list begins as the list
 first_of_cut : {E : Type 0} (n : ℕ) (g : List E) (x : E) (u : List E) → take n g ≡ x ∷ u → (v : List E) × (g ≡ x ∷ v)
@@ -63,14 +60,14 @@ module _ {S M N K : Type 0} (sim : Simulation S M N) (has : K → ℕ → Bool) 
       IsCount (IsGained (IsCutLog sim has ends s bound r sent) r.log) 0
   cut_full r sent e = gained_none (IsCutLog sim has ends s bound r sent) r.log (λ k h.
       let g = log_grows sim s bound (ends h.clone) h.ran in
-      h.is ∙ (ap (take sim.limit) g.1 ∙ cut_at sim.limit r.log g.0 e))
+      h.is ∙ (ap (take sim.limit) g.1 ∙ take-append r.log g.0 sim.limit e))
 
   -- a clone of such a copy that takes a message before the bound goes over the limit
   pub goes_over : (r : Copy S M N K) (sent : List (M × K)) (c : ℕ) (m : M) (q : List M) → length r.log ≡ sim.limit →
       messages_taken sim has ends c r.pending ≡ m ∷ q → sim.time m < bound → GoesOver sim has ends s bound r sent c
   goes_over r sent c m q e p early d ran done =
       let h = log_begins sim s bound (ends c) (view sim has ends c r sent) d m q p early ran done in
-      let x : Entry M N = new_entry sim s bound r.state m in
+      let x : Entry M N = entry_of sim s r.state m in
       let a = ap (λ u. length {A = Entry M N} u) h.1 in
       let b = length-append r.log (x ∷ h.0) in
       let k : length (x ∷ h.0) ≡ suc (length h.0) = refl in
@@ -124,11 +121,11 @@ module _ {S M N K : Type 0} (sim : Simulation S M N) {has : K → ℕ → Bool} 
       (handled_by sim join s r m q).log) n →
       IsCount (IsGained (IsCutLog sim has ends s bound r sent) r.log) (n + 1)
   cut_handle r m k q sent n some l p sorted all early h =
-      let x : Entry M N = new_entry sim s bound r.state m in
+      let x : Entry M N = entry_of sim s r.state m in
       let new : Copy S M N K = handled_by sim join s r m q in
       let out : List (M × K) = sent ++ sends_aside sim s r m in
       let next : (c : ℕ) → Carries has r c
-      → Next sim.order sim.time (part_step sim.to (handle_until sim (ends c)) s) bound
+      → Next sim.order sim.time (local_step sim.to (handle_until sim (ends c)) s) bound
       (view sim has ends c r sent) (view sim has ends c new out) =
       λ c i. handled_view sim j ends o s bound c r m k q sent p sorted i (all c i) early in
       let there : (t : List (Entry M N)) → IsCutLog sim has ends s bound r sent t

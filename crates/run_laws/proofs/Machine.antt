@@ -2,7 +2,7 @@
 use Rattle.std.proofs.Common.{◌≡◌, ℕ, ◌≤◌, ◌<◌, List, ◌∷◌, ◌⊎◌, inl, inr, refl, sym, ap, ◌∙◌, subst, arith}
 use Rattle.std.specs.declared.cmp.Ordering.{Ordering}
 use Rattle.std.specs.List.{AllByRecursion}
-use Rattle.run_laws.specs.Machine.{Config, after, Next, Reach, stay, go, IsSettled}
+use Rattle.run_laws.specs.Machine.{Config, config_after, Next, Reach, stay, go, IsSettled}
 
 -- ---- Next, Reach
 
@@ -13,7 +13,7 @@ module _ {X M : Type 0} {cmp : M → M → Ordering} {time : M → ℕ} {handle 
       let p : n.m ∷ n.q ≡ k.m ∷ k.q = sym n.pending ∙ k.pending in
       let a : n.m ≡ k.m = cc in
       let b : n.q ≡ k.q = cc in
-      n.is ∙ ap (λ m. after cmp handle d.at m n.q) a ∙ ap (λ q. after cmp handle d.at k.m q) b ∙ sym k.is
+      n.is ∙ ap (λ m. config_after cmp handle d.at m n.q) a ∙ ap (λ q. config_after cmp handle d.at k.m q) b ∙ sym k.is
 
   -- turns after turns are turns
   pub reach_trans : {c d e : Config X M} → Reach cmp time handle bound c d → Reach cmp time handle bound d e →
@@ -67,7 +67,7 @@ module _ {X M : Type 0} {cmp : M → M → Ordering} {time : M → ℕ} {handle 
   -- what holds at the start and is kept by each turn holds at the end
   pub reach_keeps : {c d : Config X M} (P : Config X M → Type 0) → P c →
       ((x : X) (m : M) (q : List M) → time m < bound → P (record { at = x; pending = m ∷ q })
-      → P (after cmp handle x m q)) →
+      → P (config_after cmp handle x m q)) →
       Reach cmp time handle bound c d → P d
   reach_keeps P a f stay = a
   reach_keeps {c} {d} P a f (go {d = e} r n) = subst P (sym n.is)

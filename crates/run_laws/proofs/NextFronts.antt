@@ -2,7 +2,6 @@
 use Rattle.std.proofs.Common.{◌≡◌, ℕ, zero, suc, ◌+◌, ◌<◌, ◌≤◌, min, List, [], ◌∷◌}
 use Rattle.std.proofs.Common.{inl, inr, Option, Some, None, nat_lt, refl, sym, ◌∙◌, arith, subst}
 use Rattle.std.specs.List.{AllByRecursion}
-use Rattle.std.specs.Cmp.{nat_cmp_is}
 use Rattle.std.specs.Ordering.{nat_cmp}
 use Rattle.std.specs.declared.cmp.Ordering.TheVariants.{Less}
 use Rattle.std.proofs.lemmas.Bool.{cases_lt, ltb-true}
@@ -14,6 +13,7 @@ use Rattle.run_laws.specs.Fronts.{earlier, least_time, least_of, least, window_e
 use Rattle.run_laws.specs.Handlers.{HandlesLawfully}
 use Rattle.run_laws.specs.FrontLaws.{RiseToHorizon}
 use Rattle.sim_base.proofs.ListLaws.{all_weaker}
+use Rattle.sim_base.proofs.OrderLaws.{nat_cmp-lt}
 use Rattle.run_laws.proofs.Queue.{all_in, all_from}
 use Rattle.run_laws.proofs.Lists.{in_filter}
 use Rattle.run_laws.proofs.Worlds.{run_reached}
@@ -83,19 +83,15 @@ module _ {S M N : Type 0} {sim : Simulation S M N} {Good : ℕ → S → Type 0}
       record {
         rise = (
           (
-            less first,
+            nat_cmp-lt front f first,
             all_weaker (λ g. nat_cmp f g ≡ Less) (λ g. nat_cmp front g ≡ Less) fs
-                (λ g e. nat_cmp_total.trans front f g (less first) e) r.rise.0,
+                (λ g e. nat_cmp_total.trans front f g (nat_cmp-lt front f first) e) r.rise.0,
           ),
           r.rise,
         );
         within = (omega (arith, below), r.within);
         horizon = inr r.horizon;
       }
-    where
-      -- numbers compare as they lie
-      less : {a b : ℕ} → a < b → nat_cmp a b ≡ Less
-      less {a} {b} l = sym (nat_cmp_is a b Less l)
 
   -- from each front on there are some
   pub fronts-go_on : (cs : List Clone) (front : ℕ) → 0 < sim.lookahead → front ≤ sim.horizon →

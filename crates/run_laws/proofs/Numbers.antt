@@ -10,12 +10,13 @@ use Rattle.std.proofs.lemmas.Bool.{cases_lt}
 use Rattle.sim_base.specs.Clones.{Clone}
 use Rattle.sim_base.specs.declared.decision.Planned.{Planned}
 use Rattle.sim_base.specs.declared.entry.Entry.{Entry}
+use Rattle.sim_base.proofs.OrderLaws.{key_total}
 use Rattle.run_laws.specs.Queue.{In, Sorted}
-use Rattle.run_laws.specs.Machine.{Config, after}
+use Rattle.run_laws.specs.Machine.{Config, config_after}
 use Rattle.run_laws.specs.Simulation.{Simulation}
-use Rattle.run_laws.specs.World.{World, log_of, put, world_step, openings, set_messages, begin}
+use Rattle.run_laws.specs.World.{World, log_of, put, world_step, first_messages, set_messages, first_world}
 use Rattle.run_laws.specs.Runs.{end_of, run_of, log_at}
-use Rattle.run_laws.specs.Sharing.{IsBeyond}
+use Rattle.run_laws.specs.Sharing.{IsWithinLimit}
 use Rattle.run_laws.specs.Handlers.{AllGood, IsStation, AreForStations, key_order}
 use Rattle.run_laws.specs.Handlers.{HandlesLawfully, SendsToStations, HandlesFreshly}
 use Rattle.run_laws.specs.Laws.{IsMessageOf}
@@ -24,9 +25,9 @@ use Rattle.run_laws.proofs.Queue.{all_in, in_insert_all}
 use Rattle.run_laws.proofs.Lists.{in_append}
 use Rattle.run_laws.proofs.Counts.{map_has}
 use Rattle.run_laws.proofs.Running.{fine_keeps}
-use Rattle.run_laws.proofs.Worlds.{put_cases, put_same, log_here, log_there, in_openings}
+use Rattle.run_laws.proofs.Worlds.{put_cases, put_same, log_here, log_there, in_first_messages}
 use Rattle.run_laws.proofs.Worlds.{entry_of, world_lawful, begins_fine, run_reached}
-use Rattle.run_laws.proofs.Rising.{key_total, begins_fresh, trace_rises, numbers_are_once}
+use Rattle.run_laws.proofs.Rising.{begins_fresh, trace_rises, numbers_are_once}
 
 -- ---- In
 
@@ -39,8 +40,8 @@ in_push xs x z i = elim (in_append xs (x ∷ []) z i) [
 
 module _ {X Y : Type 0} (f : X → Y) (cmp : Y → Y → Ordering) (total : IsTotalOrder cmp) where
   -- what comes before another differs from it
-  differ : (x : X) (xs : List X) (y : X) → Sorted cmp (map f (x ∷ xs)) → In y xs → f x ≡ f y → ⊥
-  differ x xs y s i e =
+  Sorted-differ : (x : X) (xs : List X) (y : X) → Sorted cmp (map f (x ∷ xs)) → In y xs → f x ≡ f y → ⊥
+  Sorted-differ x xs y s i e =
       let l : cmp (f x) (f y) ≡ Less = all_in (λ y. cmp (f x) y ≡ Less) (map f xs) (f y) s.0 (map_has f xs y i) in
       let k : cmp (f x) (f x) ≡ Less = subst (λ w. cmp (f x) w ≡ Less) (sym e) l in
       let t = tied_itself total (f x) in
@@ -50,8 +51,8 @@ module _ {X Y : Type 0} (f : X → Y) (cmp : Y → Y → Ordering) (total : IsTo
   same_image : (xs : List X) (x y : X) → Sorted cmp (map f xs) → In x xs → In y xs → f x ≡ f y → x ≡ y
   same_image [] x y s i j e = absurd i
   same_image (z ∷ zs) x y s (inl a) (inl b) e = a ∙ sym b
-  same_image (z ∷ zs) x y s (inl a) (inr j) e = absurd (differ z zs y s j (ap f (sym a) ∙ e))
-  same_image (z ∷ zs) x y s (inr i) (inl b) e = absurd (differ z zs x s i (ap f (sym b) ∙ sym e))
+  same_image (z ∷ zs) x y s (inl a) (inr j) e = absurd (Sorted-differ z zs y s j (ap f (sym a) ∙ e))
+  same_image (z ∷ zs) x y s (inr i) (inl b) e = absurd (Sorted-differ z zs x s i (ap f (sym b) ∙ sym e))
   same_image (z ∷ zs) x y s (inr i) (inr j) e = same_image zs x y s.1 i j e
 
 -- ---- HasUsedNumbers
@@ -61,7 +62,7 @@ module _ {S M N : Type 0} {sim : Simulation S M N} {Good : ℕ → S → Type 0}
     (fresh : HandlesFreshly sim Good sender number next) where
   -- the world after station r handled m
   abbrev later_world : World S M N → M → List M → Config (World S M N) M
-  later_world x m q = after sim.order (world_step sim.to sim.handle) x m q
+  later_world x m q = config_after sim.order (world_step sim.to sim.handle) x m q
 
   -- a world whose messages have numbers that are used up
   record HasUsedNumbers (plans : List Planned) (w : Config (World S M N) M) : Type 0 where
@@ -130,17 +131,18 @@ module _ {S M N : Type 0} {sim : Simulation S M N} {Good : ℕ → S → Type 0}
       let h = set_messages_low (suc k) ps z i in let n = h.1 in (h.0, omega (arith, n))
 
   -- a world begins so, where its decisions are for stations
-  used_numbers-begin : (plans : List Planned) → AreForStations sim plans → HasUsedNumbers plans (begin sim plans)
-  used_numbers-begin plans there =
+  used_numbers-first_world : (plans : List Planned) → AreForStations sim plans →
+      HasUsedNumbers plans (first_world sim plans)
+  used_numbers-first_world plans there =
       let h = begins_fresh law stations fresh plans there in
-      let first : List M = openings sim sim.stations in
-      let pending : (z : M) → IsMessageOf (begin sim plans) z → In z (begin sim plans).pending =
+      let first : List M = first_messages sim sim.stations in
+      let pending : (z : M) → IsMessageOf (first_world sim plans) z → In z (first_world sim plans).pending =
       λ z i. elim i [ inl j ↦ absurd j | inr j ↦ j ] in
       record {
         used = λ z i. elim (in_insert_all law.order.order (first ++ set_messages sim 0 plans) [] z (pending z i)) [
           | inl j ↦ elim (in_append first (set_messages sim 0 plans) z j) [
             | inl k ↦
-                let o = in_openings sim sim.stations z k in
+                let o = in_first_messages sim sim.stations z k in
                 let f = fresh.opened o.0 z o.1 o.2 in
                 inr (
                   subst (IsStation sim) (sym f.0) o.1,
@@ -158,7 +160,7 @@ module _ {S M N : Type 0} {sim : Simulation S M N} {Good : ℕ → S → Type 0}
     -- a run is so at each front
     used_numbers-run : HasUsedNumbers c.plans (run_of sim c front)
     used_numbers-run = fine_keeps law.order (world_lawful law) 0 (HasUsedNumbers c.plans)
-        (used_numbers-begin c.plans there)
+        (used_numbers-first_world c.plans there)
         (λ x m q f early h. used_numbers-step c.plans x m q f.good h)
         (begins_fine law c.plans) (run_reached law c.plans (min front (end_of sim c))).0
 
@@ -207,7 +209,7 @@ module _ {S M N : Type 0} {sim : Simulation S M N} {Good : ℕ → S → Type 0}
       -- the next numbers of a run
       next_low : Low (run_of sim c front).at
       next_low = (fine_keeps law.order (world_lawful law) 0 (λ w. HasUsedNumbers c.plans w × Low w.at)
-          (used_numbers-begin c.plans there, λ s is_station. let o = few.opens s is_station in grind (arith, o))
+          (used_numbers-first_world c.plans there, λ s is_station. let o = few.opens s is_station in grind (arith, o))
           (λ x m q f early h. (
             used_numbers-step c.plans x m q f.good h.0,
             low_step c.plans x m q f.good (h.0.to_station m (inl refl)) h.1,
@@ -224,7 +226,7 @@ module _ {S M N : Type 0} {sim : Simulation S M N} {Good : ℕ → S → Type 0}
       ]
 
       -- below a bound, where no log is beyond the limit
-      pub numbers_fit : (bound : ℕ) (m : M) → ((s : ℕ) → IsStation sim s → IsBeyond sim s front c → ⊥) →
+      pub numbers_fit : (bound : ℕ) (m : M) → IsWithinLimit sim front c →
           length c.plans ≤ bound → most * (sim.limit + 1) ≤ bound → IsMessageOf (run_of sim c front) m
           → number m < bound
       numbers_fit bound m within short enough i = elim (numbers_low m i) [

@@ -10,7 +10,7 @@ use Rattle.run_laws.specs.Queue.{insert_by, insert, insert_all, Sorted}
 use Rattle.run_laws.specs.Handlers.{IsOrder}
 use Rattle.sim_base.specs.Marked.{Above, SortedMarked}
 use Rattle.run_laws.specs.Copies.{part, insert_marked_all}
-use Rattle.sim_base.proofs.Placing.{sorted_insert}
+use Rattle.sim_base.proofs.Placing.{sorted_insert_marked}
 use Rattle.sim_base.proofs.ListLaws.{all_weaker}
 
 -- ---- part
@@ -156,17 +156,12 @@ module _ {M K : Type 0} (takes : M → K → ℕ → Bool) (join : K → K → K
   part-insert c x k (y ∷ ys) s = part_place (cmp x y.0) c x k y ys (insert_marked join cmp x k ys) refl s
       (part-insert c x k ys s.1)
 
-  -- an insertion keeps the order
-  pub sorted_insert_marked : (x : M) (k : K) (q : List (M × K)) → SortedMarked cmp q →
-      SortedMarked cmp (insert_marked join cmp x k q)
-  sorted_insert_marked x k q s = sorted_insert o.total join x k q s
-
   -- several insertions keep the order
   pub sorted_insert_marked_all : (xs : List M) (k : K) (q : List (M × K)) → SortedMarked cmp q →
       SortedMarked cmp (insert_marked_all join cmp xs k q)
   sorted_insert_marked_all [] k q s = s
   sorted_insert_marked_all (x ∷ xs) k q s = sorted_insert_marked_all xs k (insert_marked join cmp x k q)
-      (sorted_insert_marked x k q s)
+      (sorted_insert_marked o.total join x k q s)
 
   -- an insertion that depends on a clone goes first or not at all
   insert_all-gets : (b : Bool) (x : M) (xs q : List M) →
@@ -179,6 +174,6 @@ module _ {M K : Type 0} (takes : M → K → ℕ → Bool) (join : K → K → K
       part takes c (insert_marked_all join cmp xs k q) ≡ insert_all cmp (filter (λ x. takes x k c) xs) (part takes c q)
   part-insert_all c [] k q s = refl
   part-insert_all c (x ∷ xs) k q s =
-      part-insert_all c xs k (insert_marked join cmp x k q) (sorted_insert_marked x k q s)
+      part-insert_all c xs k (insert_marked join cmp x k q) (sorted_insert_marked o.total join x k q s)
       ∙ ap (insert_all cmp (filter (λ x. takes x k c) xs)) (part-insert c x k q s)
       ∙ insert_all-gets (takes x k c) x (filter (λ x. takes x k c) xs) (part takes c q)

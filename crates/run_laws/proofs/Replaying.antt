@@ -13,7 +13,7 @@ use Rattle.run_laws.proofs.Worlds.{put_cases, log_here, log_there, entry_of, run
 
 module _ {S M N : Type 0} (sim : Simulation S M N) where
   -- one entry more is handled after the others
-  replay-push : (s : ℕ) (st : S) (es : List (Entry M N)) (e : Entry M N) →
+  pub replay-push : (s : ℕ) (st : S) (es : List (Entry M N)) (e : Entry M N) →
       replay sim.to sim.handle s st (es ++ e ∷ []) ≡ (sim.handle s (replay sim.to sim.handle s st es) e.msg).state
   replay-push s st [] e = refl
   replay-push s st (x ∷ es) e = replay-push s (sim.handle s st x.msg).state es e

@@ -2,23 +2,20 @@
 -- number.
 use Rattle.std.proofs.Common.{◌≡◌, ℕ, suc, ◌<◌, ◌≤◌, min, List, [], ◌∷◌, ◌++◌, ◌⊎◌}
 use Rattle.std.proofs.Common.{inl, inr, refl, sym, ap, ◌∙◌, subst, arith, map}
-use Rattle.std.specs.declared.cmp.Ordering.{Ordering}
-use Rattle.std.specs.declared.cmp.Ordering.TheVariants.{Less, Equal, Greater}
+use Rattle.std.specs.declared.cmp.Ordering.TheVariants.{Less, Equal}
 use Rattle.std.specs.List.{AllByRecursion}
-use Rattle.std.specs.Cmp.{IsTotalOrder, ranks, nat_cmp_total, nat_cmp_is}
-use Rattle.std.specs.Ordering.{MatchOrdering, nat_cmp, ordering_then}
-use Rattle.std.proofs.lemmas.Cmp.{on_total, then_total}
 use Rattle.std.proofs.lemmas.List.{map_push}
 use Rattle.std.proofs.lemmas.Option.{same_Some}
 use Rattle.sim_base.specs.Clones.{Clone}
 use Rattle.sim_base.specs.declared.decision.Planned.{Planned}
 use Rattle.sim_base.specs.declared.entry.Entry.{Entry}
 use Rattle.sim_base.proofs.ListLaws.{all_push}
-use Rattle.sim_base.proofs.OrderEqual.{nat_same, both_equal}
+use Rattle.sim_base.proofs.OrderEqual.{three_same, ordering_then-lt}
+use Rattle.sim_base.proofs.OrderLaws.{key_total}
 use Rattle.run_laws.specs.Queue.{insert_all, In, Sorted}
-use Rattle.run_laws.specs.Machine.{Config, after}
+use Rattle.run_laws.specs.Machine.{Config, config_after}
 use Rattle.run_laws.specs.Simulation.{Simulation}
-use Rattle.run_laws.specs.World.{World, put, world_step, openings, set_messages, begin}
+use Rattle.run_laws.specs.World.{World, put, world_step, first_messages, set_messages, first_world}
 use Rattle.run_laws.specs.Runs.{end_of, run_of}
 use Rattle.run_laws.specs.Handlers.{AllGood, IsStation, AreForStations, key_order}
 use Rattle.run_laws.specs.Handlers.{HandlesLawfully, SendsToStations, HandlesFreshly}
@@ -26,45 +23,17 @@ use Rattle.run_laws.specs.Laws.{IsMessageOf}
 use Rattle.run_laws.proofs.Queue.{all_in, all_from, in_insert_all, not_below_itself}
 use Rattle.run_laws.proofs.Lists.{in_append, sorted_append}
 use Rattle.run_laws.proofs.Running.{fine_keeps}
-use Rattle.run_laws.proofs.Worlds.{put_cases, put_same, in_openings, in_set_messages}
+use Rattle.run_laws.proofs.Worlds.{put_cases, put_same, in_first_messages, in_set_messages}
 use Rattle.run_laws.proofs.Worlds.{entry_of, world_lawful, begins_fine, run_reached}
-use Rattle.run_laws.specs.Merges.{entry_order}
-
--- ---- ordering_then
-
--- what is less by the first of two orders is less
-ordering_then-lt : (x y : ℕ) (s : Ordering) → x < y → ordering_then (nat_cmp x y) s ≡ Less
-ordering_then-lt x y s l = ap (λ o. ordering_then o s) (sym (nat_cmp_is x y Less l))
-
--- and what is less by both is not greater by the first
-pub ordering_then-le : (x y : ℕ) (s : Ordering) → ordering_then (nat_cmp x y) s ≡ Less → x ≤ y
-ordering_then-le x y s e = by (nat_cmp x y) (ranks x y) e
-  where
-    -- by how the two numbers lie
-    by : (r : Ordering) → MatchOrdering r (x < y) (x ≡ y) (y < x) → ordering_then r s ≡ Less → x ≤ y
-    by Less h e = omega (arith, h)
-    by Equal h e = omega (arith, h)
-    by Greater h e = let n : ⊥ = cc in absurd n
 
 -- ---- key_order
 
 module _ {M : Type 0} (time sender number : M → ℕ) where
-  -- the order of keys is total
-  pub key_total : IsTotalOrder (key_order time sender number)
-  key_total = then_total (on_total time nat_cmp_total)
-      (then_total (on_total sender nat_cmp_total) (on_total number nat_cmp_total))
-
-  -- and so is the order of entries by key
-  pub entry_total : (N : Type 0) → IsTotalOrder (entry_order {M = M} {N = N} time sender number)
-  entry_total N = on_total (λ (e : Entry M N). e.msg) key_total
-
   -- keys that tie have one sender and number
   key_same : (x y : M) → key_order time sender number x y ≡ Equal → (sender x ≡ sender y) × (number x ≡ number y)
   key_same x y e =
-      let h = both_equal (nat_cmp (time x) (time y))
-      (ordering_then (nat_cmp (sender x) (sender y)) (nat_cmp (number x) (number y))) e in
-      let k = both_equal (nat_cmp (sender x) (sender y)) (nat_cmp (number x) (number y)) h.1 in
-      (nat_same (sender x) (sender y) k.0, nat_same (number x) (number y) k.1)
+      let h = three_same (time x) (sender x) (number x) (time y) (sender y) (number y) e in
+      (h.1, h.2)
 
 module _ {S M N : Type 0} {sim : Simulation S M N} {Good : ℕ → S → Type 0} {sender number : M → ℕ} {next : S → ℕ}
     (law : HandlesLawfully sim Good) (stations : SendsToStations sim Good)
@@ -81,7 +50,7 @@ module _ {S M N : Type 0} {sim : Simulation S M N} {Good : ℕ → S → Type 0}
 
   -- a turn keeps a world so
   fresh_step : (x : World S M N) (m : M) (q : List M) → AllGood Good x → Sorted sim.order (m ∷ q) →
-      Fresh (record { at = x; pending = m ∷ q }) → Fresh (after sim.order (world_step sim.to sim.handle) x m q)
+      Fresh (record { at = x; pending = m ∷ q }) → Fresh (config_after sim.order (world_step sim.to sim.handle) x m q)
   fresh_step x m q good s h =
       let r : ℕ = sim.to m in
       let st : S = x.states r in
@@ -93,7 +62,7 @@ module _ {S M N : Type 0} {sim : Simulation S M N} {Good : ℕ → S → Type 0}
       let cases : (z : M) → In z (insert_all sim.order sent q)
       → In z sent ⊎ In z q = in_insert_all law.order.order sent q in
       -- each message was sent now, or was there
-      let seen : (z : M) → IsMessageOf (after sim.order (world_step sim.to sim.handle) x m q) z
+      let seen : (z : M) → IsMessageOf (config_after sim.order (world_step sim.to sim.handle) x m q) z
       → In z sent ⊎ IsMessageOf (record { at = x; pending = m ∷ q }) z = λ z i. elim i [
         | inl j ↦ elim (in_append (map (λ e. e.msg) x.trace) (m ∷ []) z
             (subst (In z) (map_push (λ e. e.msg) x.trace e) j)) [
@@ -178,30 +147,31 @@ module _ {S M N : Type 0} {sim : Simulation S M N} {Good : ℕ → S → Type 0}
   set_messages_apart k (p ∷ ps) z y (inr i) (inr j) n = set_messages_apart (suc k) ps z y i j n
 
   -- a world begins so, where its decisions are for stations
-  pub begins_fresh : (plans : List Planned) → AreForStations sim plans → Fresh (begin sim plans)
+  pub begins_fresh : (plans : List Planned) → AreForStations sim plans → Fresh (first_world sim plans)
   begins_fresh plans there =
-      let first : List M = openings sim sim.stations in
+      let first : List M = first_messages sim sim.stations in
       let late : List M = set_messages sim 0 plans in
-      let cases : (z : M) → In z (begin sim plans).pending → In z first ⊎ In z late =
+      let cases : (z : M) → In z (first_world sim plans).pending → In z first ⊎ In z late =
       λ z i. elim (in_insert_all law.order.order (first ++ late) [] z i) [
         | inl j ↦ in_append first late z j
         | inr j ↦ absurd j
       ] in
-      let seen : (z : M) → IsMessageOf (begin sim plans) z → In z first ⊎ In z late =
+      let seen : (z : M) → IsMessageOf (first_world sim plans) z → In z first ⊎ In z late =
       λ z i. elim i [ inl n ↦ absurd n | inr j ↦ cases z j ] in
       let analyst : (z : M) → In z late → sender z ≡ 0 = λ z i. let h = in_set_messages sim 0 plans z i in
       ap sender h.4 ∙ (fresh.set_message h.0 h.1).0 in
-      let own : (z : M) → In z first → 0 < sender z = λ z i. let h = in_openings sim sim.stations z i in let l =
+      let own : (z : M) → In z first → 0 < sender z = λ z i. let h = in_first_messages sim sim.stations z i in let l =
       h.1.0 in let e = (fresh.opened h.0 z h.1 h.2).0 in omega (arith, e, l) in
       record {
         used = λ z i. elim (seen z i) [
-          | inl j ↦ let h = in_openings sim sim.stations z j in let f =
+          | inl j ↦ let h = in_first_messages sim sim.stations z j in let f =
               fresh.opened h.0 z h.1 h.2 in inr (subst (λ r. number z < next (sim.setup r).state) (sym f.0) f.1)
           | inr j ↦ inl (analyst z j)
         ];
         apart = λ z y i j e n. elim (seen z i) [
           | inl a ↦ elim (seen y j) [
-            | inl b ↦ let h = in_openings sim sim.stations z a in let k = in_openings sim sim.stations y b in
+            | inl b ↦ let h = in_first_messages sim sim.stations z a in
+                let k = in_first_messages sim sim.stations y b in
                 let same : h.0 ≡ k.0 = sym (fresh.opened h.0 z h.1 h.2).0 ∙ e ∙ (fresh.opened k.0 y k.1 k.2).0 in
                 same_Some z y (sym h.2 ∙ ap (λ r. (sim.setup r).first) same ∙ k.2)
             | inr b ↦ let o = own z a in let t = analyst y b in absurd (omega (arith, e, o, t))
@@ -212,7 +182,7 @@ module _ {S M N : Type 0} {sim : Simulation S M N} {Good : ℕ → S → Type 0}
           ]
         ];
         to_station = λ z i. elim (cases z i) [
-          | inl j ↦ let h = in_openings sim sim.stations z j in
+          | inl j ↦ let h = in_first_messages sim sim.stations z j in
               subst (IsStation sim) (sym (stations.first h.0 z h.1 h.2)) h.1
           | inr j ↦ let h = in_set_messages sim 0 plans z j in
               subst (IsStation sim) (sym (ap sim.to h.4 ∙ stations.set_message h.0 h.1))

@@ -7,7 +7,7 @@ use Rattle.run_laws.specs.Simulation.{Simulation}
 use Rattle.run_laws.specs.Fronts.{least, next_front, AreFronts}
 use Rattle.run_laws.specs.Sharing.{handled_once}
 use Rattle.run_laws.specs.Handlers.{HandlesLawfully}
-use Rattle.run_laws.specs.CountLaws.{TellsEntries, NoneIsBeyond, WindowsGain}
+use Rattle.run_laws.specs.CountLaws.{TellsEntries, AreWithinLimitAt, WindowsGain}
 use Rattle.run_laws.proofs.Gaining.{shorter_before, handled_grows}
 use Rattle.run_laws.proofs.NextFronts.{window_end-within, next_front-rises}
 use Rattle.run_laws.proofs.HandledStays.{handled-0}
@@ -17,7 +17,7 @@ use Rattle.run_laws.proofs.HandledStays.{handled-0}
 module _ {S M N K : Type 0} {sim : Simulation S M N} {Good : ℕ → S → Type 0} (law : HandlesLawfully sim Good)
     {has : K → ℕ → Bool} {join : K → K → K} (j : JoinsMarks has join) (same : Entry M N → Entry M N → Bool)
     (decides : TellsEntries same)
-    (cs : List Clone) (s : ℕ) (moves : 0 < sim.lookahead) (short : NoneIsBeyond sim cs s sim.horizon) where
+    (cs : List Clone) (s : ℕ) (moves : 0 < sim.lookahead) (short : AreWithinLimitAt sim cs s sim.horizon) where
   -- from a front on
   pub windows-add_up : (front n : ℕ) (fs : List ℕ) → AreFronts sim cs front fs → WindowsGain K sim has cs s front fs n →
       handled_once sim same cs s sim.horizon ≡ handled_once sim same cs s front + n

@@ -6,7 +6,7 @@ use Rattle.std.specs.declared.cmp.Ordering.TheVariants.{Less, Equal, Greater}
 use Rattle.std.specs.List.{AllByRecursion}
 use Rattle.std.proofs.lemmas.Bool.{cases_eq, ne_eqb}
 use Rattle.run_laws.specs.Queue.{insert_by, insert, insert_all, In, Sorted}
-use Rattle.run_laws.specs.Machine.{Config, count_at, after, turns, run_to, Next, Reach, stay, go, IsSettled}
+use Rattle.run_laws.specs.Machine.{Config, count_at, config_after, turns, run_to, Next, Reach, stay, go, IsSettled}
 use Rattle.run_laws.specs.Handlers.{IsTimed, IsLawful}
 use Rattle.run_laws.specs.Laws.{and_pending, IsReady}
 use Rattle.sim_base.proofs.ListLaws.{all_weaker}
@@ -96,7 +96,7 @@ module _ {X M : Type 0} {cmp : M → M → Ordering} {time : M → ℕ} {handle 
 
   -- a turn keeps a machine fine
   fine_after : (t : ℕ) (x : X) (m : M) (q : List M) → Good x → Sorted cmp (m ∷ q) →
-      AllByRecursion (λ m. t ≤ time m) (m ∷ q) → Fine cmp time Good t (after cmp handle x m q)
+      AllByRecursion (λ m. t ≤ time m) (m ∷ q) → Fine cmp time Good t (config_after cmp handle x m q)
   fine_after t x m q g s f = record {
     good = law.keeps x m g;
     sorted = sorted_insert_all o.order (handle x m).1 q s.1;
@@ -121,7 +121,7 @@ module _ {X M : Type 0} {cmp : M → M → Ordering} {time : M → ℕ} {handle 
   -- what holds at the start and is kept by each turn of a fine machine holds at the end
   pub fine_keeps : {bound : ℕ} {c d : Config X M} (t : ℕ) (P : Config X M → Type 0) → P c →
       ((x : X) (m : M) (q : List M) → Fine cmp time Good t (record { at = x; pending = m ∷ q }) → time m < bound
-      → P (record { at = x; pending = m ∷ q }) → P (after cmp handle x m q)) →
+      → P (record { at = x; pending = m ∷ q }) → P (config_after cmp handle x m q)) →
       Fine cmp time Good t c → Reach cmp time handle bound c d → P d
   fine_keeps t P a f g stay = a
   fine_keeps {bound} {c} {d} t P a f g (go {d = e} r n) =
@@ -147,7 +147,7 @@ module _ {X M : Type 0} {cmp : M → M → Ordering} {time : M → ℕ} {handle 
       let a : time m ≤ time w.0 = head_least o m q w.0 f.sorted w.1 in
       let l : t ≤ time m = f.from_t.0 in
       let p : time m ≡ t = omega (arith, w.2) in
-      let d = after cmp handle x m q in
+      let d = config_after cmp handle x m q in
       let k : count_at time t q ≡ n = let h = sym (count_yes time t m q p) ∙ e in omega (arith, h) in
       let c : count_at time t d.pending ≡ n =
       count_insert_all time cmp t (handle x m).1 q

@@ -9,16 +9,16 @@ use Rattle.sim_base.specs.declared.decision.Planned.{Planned}
 use Rattle.run_laws.specs.Queue.{insert, insert_all, Sorted}
 use Rattle.run_laws.specs.Machine.{Config, run_to}
 use Rattle.run_laws.specs.Simulation.{Simulation}
-use Rattle.run_laws.specs.World.{World, openings, set_messages, begin}
+use Rattle.run_laws.specs.World.{World, first_messages, set_messages, first_world}
 use Rattle.run_laws.specs.Window.{earlier_than}
 use Rattle.run_laws.specs.Runs.{run, end_of, trace_of}
 use Rattle.run_laws.specs.Handlers.{IsTimed, IsLawful, HandlesLawfully}
-use Rattle.run_laws.specs.Laws.{before}
+use Rattle.run_laws.specs.Laws.{entries_before}
 use Rattle.run_laws.proofs.Queue.{insert_swap, sorted_insert, sorted_insert_all}
 use Rattle.run_laws.proofs.Running.{Fine, all_from_zero, run_late}
 use Rattle.run_laws.proofs.Worlds.{world_lawful}
 use Rattle.run_laws.proofs.Fronts.{trace_at_front}
-use Rattle.run_laws.specs.SharedTexts.{parting, shared_to, TellsPlans}
+use Rattle.run_laws.specs.SharedTexts.{parting_time, parting_of, TellsPlans}
 
 -- ---- run_to
 
@@ -60,9 +60,9 @@ module _ {S M N : Type 0} {sim : Simulation S M N} {Good : ℕ → S → Type 0}
       earlier_than sim.time t (set_messages sim 0 ps) ≡ earlier_than sim.time t (set_messages sim 0 qs) →
       (run sim ps t).at ≡ (run sim qs t).at
   worlds_agree ps qs t e =
-      let first : List M = openings sim sim.stations in
-      let x : World S M N = (begin sim []).at in
-      -- where the openings and the decisions below the time lead to
+      let first : List M = first_messages sim sim.stations in
+      let x : World S M N = (first_world sim []).at in
+      -- where the first messages and the decisions below the time lead to
       let world : List M → World S M N = λ l.
       state_at_bound law.order (world_lawful law) x (insert_all sim.order l []) t in
       let below : List Planned → List M = λ plans. earlier_than sim.time t (set_messages sim 0 plans) in
@@ -74,17 +74,17 @@ module _ {S M N : Type 0} {sim : Simulation S M N} {Good : ℕ → S → Type 0}
 
   -- a clone's trace before a time that it does not end before
   before_time : (c : Clone) (t : ℕ) → t ≤ end_of sim c → t ≤ sim.horizon →
-      before sim t (trace_of sim c) ≡ (run sim c.plans t).at.trace
+      entries_before sim t (trace_of sim c) ≡ (run sim c.plans t).at.trace
   before_time c t l k = trace_at_front law c.plans t (min sim.horizon (end_of sim c)) (omega arith)
 
   -- two clones whose decisions below a time are equal have one trace before it, if neither ends earlier
   pub traces_agree : (c d : Clone) (t : ℕ) → t ≤ end_of sim c → t ≤ end_of sim d → t ≤ sim.horizon →
       earlier_than sim.time t (set_messages sim 0 c.plans) ≡ earlier_than sim.time t (set_messages sim 0 d.plans) →
-      before sim t (trace_of sim c) ≡ before sim t (trace_of sim d)
+      entries_before sim t (trace_of sim c) ≡ entries_before sim t (trace_of sim d)
   traces_agree c d t l k h e =
       before_time c t l h ∙ ap (λ w. w.trace) (worlds_agree c.plans d.plans t e) ∙ sym (before_time d t k h)
 
--- ---- parting
+-- ---- parting_time
 
 module _ {S M N : Type 0} (sim : Simulation S M N) where
   -- a message at the time or later is left out
@@ -102,7 +102,7 @@ module _ {S M N : Type 0} (sim : Simulation S M N) where
         left_out t (sim.set_message k p) (set_messages sim (suc k) ps) (omega (arith, e, l))
 
     -- below where they part, two lists have the same decisions
-    agree_below : (most k t : ℕ) (ps qs : List Planned) → t ≤ parting same most ps qs →
+    agree_below : (most k t : ℕ) (ps qs : List Planned) → t ≤ parting_time same most ps qs →
         earlier_than sim.time t (set_messages sim k ps) ≡ earlier_than sim.time t (set_messages sim k qs)
     agree_below most k t [] [] l = refl
     agree_below most k t (p ∷ ps) [] l =
@@ -112,34 +112,36 @@ module _ {S M N : Type 0} (sim : Simulation S M N) where
     agree_below most k t (p ∷ ps) (q ∷ qs) l = elim (cases_Bool (same p q)) [
       | inl y ↦
           let e : p ≡ q = tells.sound p q y in
-          let r : t ≤ parting same most ps qs = rw y at l in
+          let r : t ≤ parting_time same most ps qs = rw y at l in
           let m : M = sim.set_message k q in
           ap (λ z. earlier_than sim.time t (sim.set_message k z ∷ set_messages sim (suc k) ps)) e
           ∙ ap (λ rest. cond (nat_lt (sim.time m) t) (m ∷ rest) rest) (agree_below most (suc k) t ps qs r)
       | inr n ↦
-          let r : t ≤ min (min p.at q.at) (parting same most ps qs) = rw n at l in
+          let r : t ≤ min (min p.at q.at) (parting_time same most ps qs) = rw n at l in
           late_plan k t p ps (omega arith)
           ∙ agree_below most (suc k) t ps qs (omega arith)
           ∙ sym (late_plan k t q qs (omega arith))
     ]
 
   -- lists part at `most` or before
-  parting_low : (same : Planned → Planned → Bool) (most : ℕ) (ps qs : List Planned) → parting same most ps qs ≤ most
+  parting_low : (same : Planned → Planned → Bool) (most : ℕ) (ps qs : List Planned) →
+      parting_time same most ps qs ≤ most
   parting_low same most [] [] = omega arith
   parting_low same most (p ∷ ps) [] = let h = parting_low same most ps [] in omega (arith, h)
   parting_low same most [] (q ∷ qs) = let h = parting_low same most [] qs in omega (arith, h)
   parting_low same most (p ∷ ps) (q ∷ qs) = let h = parting_low same most ps qs in elim (cases_Bool (same p q)) [
     | inl y ↦ rw y h
-    | inr n ↦ let g : min (min p.at q.at) (parting same most ps qs) ≤ most = omega (arith, h) in rw n g
+    | inr n ↦ let g : min (min p.at q.at) (parting_time same most ps qs) ≤ most = omega (arith, h) in rw n g
   ]
 
 module _ {S M N : Type 0} {sim : Simulation S M N} {Good : ℕ → S → Type 0} (law : HandlesLawfully sim Good) where
   -- clones have one trace up to where their lists part
   pub agree_to_parting : (same : Planned → Planned → Bool) (c d : Clone) → TellsPlans sim same →
       end_of sim c ≤ sim.horizon → end_of sim d ≤ sim.horizon →
-      before sim (shared_to sim same c d) (trace_of sim c) ≡ before sim (shared_to sim same c d) (trace_of sim d)
+      entries_before sim (parting_of sim same c d) (trace_of sim c)
+      ≡ entries_before sim (parting_of sim same c d) (trace_of sim d)
   agree_to_parting same c d tells hc hd =
-      let t : ℕ = shared_to sim same c d in
+      let t : ℕ = parting_of sim same c d in
       let most : ℕ = min (end_of sim c) (end_of sim d) in
       let low : t ≤ most = parting_low sim same most c.plans d.plans in
       traces_agree law c d t (omega arith) (omega arith) (omega arith)

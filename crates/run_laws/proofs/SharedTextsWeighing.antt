@@ -19,14 +19,15 @@ use Rattle.run_laws.specs.World.{log_of}
 use Rattle.run_laws.specs.Runs.{end_of, trace_of, log_at}
 use Rattle.run_laws.specs.Handlers.{IsStation, AreForStations, HandlesLawfully, SendsToStations, HandlesFreshly}
 use Rattle.run_laws.specs.Handlers.{IsStationOf}
-use Rattle.run_laws.specs.Laws.{before}
+use Rattle.run_laws.specs.Laws.{entries_before}
 use Rattle.sim_base.proofs.ListLaws.{all_weaker}
+use Rattle.sim_base.proofs.OrderEqual.{ordering_then-le}
+use Rattle.sim_base.proofs.OrderLaws.{entry_total}
 use Rattle.run_laws.proofs.Queue.{all_in, all_from, same_elements}
 use Rattle.run_laws.proofs.Lists.{in_filter, filter_keeps, filter_swap, filter_all, filter_none, sorted_filter}
 use Rattle.run_laws.specs.Merges.{entry_order}
-use Rattle.run_laws.proofs.Rising.{ordering_then-le, entry_total}
 use Rattle.run_laws.proofs.Traces.{trace_sorted, of_station, in_trace}
-use Rattle.run_laws.specs.SharedTexts.{station_sum, from_on, log_from, shared_to, TellsPlans}
+use Rattle.run_laws.specs.SharedTexts.{station_sum, entries_from, log_from, parting_of, TellsPlans}
 use Rattle.run_laws.specs.TraceLaws.{InLists}
 use Rattle.run_laws.proofs.SharedTextsAgreeing.{agree_to_parting}
 
@@ -71,17 +72,17 @@ module _ {M N : Type 0} (to : M → ℕ) (weigh : Entry M N → ℕ) where
   sum_of_none (suc n) = let a = sum_of_none n in omega (arith, a)
 
   -- entries for the stations 1 to n weigh what they do station after station
-  weighed : (n : ℕ) (es : List (Entry M N)) → AllByRecursion (λ e. IsStationOf n (to e.msg)) es →
+  sum_by-station_sum : (n : ℕ) (es : List (Entry M N)) → AllByRecursion (λ e. IsStationOf n (to e.msg)) es →
       sum_by weigh es ≡ station_sum (weight es) n
-  weighed n [] h = sym (sum_of_none n)
-  weighed n (e ∷ es) h =
+  sum_by-station_sum n [] h = sym (sum_of_none n)
+  sum_by-station_sum n (e ∷ es) h =
       let r : ℕ = to e.msg in
       -- the log of a station with the entry or without it
       let with_it : Bool → ℕ → ℕ = λ b s. sum_by weigh (cond b (e ∷ log_of to s es) (log_of to s es)) in
       let here = ap (λ b. with_it b r) (eq-eqb r r refl) ∙ sum_by-cons weigh e (log_of to r es) in
       let others = sum_more (weight es) (weight (e ∷ es)) n r (weigh e) here
       (λ s q. ap (λ b. with_it b s) (ne_eqb r s q)) h.0.0 h.0.1 in
-      let rest = weighed n es h.1 in
+      let rest = sum_by-station_sum n es h.1 in
       let all = sum_by-cons weigh e es in
       omega (arith, others, rest, all)
 
@@ -144,7 +145,7 @@ module _ {S M N : Type 0} {sim : Simulation S M N} {Good : ℕ → S → Type 0}
 
   -- a trace is what comes before a time, and then the rest
   pub trace_split : (c : Clone) (t : ℕ) → AreForStations sim c.plans →
-      trace_of sim c ≡ before sim t (trace_of sim c) ++ from_on sim t (trace_of sim c)
+      trace_of sim c ≡ entries_before sim t (trace_of sim c) ++ entries_from sim t (trace_of sim c)
   trace_split c t there =
       split_at time_of by_key keys_timed t (trace_of sim c) (trace_sorted law stations fresh c sim.horizon there)
 
@@ -153,19 +154,19 @@ module _ {S M N : Type 0} {sim : Simulation S M N} {Good : ℕ → S → Type 0}
       end_of sim c ≤ sim.horizon → end_of sim d ≤ sim.horizon → AreForStations sim c.plans
       → AreForStations sim d.plans →
       flat_map line (trace_of sim d) ≡
-      take (length (flat_map line (before sim (shared_to sim same c d) (trace_of sim d))))
+      take (length (flat_map line (entries_before sim (parting_of sim same c d) (trace_of sim d))))
       (flat_map line (trace_of sim c))
-      ++ flat_map line (from_on sim (shared_to sim same c d) (trace_of sim d))
+      ++ flat_map line (entries_from sim (parting_of sim same c d) (trace_of sim d))
   lines_agree same c d line tells hc hd tc td =
-      let t : ℕ = shared_to sim same c d in
-      let kept : List ℕ = flat_map line (before sim t (trace_of sim d)) in
-      let rest : Clone → List ℕ = λ k. flat_map line (from_on sim t (trace_of sim k)) in
-      let agree : before sim t (trace_of sim c) ≡ before sim t (trace_of sim d) =
+      let t : ℕ = parting_of sim same c d in
+      let kept : List ℕ = flat_map line (entries_before sim t (trace_of sim d)) in
+      let rest : Clone → List ℕ = λ k. flat_map line (entries_from sim t (trace_of sim k)) in
+      let agree : entries_before sim t (trace_of sim c) ≡ entries_before sim t (trace_of sim d) =
       agree_to_parting law same c d tells hc hd in
       let split : (k : Clone) → AreForStations sim k.plans
-      → flat_map line (trace_of sim k) ≡ flat_map line (before sim t (trace_of sim k)) ++ rest k = λ k tk.
-      ap (flat_map line) (trace_split k t tk) ∙ flat_map-append line (before sim t (trace_of sim k))
-      (from_on sim t (trace_of sim k)) in
+      → flat_map line (trace_of sim k) ≡ flat_map line (entries_before sim t (trace_of sim k)) ++ rest k = λ k tk.
+      ap (flat_map line) (trace_split k t tk) ∙ flat_map-append line (entries_before sim t (trace_of sim k))
+      (entries_from sim t (trace_of sim k)) in
       let whole : flat_map line (trace_of sim c) ≡ kept ++ rest c =
       split c tc ∙ ap (λ l. flat_map line l ++ rest c) agree in
       let first : take (length kept) (flat_map line (trace_of sim c)) ≡ kept =
@@ -176,28 +177,28 @@ module _ {S M N : Type 0} {sim : Simulation S M N} {Good : ℕ → S → Type 0}
 
   -- how long the lines from a time on are
   pub rest_length : (c : Clone) (t : ℕ) (line : Entry M N → List ℕ) → AreForStations sim c.plans →
-      length (flat_map line (from_on sim t (trace_of sim c))) ≡
+      length (flat_map line (entries_from sim t (trace_of sim c))) ≡
       station_sum (λ s. sum_by (λ e. length (line e)) (log_from sim c t s)) sim.stations
   rest_length c t line there =
       let trace : List (Entry M N) = trace_of sim c in
-      let es : List (Entry M N) = from_on sim t trace in
+      let es : List (Entry M N) = entries_from sim t trace in
       let long : Entry M N → ℕ = λ e. length (line e) in
       let for_stations = all_from (λ e. IsStation sim (sim.to e.msg)) es (λ e i.
       of_station law stations fresh c sim.horizon there e (in_filter (is_late time_of t) trace e i).0) in
       length-flat_map line es
-      ∙ weighed sim.to long sim.stations es for_stations
+      ∙ sum_by-station_sum sim.to long sim.stations es for_stations
       ∙ sum_same (weight sim.to long es) (λ s. sum_by long (log_from sim c t s)) sim.stations
       (λ s. ap (sum_by long) (filter_swap (λ e. sim.to e.msg == s) (is_late time_of t) trace))
 
   -- the rest of a trace, by the logs
   pub rest_of_logs : (c : Clone) (t : ℕ) (es : List (Entry M N)) → AreForStations sim c.plans → Sorted by_key es →
       ((e : Entry M N) → In e es → InLists sim (log_from sim c t) e) →
-      ((e : Entry M N) → InLists sim (log_from sim c t) e → In e es) → es ≡ from_on sim t (trace_of sim c)
+      ((e : Entry M N) → InLists sim (log_from sim c t) e → In e es) → es ≡ entries_from sim t (trace_of sim c)
   rest_of_logs c t es there sorted from all =
       let later : Entry M N → Bool = is_late time_of t in
       let trace : List (Entry M N) = trace_of sim c in
       let rises = sorted_filter by_key later trace (trace_sorted law stations fresh c sim.horizon there) in
-      same_elements (entry_total sim.time sender number N) es (from_on sim t trace) sorted rises
+      same_elements (entry_total sim.time sender number N) es (entries_from sim t trace) sorted rises
       (λ e i.
       let h = from e i in
       let k = in_filter later (log_at sim c h.0 sim.horizon) e h.2 in

@@ -7,8 +7,7 @@ use Rattle.std.proofs.lemmas.Bool.{cases_eq, eqb-true, ne_eqb, and_parts, or_rig
 use Rattle.sim_base.specs.Pending.{spread_marks}
 use Rattle.sim_base.specs.Marked.{JoinsMarks, MeetsMarks}
 use Rattle.run_laws.specs.Simulation.{Simulation}
-use Rattle.run_laws.specs.Copies.{part, messages_taken, takes_as, origin_of}
-use Rattle.run_laws.specs.MarkLaws.{AreOf}
+use Rattle.run_laws.specs.Copies.{AreOf, part, messages_taken, takes_as, origin_of}
 use Rattle.run_laws.proofs.Cuts.{and-second}
 
 -- ---- ||

@@ -8,17 +8,17 @@ use Rattle.sim_base.specs.Clones.{Clone, clone_at}
 use Rattle.run_laws.specs.Queue.{In}
 use Rattle.run_laws.specs.Machine.{Config, stay}
 use Rattle.run_laws.specs.Simulation.{Simulation}
-use Rattle.run_laws.specs.Window.{Part, earlier_than, alone_at, local}
+use Rattle.run_laws.specs.Window.{LocalStation, earlier_than, alone_at, local_run}
 use Rattle.run_laws.specs.Runs.{end_of, log_at, state_at, all_due, due_at}
 use Rattle.run_laws.specs.Fronts.{next_front}
 use Rattle.run_laws.specs.Handlers.{IsStation, HandlesLawfully, SendsToStations, AllAreForStations}
-use Rattle.run_laws.specs.Laws.{before, window, WindowsGive}
+use Rattle.run_laws.specs.Laws.{entries_before, window, WindowsGive}
 use Rattle.run_laws.specs.Copies.{Copy, Carries, takes, messages_taken, alone_from, IsStepped}
 use Rattle.run_laws.specs.Copies.{ends_of, Stands, AllStepped, HasReceived, IsDelivered}
 use Rattle.run_laws.proofs.Queue.{same_elements}
 use Rattle.run_laws.proofs.Lists.{in_filter, filter_keeps, sorted_filter, in_own}
 use Rattle.run_laws.proofs.Running.{all_from_zero, run_is}
-use Rattle.run_laws.proofs.Worlds.{part_lawful, run_fine}
+use Rattle.run_laws.proofs.Worlds.{local_lawful, run_fine}
 use Rattle.run_laws.proofs.ForStations.{due_is_for_stations}
 use Rattle.run_laws.proofs.Fronts.{log_at_front}
 use Rattle.run_laws.proofs.Late.{due_sorted}
@@ -57,8 +57,9 @@ module _ {S M N : Type 0} {sim : Simulation S M N} {Good : ℕ → S → Type 0}
   idle_window : (c : Clone) (r front bound : ℕ) → due_at sim c r front ≡ [] →
       (window sim c r front bound).at.aside ≡ []
   idle_window c r front bound e =
-      let x : Config (Part S M N) M = alone_at (log_at sim c r front) (state_at sim c r front) (due_at sim c r front) in
-      sym (ap (λ u. u.at.aside) (run_is law.order (part_lawful law r) (min bound (end_of sim c)) x x
+      let x : Config (LocalStation S M N) M =
+      alone_at (log_at sim c r front) (state_at sim c r front) (due_at sim c r front) in
+      sym (ap (λ u. u.at.aside) (run_is law.order (local_lawful law r) (min bound (end_of sim c)) x x
       (record {
         good = (run_fine law c.plans (min front (end_of sim c))).good r;
         sorted = sorted_filter sim.order (λ m. sim.to m == r) (all_due sim c front) (due_sorted law c front);
@@ -82,8 +83,8 @@ module _ {S M N K : Type 0} {sim : Simulation S M N} {Good : ℕ → S → Type 
     (alone_from sim has (ends_of sim cs) r bound x c).at.aside)
     (got : IsDelivered sim has cs s sent new done) where
   -- what the windows of a clone give
-  gives : (c : ℕ) → c < length cs → WindowsGive sim (clone_at cs c) front bound
-  gives c l = windows_give_run law cs (clone_at cs c) front bound (clone_in cs c l) later within
+  WindowsGive-clone : (c : ℕ) → c < length cs → WindowsGive sim (clone_at cs c) front bound
+  WindowsGive-clone c l = windows_give_run law cs (clone_at cs c) front bound (clone_in cs c l) later within
 
   -- where a copy comes from, for a clone that it carries
   record Origin (b : Copy S M N K) (c : ℕ) : Type 0 where
@@ -99,8 +100,8 @@ module _ {S M N K : Type 0} {sim : Simulation S M N} {Good : ℕ → S → Type 
   origin : (b : Copy S M N K) (c : ℕ) → In b done → Carries has b c → Origin b c
   origin b c i h =
       let d = got.from b i in
-      let e = step.from d.0 d.1 in
-      let g : Carries has d.0 c = subst (λ k. has k c ≡ true) d.2.set h in
+      let e = step.split.from d.0 d.1 in
+      let g : Carries has d.0 c = subst (λ k. has k c ≡ true) d.2.same.set h in
       record { mid = d.0; in_new = d.1; received = d.2; has_mid = g; old = e.0; in_old = e.1; has_old = e.2 c g }
 
   -- a copy's window for a clone is the clone's window
@@ -109,37 +110,39 @@ module _ {S M N K : Type 0} {sim : Simulation S M N} {Good : ℕ → S → Type 
   is_window r is x c i h =
       let k : Clone = clone_at cs c in
       let e : ℕ = ends_of sim cs c in
-      ap (λ l. local sim r l x.state (messages_taken sim has (ends_of sim cs) c x.pending) bound e)
+      ap (λ l. local_run sim r l x.state (messages_taken sim has (ends_of sim cs) c x.pending) bound e)
       ((stood r is).log x c i h)
-      ∙ (ap (λ l. local sim r (log_at sim k r front) l (messages_taken sim has (ends_of sim cs) c x.pending) bound e)
+      ∙ (ap (λ l. local_run sim r (log_at sim k r front) l
+      (messages_taken sim has (ends_of sim cs) c x.pending) bound e)
       ((stood r is).state x c i h)
-      ∙ ap (λ l. local sim r (log_at sim k r front) (state_at sim k r front) l bound e) ((stood r is).due x c i h))
+      ∙ ap (λ l. local_run sim r (log_at sim k r front) (state_at sim k r front) l bound e) ((stood r is).due x c i h))
 
   -- the clones that a copy carries are there
-  alive : (b : Copy S M N K) (c : ℕ) → In b done → Carries has b c → c < length cs
-  alive b c i h = let g = origin b c i h in (stood s here).living g.old c g.in_old g.has_old
+  Carries-living : (b : Copy S M N K) (c : ℕ) → In b done → Carries has b c → c < length cs
+  Carries-living b c i h = let g = origin b c i h in (stood s here).living g.old c g.in_old g.has_old
 
   -- a copy has its clones' log
   log_there : (b : Copy S M N K) (c : ℕ) → In b done → Carries has b c → b.log ≡ log_at sim (clone_at cs c) s bound
   log_there b c i h =
       let g = origin b c i h in
-      g.received.log ∙ (step.log g.old g.mid c g.in_old g.in_new g.has_old g.has_mid
-      ∙ (ap (λ u. u.at.log) (is_window s here g.old c g.in_old g.has_old) ∙ sym ((gives c (alive b c i h)).log s)))
+      g.received.same.log ∙ (step.log g.old g.mid c g.in_old g.in_new g.has_old g.has_mid
+      ∙ (ap (λ u. u.at.log) (is_window s here g.old c g.in_old g.has_old)
+      ∙ sym ((WindowsGive-clone c (Carries-living b c i h)).log s)))
 
   -- and their state
   state_there : (b : Copy S M N K) (c : ℕ) → In b done → Carries has b c
       → b.state ≡ state_at sim (clone_at cs c) s bound
   state_there b c i h =
       let g = origin b c i h in
-      g.received.state ∙ (step.state g.old g.mid c g.in_old g.in_new g.has_old g.has_mid
+      g.received.same.state ∙ (step.state g.old g.mid c g.in_old g.in_new g.has_old g.has_mid
       ∙ (ap (λ u. u.at.state) (is_window s here g.old c g.in_old g.has_old)
-      ∙ sym ((gives c (alive b c i h)).state s)))
+      ∙ sym ((WindowsGive-clone c (Carries-living b c i h)).state s)))
 
   -- what station r laid aside for clone c
-  laid : (r c : ℕ) → IsStation sim r → c < length cs →
+  messages_taken-sent : (r c : ℕ) → IsStation sim r → c < length cs →
       messages_taken sim has (ends_of sim cs) c (sent r) ≡ earlier_than sim.time (ends_of sim cs c)
       (window sim (clone_at cs c) r front bound).at.aside
-  laid r c is l =
+  messages_taken-sent r c is l =
       let x = (stood r is).carried c l in
       out r is x.0 c x.1 x.2 ∙ ap (λ u. earlier_than sim.time (ends_of sim cs c) u.at.aside)
       (is_window r is x.0 c x.1 x.2)
@@ -161,20 +164,20 @@ module _ {S M N K : Type 0} {sim : Simulation S M N} {Good : ℕ → S → Type 
       let end : ℕ = end_of sim k in
       let early : M → Bool = λ m. nat_lt (sim.time m) (end_of sim k) in
       let g = origin b c i h in
-      let l : c < length cs = alive b c i h in
-      let v = gives c l in
+      let l : c < length cs = Carries-living b c i h in
+      let v = WindowsGive-clone c l in
       let p : messages_taken sim has (ends_of sim cs) c g.mid.pending ≡ earlier_than sim.time end
       (window sim k s front bound).pending =
       step.pending g.old g.mid c g.in_old g.in_new g.has_old g.has_mid ∙ ap (λ u. earlier_than sim.time end u.pending)
       (is_window s here g.old c g.in_old g.has_old) in
       same_elements law.order.order.total (messages_taken sim has (ends_of sim cs) c b.pending) (due_at sim k s bound)
-      (sorted_part (takes sim has (ends_of sim cs)) sim.order c b.pending (got.sorted b i))
+      (sorted_part (takes sim has (ends_of sim cs)) sim.order c b.pending (got.clones.sorted b i))
       (v.sorted s)
       (λ z t. elim (g.received.from c z g.has_mid t) [
         | inl u ↦ let w = in_filter early (window sim k s front bound).pending z (subst (In z) p u) in
             (v.due s z).1 (ltb-true (sim.time z) end w.1, inl w.0)
         | inr u ↦ let w = in_filter early (window sim k u.0 front bound).at.aside z
-            (subst (In z) (laid u.0 c (senders u.0 c z u.1) l) u.1) in
+            (subst (In z) (messages_taken-sent u.0 c (senders u.0 c z u.1) l) u.1) in
             (v.due s z).1 (ltb-true (sim.time z) end w.1, inr (u.2, (u.0, w.0)))
       ])
       (λ z t. let w = (v.due s z).0 t in
@@ -184,7 +187,7 @@ module _ {S M N K : Type 0} {sim : Simulation S M N} {Good : ℕ → S → Type 
             (lt-ltb (sim.time z) end w.0)))
         | inr u ↦ elim (station_or_not sim u.1.0) [
           | inl is ↦ g.received.got c u.1.0 z g.has_mid
-              (subst (In z) (sym (laid u.1.0 c is l))
+              (subst (In z) (sym (messages_taken-sent u.1.0 c is l))
               (filter_keeps early (window sim k u.1.0 front bound).at.aside z u.1.1 (lt-ltb (sim.time z) end w.0))) u.0
           | inr not ↦ absurd (subst (In z) (idle_there u.1.0 c not l) u.1.1)
         ]
@@ -193,15 +196,15 @@ module _ {S M N K : Type 0} {sim : Simulation S M N} {Good : ℕ → S → Type 
   -- the copies of station s stand for the clones at the bound
   stands_window : Stands sim has cs bound s done
   stands_window = record {
-    inhabited = λ b i. let d = got.from b i in let e = step.inhabited d.0 d.1 in
-        (e.0, subst (λ k. has k e.0 ≡ true) (sym d.2.set) e.1);
+    inhabited = λ b i. let d = got.from b i in let e = step.split.inhabited d.0 d.1 in
+        (e.0, subst (λ k. has k e.0 ≡ true) (sym d.2.same.set) e.1);
     carried = λ c l.
         let x = (stood s here).carried c l in
         let y = step.carried x.0 c x.1 x.2 in
-        let u = got.each y.0 y.1 in
+        let u = got.clones.each y.0 y.1 in
         (u.0, u.1, subst (λ k. has k c ≡ true) (sym u.2) y.2);
-    living = alive;
-    disjoint = got.disjoint;
+    living = Carries-living;
+    disjoint = got.clones.disjoint;
     log = log_there;
     state = state_there;
     due = due_there;
@@ -210,14 +213,14 @@ module _ {S M N K : Type 0} {sim : Simulation S M N} {Good : ℕ → S → Type 
         let y = origin b d t k in
         let f : log_at sim (clone_at cs c) s front ≡ log_at sim (clone_at cs d) s front =
         sym (log_at_front law (clone_at cs c) s front bound later)
-        ∙ (ap (before sim front) e ∙ log_at_front law (clone_at cs d) s front bound later) in
+        ∙ (ap (entries_before sim front) e ∙ log_at_front law (clone_at cs d) s front bound later) in
         let same : x.old ≡ y.old = (stood s here).shared x.old y.old c d x.in_old y.in_old x.has_old y.has_old f in
-        let g : x.mid ≡ y.mid = step.parted x.old x.mid y.mid c d x.in_old x.in_new y.in_new x.has_old
+        let g : x.mid ≡ y.mid = step.split.parted x.old x.mid y.mid c d x.in_old x.in_new y.in_new x.has_old
         (subst (λ u. Carries has u d) (sym same) y.has_old) x.has_mid y.has_mid
-        (sym x.received.log ∙ (log_there a c i h ∙ (e ∙ (sym (log_there b d t k) ∙ y.received.log)))) in
-        let sets : a.set ≡ b.set = x.received.set ∙ (ap (λ u. u.set) g ∙ sym y.received.set) in
+        (sym x.received.same.log ∙ (log_there a c i h ∙ (e ∙ (sym (log_there b d t k) ∙ y.received.same.log)))) in
+        let sets : a.set ≡ b.set = x.received.same.set ∙ (ap (λ u. u.set) g ∙ sym y.received.same.set) in
         got.one a b i t c h (subst (λ u. has u c ≡ true) sets h);
-    sorted = got.sorted;
+    sorted = got.clones.sorted;
   }
 
 -- the same, of all stations together

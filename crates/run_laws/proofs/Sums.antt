@@ -49,17 +49,17 @@ module _ {X : Type 0} (g : X → ℕ) where
     back : (z : X) → In z rest → In z ys × (z ≡ x → ⊥)
 
   -- there is one
-  without : (x : X) (ys : List X) → Apart ys → In x ys → Without x ys
-  without x [] a i = absurd i
-  without x (y ∷ ys) a (inl e) = record {
+  Without-In : (x : X) (ys : List X) → Apart ys → In x ys → Without x ys
+  Without-In x [] a i = absurd i
+  Without-In x (y ∷ ys) a (inl e) = record {
     rest = ys;
     sum = sum_by-cons g y ys ∙ ap (λ t. g t + sum_by g ys) (sym e);
     apart = a.1;
     there = λ z j. elim j [ inl d ↦ inl (d ∙ sym e) | inr k ↦ inr k ];
     back = λ z k. (inr k, λ d. a.0 (subst (λ t. In t ys) (d ∙ e) k));
   }
-  without x (y ∷ ys) a (inr i) =
-      let h = without x ys a.1 i in
+  Without-In x (y ∷ ys) a (inr i) =
+      let h = Without-In x ys a.1 i in
       let s = h.sum in
       let whole = sum_by-cons g y ys in
       let left = sum_by-cons g y h.rest in
@@ -83,7 +83,7 @@ module _ {X : Type 0} (g : X → ℕ) where
   same_sum [] [] a b f h = refl
   same_sum [] (y ∷ ys) a b f h = absurd (h y (inl refl))
   same_sum (x ∷ xs) ys a b f h =
-      let w = without x ys b (f x (inl refl)) in
+      let w = Without-In x ys b (f x (inl refl)) in
       let r = same_sum xs w.rest a.1 w.apart
       (λ z i. elim (w.there z (f z (inr i))) [ inl d ↦ absurd (a.0 (subst (λ t. In t xs) d i)) | inr j ↦ j ])
       (λ z i. let k = w.back z i in elim (h z k.0) [ inl d ↦ absurd (k.1 d) | inr j ↦ j ]) in

@@ -7,6 +7,7 @@ use Rattle.std.specs.List.{AllByRecursion}
 use Rattle.std.proofs.lemmas.Bool.{cases_eq}
 use Rattle.sim_base.specs.Clones.{Clone}
 use Rattle.sim_base.specs.declared.entry.Entry.{Entry}
+use Rattle.sim_base.proofs.OrderLaws.{entry_total}
 use Rattle.run_laws.specs.Queue.{In, Sorted}
 use Rattle.run_laws.specs.Simulation.{Simulation}
 use Rattle.run_laws.specs.Runs.{end_of, run_of, log_at}
@@ -15,7 +16,7 @@ use Rattle.run_laws.specs.Handlers.{HandlesLawfully, SendsToStations, HandlesFre
 use Rattle.run_laws.proofs.Queue.{all_in, same_elements}
 use Rattle.run_laws.proofs.Lists.{in_filter, filter_keeps, sorted_filter}
 use Rattle.run_laws.proofs.ForStations.{trace_for_stations}
-use Rattle.run_laws.proofs.Rising.{trace_rises, entry_total}
+use Rattle.run_laws.proofs.Rising.{trace_rises}
 use Rattle.run_laws.specs.Merges.{entry_order, merge_of_lists, merge_of_logs}
 use Rattle.run_laws.specs.TraceLaws.{InLists, InLogs}
 use Rattle.run_laws.proofs.Merges.{in_merge, merge_has, sorted_merge, ties_are_one}

@@ -7,16 +7,16 @@ use Rattle.std.proofs.lemmas.Bool.{cases_Bool, cases_lt, lt-ltb, ltb-true, false
 use Rattle.std.proofs.lemmas.List.Elements.{filter-append}
 use Rattle.sim_base.specs.declared.entry.Entry.{Entry}
 use Rattle.run_laws.specs.Queue.{insert_all, In, Sorted}
-use Rattle.run_laws.specs.Machine.{Config, after, Next, Reach, stay, go, IsSettled}
+use Rattle.run_laws.specs.Machine.{Config, config_after, Next, Reach, stay, go, IsSettled}
 use Rattle.run_laws.specs.Simulation.{Simulation, Outcome}
 use Rattle.run_laws.specs.World.{to_it}
-use Rattle.run_laws.specs.Window.{Part, to_others, earlier_than, part_step, alone_at, local}
+use Rattle.run_laws.specs.Window.{LocalStation, to_others, earlier_than, local_step, alone_at, local_run}
 use Rattle.run_laws.specs.Handlers.{IsTimed, HandlesLawfully}
 use Rattle.run_laws.specs.Copies.{handle_until}
 use Rattle.run_laws.proofs.Queue.{all_in, all_from}
 use Rattle.run_laws.proofs.Lists.{in_filter, filter_keeps, filter_swap, filter-insert_all}
 use Rattle.run_laws.proofs.Running.{Fine, fine_reach, all_from_zero, run_is}
-use Rattle.run_laws.proofs.Worlds.{part_lawful}
+use Rattle.run_laws.proofs.Worlds.{local_lawful}
 
 -- ---- earlier_than
 
@@ -45,7 +45,7 @@ head_before {M} {cmp} {time} o end (y ∷ ys) m q s e = elim (cases_Bool (nat_lt
 
 module _ {S M N : Type 0} (sim : Simulation S M N) (end : ℕ) where
   -- d is c without what comes at the end or later
-  pub record IsCutOf (c d : Config (Part S M N) M) : Type 0 where
+  pub record IsCutOf (c d : Config (LocalStation S M N) M) : Type 0 where
     pub state : d.at.state ≡ c.at.state
     pub log : d.at.log ≡ c.at.log
     pub aside : d.at.aside ≡ earlier_than sim.time end c.at.aside
@@ -54,9 +54,9 @@ module _ {S M N : Type 0} (sim : Simulation S M N) (end : ℕ) where
 module _ {S M N : Type 0} {sim : Simulation S M N} {Good : ℕ → S → Type 0} (law : HandlesLawfully sim Good)
     (end s bound : ℕ) where
   -- a turn of the one is a turn of the other
-  cut_step : (c d e : Config (Part S M N) M) → Sorted sim.order c.pending → IsCutOf sim end c d →
-      Next sim.order sim.time (part_step sim.to (handle_until sim end) s) bound d e →
-      (f : Config (Part S M N) M) × Next sim.order sim.time (part_step sim.to sim.handle s) (min bound end) c f
+  cut_step : (c d e : Config (LocalStation S M N) M) → Sorted sim.order c.pending → IsCutOf sim end c d →
+      Next sim.order sim.time (local_step sim.to (handle_until sim end) s) bound d e →
+      (f : Config (LocalStation S M N) M) × Next sim.order sim.time (local_step sim.to sim.handle s) (min bound end) c f
       × IsCutOf sim end f e
   cut_step c d e sorted h n =
       let o = law.order.order in
@@ -72,7 +72,7 @@ module _ {S M N : Type 0} {sim : Simulation S M N} {Good : ℕ → S → Type 0}
       let g : Outcome S M N = sim.handle s d.at.state m in
       let there : Outcome S M N = sim.handle s c.at.state m in
       let ge : g ≡ there = ap (λ st. sim.handle s st m) h.state in
-      let f : Config (Part S M N) M = after sim.order (part_step sim.to sim.handle s) c.at m r in (
+      let f : Config (LocalStation S M N) M = config_after sim.order (local_step sim.to sim.handle s) c.at m r in (
         f,
         record { m = m; q = r; pending = hd.1; early = omega arith; is = refl },
         record {
@@ -95,28 +95,29 @@ module _ {S M N : Type 0} {sim : Simulation S M N} {Good : ℕ → S → Type 0}
       )
 
   -- and so with several turns
-  cut_reach : {d e : Config (Part S M N) M} (c : Config (Part S M N) M) →
+  cut_reach : {d e : Config (LocalStation S M N) M} (c : Config (LocalStation S M N) M) →
       Fine sim.order sim.time (λ p. Good s p.state) 0 c → IsCutOf sim end c d →
-      Reach sim.order sim.time (part_step sim.to (handle_until sim end) s) bound d e →
-      (f : Config (Part S M N) M) × Reach sim.order sim.time (part_step sim.to sim.handle s) (min bound end) c f
+      Reach sim.order sim.time (local_step sim.to (handle_until sim end) s) bound d e →
+      (f : Config (LocalStation S M N) M)
+      × Reach sim.order sim.time (local_step sim.to sim.handle s) (min bound end) c f
       × IsCutOf sim end f e
   cut_reach c fine h stay = (c, stay, h)
   cut_reach {d} {e} c fine h (go {d = d0} r n) =
       let a = cut_reach c fine h r in
-      let b = cut_step a.0 d0 e (fine_reach law.order (part_lawful law s) 0 fine a.1).sorted a.2 n in
+      let b = cut_step a.0 d0 e (fine_reach law.order (local_lawful law s) 0 fine a.1).sorted a.2 n in
       (b.0, go a.1 b.1, b.2)
 
   -- where such a station has nothing left before the bound, its window gives this, before the end
-  pub cut_of_local : (log : List (Entry M N)) (st : S) (q : List M) (e : Config (Part S M N) M) → Good s st →
+  pub cut_of_local : (log : List (Entry M N)) (st : S) (q : List M) (e : Config (LocalStation S M N) M) → Good s st →
       Sorted sim.order q → earlier_than sim.time end q ≡ q →
-      Reach sim.order sim.time (part_step sim.to (handle_until sim end) s) bound (alone_at log st q) e →
-      IsSettled sim.time bound e → IsCutOf sim end (local sim s log st q bound end) e
+      Reach sim.order sim.time (local_step sim.to (handle_until sim end) s) bound (alone_at log st q) e →
+      IsSettled sim.time bound e → IsCutOf sim end (local_run sim s log st q bound end) e
   cut_of_local log st q e good sorted early r done =
-      let c : Config (Part S M N) M = alone_at log st q in
+      let c : Config (LocalStation S M N) M = alone_at log st q in
       let fine : Fine sim.order sim.time (λ p. Good s p.state) 0 c =
       record { good = good; sorted = sorted; from_t = all_from_zero sim.time q } in
       let a = cut_reach c fine (record { state = refl; log = refl; aside = refl; pending = sym early }) r in
-      let f : Config (Part S M N) M = a.0 in
+      let f : Config (LocalStation S M N) M = a.0 in
       let cut : IsCutOf sim end f e = a.2 in
       let left : IsSettled sim.time (min bound end) f =
       all_from (λ m. min bound end ≤ sim.time m) f.pending (λ z i. elim (cases_lt (sim.time z) end) [
@@ -126,4 +127,4 @@ module _ {S M N : Type 0} {sim : Simulation S M N} {Good : ℕ → S → Type 0}
             (filter_keeps (λ m. nat_lt (sim.time m) end) f.pending z i (lt-ltb (sim.time z) end l))) in omega arith
         | inr l ↦ omega arith
       ]) in
-      subst (λ u. IsCutOf sim end u e) (run_is law.order (part_lawful law s) (min bound end) c f fine a.1 left) cut
+      subst (λ u. IsCutOf sim end u e) (run_is law.order (local_lawful law s) (min bound end) c f fine a.1 left) cut

@@ -7,25 +7,29 @@ use Rattle.std.proofs.Common.{◌⊎◌, inl, inr, refl, sym, ap, ◌∙◌, sub
 use Rattle.std.proofs.lemmas.Bool.{cases_eq}
 use Rattle.sim_base.specs.declared.entry.Entry.{Entry}
 use Rattle.run_laws.specs.Queue.{insert_all, In, Sorted}
-use Rattle.run_laws.specs.Machine.{Config, after, run_to, Reach, stay, go, IsSettled}
+use Rattle.run_laws.specs.Machine.{Config, config_after, run_to, Reach, stay, go, IsSettled}
 use Rattle.run_laws.specs.Simulation.{Simulation, Outcome}
 use Rattle.run_laws.specs.World.{World, to_it, log_of, put, world_step}
-use Rattle.run_laws.specs.Window.{Part, to_others, part_step, alone_at}
+use Rattle.run_laws.specs.Window.{LocalStation, to_others, local_step, alone_at}
 use Rattle.run_laws.specs.Handlers.{AllGood, HandlesLawfully}
 use Rattle.run_laws.proofs.Queue.{all_in, all_from, in_insert_all, insert_all_old}
 use Rattle.run_laws.proofs.Queue.{insert_all_new, sorted_insert_all, same_head, not_head}
 use Rattle.run_laws.proofs.Lists.{in_own, own_from, in_others, others_from, in_append, append_old, append_new}
 use Rattle.run_laws.proofs.Running.{Fine, all_from_zero, fine_keeps, run_is}
 use Rattle.run_laws.proofs.Worlds.{put_same, put_other, put_cases, log_here}
-use Rattle.run_laws.proofs.Worlds.{log_there, entry_of, world_lawful, part_lawful}
+use Rattle.run_laws.proofs.Worlds.{log_there, entry_of, world_lawful, local_lawful}
 
 module _ {S M N : Type 0} (sim : Simulation S M N) (bound end : ℕ) (due : ℕ → List M) where
   -- a station's window when it begins, with these messages due
-  abbrev window_start : Config (World S M N) M → ℕ → Config (Part S M N) M
+  abbrev window_start : Config (World S M N) M → ℕ → Config (LocalStation S M N) M
   window_start w s = alone_at (log_of sim.to s w.at.trace) (w.at.states s) (due s)
 
+  -- what is pending in a world before the end comes by the lookahead before the bound at most
+  abbrev pub IsNear : Config (World S M N) M → Type 0
+  IsNear w = (m : M) → In m w.pending → sim.time m < end → bound ≤ sim.time m + sim.lookahead
+
   -- the world w, which began as w0, against the window of each station so far
-  pub record Split (w0 w : Config (World S M N) M) (k : ℕ → Config (Part S M N) M) : Type 0 where
+  pub record Split (w0 w : Config (World S M N) M) (k : ℕ → Config (LocalStation S M N) M) : Type 0 where
     pub state : (s : ℕ) → (k s).at.state ≡ w.at.states s
     pub log : (s : ℕ) → log_of sim.to s w.at.trace ≡ (k s).at.log
     pub sorted : (s : ℕ) → Sorted sim.order (k s).pending
@@ -35,19 +39,19 @@ module _ {S M N : Type 0} (sim : Simulation S M N) (bound end : ℕ) (due : ℕ 
     -- what the world has before the end, a window has left or has laid aside
     pub out : (m : M) → In m w.pending → sim.time m < end → In m (k (sim.to m)).pending
         ⊎ ((r : ℕ) × In m (k r).at.aside)
-    pub near : (m : M) → In m w.pending → sim.time m < end → bound ≤ sim.time m + sim.lookahead
-    pub ran : (s : ℕ) → Reach sim.order sim.time (part_step sim.to sim.handle s) bound (window_start w0 s) (k s)
+    pub near : IsNear w
+    pub ran : (s : ℕ) → Reach sim.order sim.time (local_step sim.to sim.handle s) bound (window_start w0 s) (k s)
 
   -- when the windows begin, each station has the messages that are due to it
   pub record Opens (w : Config (World S M N) M) : Type 0 where
     pub sorted : (s : ℕ) → Sorted sim.order (due s)
     pub own : (s : ℕ) (z : M) → In z (due s) → (sim.to z ≡ s) × In z w.pending
     pub out : (z : M) → In z w.pending → sim.time z < end → In z (due (sim.to z))
-    pub near : (z : M) → In z w.pending → sim.time z < end → bound ≤ sim.time z + sim.lookahead
+    pub near : IsNear w
 
   -- a station's window to the bound
-  abbrev window_at_bound : Config (World S M N) M → ℕ → Config (Part S M N) M
-  window_at_bound w s = run_to sim.order (part_step sim.to sim.handle s) sim.time (window_start w s) bound
+  abbrev window_at_bound : Config (World S M N) M → ℕ → Config (LocalStation S M N) M
+  window_at_bound w s = run_to sim.order (local_step sim.to sim.handle s) sim.time (window_start w s) bound
 
   -- what the windows give, against the world at the bound
   pub record Windows (w d : Config (World S M N) M) : Type 0 where
@@ -63,11 +67,12 @@ module _ {S M N : Type 0} {sim : Simulation S M N} {Good : ℕ → S → Type 0}
   -- ---- Split
 
   -- with a turn of the world, the receiver's window takes one
-  split_step : (w0 : Config (World S M N) M) (x : World S M N) (m : M) (q : List M) (k : ℕ → Config (Part S M N) M) →
+  split_step : (w0 : Config (World S M N) M) (x : World S M N) (m : M) (q : List M)
+      (k : ℕ → Config (LocalStation S M N) M) →
       AllGood Good x → Sorted sim.order (m ∷ q) → sim.time m < bound →
       Split sim bound end due w0 (record { at = x; pending = m ∷ q }) k →
-      (k2 : ℕ → Config (Part S M N) M)
-      × Split sim bound end due w0 (after sim.order (world_step sim.to sim.handle) x m q) k2
+      (k2 : ℕ → Config (LocalStation S M N) M)
+      × Split sim bound end due w0 (config_after sim.order (world_step sim.to sim.handle) x m q) k2
   split_step w0 x m q k good s early h =
       let r : ℕ = sim.to m in
       let o = law.order.order in
@@ -86,7 +91,7 @@ module _ {S M N : Type 0} {sim : Simulation S M N} {Good : ℕ → S → Type 0}
       let sp : Sorted sim.order (m ∷ p) = subst (Sorted sim.order) is (h.sorted r) in
       let g : Outcome S M N = sim.handle r (k r).at.state m in
       let ge : g ≡ there = ap (λ st. sim.handle r st m) (h.state r) in
-      let v : Config (Part S M N) M = after sim.order (part_step sim.to sim.handle r) (k r).at m p in
+      let v : Config (LocalStation S M N) M = config_after sim.order (local_step sim.to sim.handle r) (k r).at m p in
       let new : List M = insert_all sim.order sent q in
       let from_sent : (z : M) → In z g.sends → In z sent = λ z i. subst (λ u. In z u.sends) ge i in
       let to_sent : (z : M) → In z sent → In z g.sends = λ z i. subst (λ u. In z u.sends) (sym ge) i in
@@ -156,7 +161,7 @@ module _ {S M N : Type 0} {sim : Simulation S M N} {Good : ℕ → S → Type 0}
                 all_in (λ x. sim.time m < sim.time x) sent z (law.later r (x.states r) m gm) j in omega arith
             | inr j ↦ h.near z (inr j) t
           ];
-          ran = put_cases (λ s c. Reach sim.order sim.time (part_step sim.to sim.handle s) bound
+          ran = put_cases (λ s c. Reach sim.order sim.time (local_step sim.to sim.handle s) bound
               (window_start sim bound end due w0 s) c) k r v
               (go (h.ran r) (record { m = m; q = p; pending = is; early = early; is = refl }))
               (λ s n. h.ran s);
@@ -192,9 +197,10 @@ module _ {S M N : Type 0} {sim : Simulation S M N} {Good : ℕ → S → Type 0}
   split_reach : (w d : Config (World S M N) M) → Fine sim.order sim.time (AllGood Good) 0 w
       → Opens sim bound end due w →
       Reach sim.order sim.time (world_step sim.to sim.handle) bound w d →
-      (k : ℕ → Config (Part S M N) M) × Split sim bound end due w d k
+      (k : ℕ → Config (LocalStation S M N) M) × Split sim bound end due w d k
   split_reach w d f h r =
-      fine_keeps law.order (world_lawful law) 0 (λ d. (k : ℕ → Config (Part S M N) M) × Split sim bound end due w d k)
+      fine_keeps law.order (world_lawful law) 0
+      (λ d. (k : ℕ → Config (LocalStation S M N) M) × Split sim bound end due w d k)
       (window_start sim bound end due w, split_begin w h)
       (λ x m q f early a. split_step w x m q a.0 f.good f.sorted early a.1)
       f r
@@ -202,7 +208,7 @@ module _ {S M N : Type 0} {sim : Simulation S M N} {Good : ℕ → S → Type 0}
   -- ---- Windows
 
   -- where the windows are at the bound, they give what the world has
-  windows_of : (w d : Config (World S M N) M) (k : ℕ → Config (Part S M N) M) → Split sim bound end due w d k →
+  windows_of : (w d : Config (World S M N) M) (k : ℕ → Config (LocalStation S M N) M) → Split sim bound end due w d k →
       ((s : ℕ) → k s ≡ window_at_bound sim bound end due w s) → Windows sim bound end due w d
   windows_of w d k h is = record {
     state = λ s. subst (λ c. c.at.state ≡ d.at.states s) (is s) (h.state s);
@@ -222,7 +228,7 @@ module _ {S M N : Type 0} {sim : Simulation S M N} {Good : ℕ → S → Type 0}
   windows_give w d f h r done =
       let a = split_reach w d f h r in
       windows_of w d a.0 a.1
-      (λ s. run_is law.order (part_lawful law s) bound (window_start sim bound end due w s) (a.0 s)
+      (λ s. run_is law.order (local_lawful law s) bound (window_start sim bound end due w s) (a.0 s)
       (record { good = f.good s; sorted = h.sorted s; from_t = all_from_zero sim.time (due s) })
       (a.1.ran s)
       (all_from (λ m. bound ≤ sim.time m) (a.0 s).pending

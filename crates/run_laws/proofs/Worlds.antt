@@ -8,8 +8,8 @@ use Rattle.sim_base.specs.declared.entry.Entry.{Entry}
 use Rattle.run_laws.specs.Queue.{In}
 use Rattle.run_laws.specs.Machine.{Reach}
 use Rattle.run_laws.specs.Simulation.{Simulation}
-use Rattle.run_laws.specs.World.{to_it, log_of, put, world_step, and_first, openings, set_messages, begin}
-use Rattle.run_laws.specs.Window.{part_step}
+use Rattle.run_laws.specs.World.{to_it, log_of, put, world_step, and_first, first_messages, set_messages, first_world}
+use Rattle.run_laws.specs.Window.{local_step}
 use Rattle.run_laws.specs.Runs.{run}
 use Rattle.run_laws.specs.Handlers.{IsLawful, AllGood, HandlesLawfully, IsStationOf}
 use Rattle.run_laws.proofs.Queue.{all_in, all_from, sorted_insert_all}
@@ -49,14 +49,14 @@ module _ {M N : Type 0} (to : M → ℕ) where
   log_there s es e h = filter-append (λ e. to e.msg == s) es (e ∷ []) ∙ ap (λ b. log_of to s es ++ cond b (e ∷ []) [])
       (ne_eqb (to e.msg) s h) ∙ append-nil (log_of to s es)
 
--- ---- openings, set_messages
+-- ---- first_messages, set_messages
 
 module _ {S M N : Type 0} (sim : Simulation S M N) where
   -- the entry of a message that is handled in a state
   abbrev pub entry_of : ℕ → S → M → Entry M N
   entry_of s st m = record { msg = m; line = (sim.handle s st m).line }
 
-  -- an opening is one of those before, or the station's own
+  -- a first message is one of those before, or the station's own
   first_in : (ms : List M) (f : Option M) (z : M) → In z (and_first sim ms f) → In z ms ⊎ (f ≡ Some z)
   first_in ms None z i = inl i
   first_in ms (Some m) z i = elim (in_append ms (m ∷ []) z i) [
@@ -64,12 +64,12 @@ module _ {S M N : Type 0} (sim : Simulation S M N) where
     | inr j ↦ elim j [ inl e ↦ inr (ap Some (sym e)) | inr k ↦ absurd k ]
   ]
 
-  -- an opening is the first message of a station
-  pub in_openings : (n : ℕ) (z : M) → In z (openings sim n) →
+  -- it is what one of the stations opens with
+  pub in_first_messages : (n : ℕ) (z : M) → In z (first_messages sim n) →
       (s : ℕ) × IsStationOf n s × ((sim.setup s).first ≡ Some z)
-  in_openings zero z i = absurd i
-  in_openings (suc n) z i = elim (first_in (openings sim n) (sim.setup (suc n)).first z i) [
-    | inl j ↦ let h = in_openings n z j in let above : 0 < h.0 = h.1.0 in let most : h.0 ≤ n = h.1.1 in
+  in_first_messages zero z i = absurd i
+  in_first_messages (suc n) z i = elim (first_in (first_messages sim n) (sim.setup (suc n)).first z i) [
+    | inl j ↦ let h = in_first_messages n z j in let above : 0 < h.0 = h.1.0 in let most : h.0 ≤ n = h.1.1 in
         (h.0, (omega arith, omega arith), h.2)
     | inr e ↦ (suc n, (omega arith, omega arith), e)
   ]
@@ -95,8 +95,8 @@ module _ {S M N : Type 0} {sim : Simulation S M N} {Good : ℕ → S → Type 0}
   }
 
   -- and so does one station by itself
-  pub part_lawful : (s : ℕ) → IsLawful sim.time (part_step sim.to sim.handle s) (λ p. Good s p.state)
-  part_lawful s = record {
+  pub local_lawful : (s : ℕ) → IsLawful sim.time (local_step sim.to sim.handle s) (λ p. Good s p.state)
+  local_lawful s = record {
     keeps = λ p m g. law.keeps s p.state m g;
     later = λ p m g. all_from (λ x. sim.time m < sim.time x) (to_it sim.to s (sim.handle s p.state m).sends)
         (λ z i. all_in (λ x. sim.time m < sim.time x) (sim.handle s p.state m).sends z (law.later s p.state m g)
@@ -104,20 +104,20 @@ module _ {S M N : Type 0} {sim : Simulation S M N} {Good : ℕ → S → Type 0}
   }
 
   -- a world begins in order
-  pub begins_fine : (plans : List Planned) → Fine sim.order sim.time (AllGood Good) 0 (begin sim plans)
+  pub begins_fine : (plans : List Planned) → Fine sim.order sim.time (AllGood Good) 0 (first_world sim plans)
   begins_fine plans = record {
     good = law.opens;
-    sorted = sorted_insert_all law.order.order (openings sim sim.stations ++ set_messages sim 0 plans) [] tt;
-    from_t = all_from_zero sim.time (begin sim plans).pending;
+    sorted = sorted_insert_all law.order.order (first_messages sim sim.stations ++ set_messages sim 0 plans) [] tt;
+    from_t = all_from_zero sim.time (first_world sim plans).pending;
   }
 
   -- ---- run
 
   -- a run to a front is reached by turns before the front, and has none left
   pub run_reached : (plans : List Planned) (front : ℕ) →
-      Reach sim.order sim.time (world_step sim.to sim.handle) front (begin sim plans) (run sim plans front)
+      Reach sim.order sim.time (world_step sim.to sim.handle) front (first_world sim plans) (run sim plans front)
       × Fine sim.order sim.time (AllGood Good) front (run sim plans front)
-  run_reached plans front = run_reach law.order world_lawful front front (begin sim plans) (omega arith)
+  run_reached plans front = run_reach law.order world_lawful front front (first_world sim plans) (omega arith)
       (begins_fine plans)
 
   -- a fine world may begin at an earlier time
@@ -130,5 +130,5 @@ module _ {S M N : Type 0} {sim : Simulation S M N} {Good : ℕ → S → Type 0}
       Reach sim.order sim.time (world_step sim.to sim.handle) bound (run sim plans front) (run sim plans bound)
   run_goes_on plans front bound l =
       subst (Reach sim.order sim.time (world_step sim.to sim.handle) bound (run sim plans front))
-      (run_on law.order world_lawful front bound (begin sim plans) l (begins_fine plans))
+      (run_on law.order world_lawful front bound (first_world sim plans) l (begins_fine plans))
       (run_reach law.order world_lawful bound bound (run sim plans front) (omega arith) (run_fine plans front)).0

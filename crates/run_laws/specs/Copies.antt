@@ -15,7 +15,7 @@ use Rattle.run_laws.specs.Queue.{insert, In}
 use Rattle.run_laws.specs.Machine.{Config, Reach, IsSettled}
 use Rattle.run_laws.specs.Simulation.{Simulation, Outcome}
 use Rattle.run_laws.specs.World.{to_it}
-use Rattle.run_laws.specs.Window.{Part, to_others, earlier_than, part_step, local}
+use Rattle.run_laws.specs.Window.{LocalStation, to_others, earlier_than, local_step, local_run}
 use Rattle.run_laws.specs.Runs.{end_of, log_at, state_at, due_at}
 use Rattle.run_laws.specs.Handlers.{IsStation}
 use Rattle.run_laws.specs.Prefixes.{IsCount, IsGained}
@@ -37,12 +37,22 @@ module _ {M K : Type 0} (join : K → K → K) (cmp : M → M → Ordering) wher
   insert_marked_all [] k q = q
   insert_marked_all (x ∷ xs) k q = insert_marked_all xs k (insert_marked join cmp x k q)
 
+-- the marks are those of one clone
+abbrev pub AreOf : {K : Type 0} → (K → ℕ → Bool) → K → ℕ → Type 0
+AreOf has k c = (d : ℕ) → has k d ≡ (c == d)
+
 -- a copy of a station: the clones that it stands for, their state and log, and what is pending to them
 pub record Copy (S M N K : Type 0) : Type 0 where
   pub set : K
   pub state : S
   pub log : List (Entry M N)
   pub pending : List (M × K)
+
+-- the copy b is a but for what is pending: it stands for the same clones, with the same log and state
+pub record IsSameCopy {S M N K : Type 0} (a b : Copy S M N K) : Type 0 where
+  pub set : b.set ≡ a.set
+  pub log : b.log ≡ a.log
+  pub state : b.state ≡ a.state
 
 module _ {S M N K : Type 0} (has : K → ℕ → Bool) where
   -- the copy stands for clone c
@@ -54,6 +64,16 @@ module _ {S M N K : Type 0} (has : K → ℕ → Bool) where
   Disjoint [] = ⊤
   Disjoint (a ∷ as_copies) = AllByRecursion (λ b. (c : ℕ) → Carries a c → ¬ (Carries b c)) as_copies
       × Disjoint as_copies
+
+  -- the old copies, split: each new one has some clones of an old one, those of one old copy differ in their logs, and
+  -- no clone is in two
+  pub record IsSplit (old new : List (Copy S M N K)) : Type 0 where
+    pub inhabited : (b : Copy S M N K) → In b new → (c : ℕ) × Carries b c
+    pub from : (b : Copy S M N K) → In b new →
+        (a : Copy S M N K) × In a old × ((c : ℕ) → Carries b c → Carries a c)
+    pub parted : (a b1 b2 : Copy S M N K) (c d : ℕ) → In a old → In b1 new → In b2 new → Carries a c → Carries a d →
+        Carries b1 c → Carries b2 d → b1.log ≡ b2.log → b1 ≡ b2
+    pub disjoint : Disjoint new
 
 module _ {S M N K : Type 0} (sim : Simulation S M N) (join : K → K → K) (s : ℕ) where
   -- the copy has handled m for all its clones
@@ -80,6 +100,14 @@ module _ {S M N : Type 0} (sim : Simulation S M N) where
 abbrev pub origin_of : ℕ → ℕ → ℕ → ℕ
 origin_of old new c = if c == new then old else c
 
+module _ {S M N K : Type 0} (sim : Simulation S M N) (has : K → ℕ → Bool) where
+  -- the copies `done` have the clones that the copies `new` have, each set in one; no clone is in two, and their
+  -- messages are in order
+  pub record HaveClones (new done : List (Copy S M N K)) : Type 0 where
+    pub each : (a : Copy S M N K) → In a new → (b : Copy S M N K) × In b done × (b.set ≡ a.set)
+    pub disjoint : Disjoint has done
+    pub sorted : (a : Copy S M N K) → In a done → SortedMarked sim.order a.pending
+
 -- each clone c ends at `ends c`
 module _ {S M N K : Type 0} (sim : Simulation S M N) (has : K → ℕ → Bool) (ends : ℕ → ℕ) where
   -- clone c takes a message of the simulation
@@ -103,7 +131,7 @@ module _ {S M N K : Type 0} (sim : Simulation S M N) (has : K → ℕ → Bool) 
   messages_taken c xs = part takes c xs
 
   -- a copy, and what its station has laid aside, as clone c sees them
-  abbrev pub view : ℕ → Copy S M N K → List (M × K) → Config (Part S M N) M
+  abbrev pub view : ℕ → Copy S M N K → List (M × K) → Config (LocalStation S M N) M
   view c a sent = record {
     at = record { state = a.state; log = a.log; aside = messages_taken c sent };
     pending = messages_taken c a.pending;
@@ -118,14 +146,14 @@ module _ {S M N K : Type 0} (sim : Simulation S M N) (has : K → ℕ → Bool) 
 
   module _ (s bound : ℕ) where
     -- the turns of clone c, before the bound
-    abbrev pub Turns : ℕ → Config (Part S M N) M → Config (Part S M N) M → Type 0
-    Turns c = Reach sim.order sim.time (part_step sim.to (handle_until sim (ends c)) s) bound
+    abbrev pub Turns : ℕ → Config (LocalStation S M N) M → Config (LocalStation S M N) M → Type 0
+    Turns c = Reach sim.order sim.time (local_step sim.to (handle_until sim (ends c)) s) bound
 
     -- l is what a log of one of the clones of r is at the bound, cut to the limit
     pub record IsCutLog (r : Copy S M N K) (sent : List (M × K)) (l : List (Entry M N)) : Type 0 where
       pub clone : ℕ
       pub is_in : Carries has r clone
-      pub last : Config (Part S M N) M
+      pub last : Config (LocalStation S M N) M
       pub ran : Turns clone (view clone r sent) last
       pub settled : IsSettled sim.time bound last
       pub is : l ≡ take sim.limit last.at.log
@@ -145,7 +173,8 @@ module _ {S M N K : Type 0} (sim : Simulation S M N) (has : K → ℕ → Bool) 
 
     -- the log of clone c gets longer than the limit
     abbrev pub GoesOver : Copy S M N K → List (M × K) → ℕ → Type 0
-    GoesOver r sent c = (last : Config (Part S M N) M) → Turns c (view c r sent) last → IsSettled sim.time bound last →
+    GoesOver r sent c = (last : Config (LocalStation S M N) M) →
+        Turns c (view c r sent) last → IsSettled sim.time bound last →
         sim.limit < length last.at.log
 
     -- the results of r at the bound, as copies: with each, its clones have taken their turns; clones whose logs
@@ -169,14 +198,12 @@ module _ {S M N K : Type 0} (sim : Simulation S M N) (has : K → ℕ → Bool) 
       pub others : (c : ℕ) → has r.set c ≡ false → messages_taken c after ≡ messages_taken c before
 
     -- the window of clone c by itself, from the copy a
-    abbrev pub alone_from : Copy S M N K → ℕ → Config (Part S M N) M
-    alone_from a c = local sim s a.log a.state (messages_taken c a.pending) bound (ends c)
+    abbrev pub alone_from : Copy S M N K → ℕ → Config (LocalStation S M N) M
+    alone_from a c = local_run sim s a.log a.state (messages_taken c a.pending) bound (ends c)
 
     -- what a step of a station's copies gives: for each clone what its window by itself gives, before its end
     pub record IsStepped (old new : List (Copy S M N K)) (out : List (M × K)) : Type 0 where
-      pub inhabited : (b : Copy S M N K) → In b new → (c : ℕ) × Carries has b c
-      pub from : (b : Copy S M N K) → In b new →
-          (a : Copy S M N K) × In a old × ((c : ℕ) → Carries has b c → Carries has a c)
+      pub split : IsSplit has old new
       pub carried : (a : Copy S M N K) (c : ℕ) → In a old → Carries has a c →
           (b : Copy S M N K) × In b new × Carries has b c
       pub log : (a b : Copy S M N K) (c : ℕ) → In a old → In b new → Carries has a c → Carries has b c →
@@ -187,9 +214,6 @@ module _ {S M N K : Type 0} (sim : Simulation S M N) (has : K → ℕ → Bool) 
           messages_taken c b.pending ≡ earlier_than sim.time (ends c) (alone_from a c).pending
       pub sent : (a : Copy S M N K) (c : ℕ) → In a old → Carries has a c →
           messages_taken c out ≡ earlier_than sim.time (ends c) (alone_from a c).at.aside
-      pub parted : (a b1 b2 : Copy S M N K) (c d : ℕ) → In a old → In b1 new → In b2 new → Carries has a c →
-          Carries has a d → Carries has b1 c → Carries has b2 d → b1.log ≡ b2.log → b1 ≡ b2
-      pub disjoint : Disjoint has new
 
     -- those over the limit are the clones of the copies whose windows by themselves give logs that are too long
     pub record AreOver (old : List (Copy S M N K)) (over : K) : Type 0 where
@@ -200,9 +224,7 @@ module _ {S M N K : Type 0} (sim : Simulation S M N) (has : K → ℕ → Bool) 
 
     -- the copies stepped so far
     pub record SoFar (old new : List (Copy S M N K)) (out : List (M × K)) (over0 over : K) : Type 0 where
-      pub inhabited : (b : Copy S M N K) → In b new → (c : ℕ) × Carries has b c
-      pub from : (b : Copy S M N K) → In b new →
-          (a : Copy S M N K) × In a old × ((c : ℕ) → Carries has b c → Carries has a c)
+      pub split : IsSplit has old new
       pub carried : (a : Copy S M N K) (c : ℕ) → In a old → Carries has a c →
           ((b : Copy S M N K) × In b new × Carries has b c) ⊎ (has over c ≡ true)
       pub ran : (a b : Copy S M N K) (c : ℕ) → In a old → In b new → Carries has a c → Carries has b c →
@@ -210,16 +232,11 @@ module _ {S M N K : Type 0} (sim : Simulation S M N) (has : K → ℕ → Bool) 
       pub short : (b : Copy S M N K) → In b new → length b.log ≤ sim.limit
       pub too_long : (c : ℕ) → has over c ≡ true →
           (has over0 c ≡ true) ⊎ ((a : Copy S M N K) × In a old × Carries has a c × GoesOver a [] c)
-      pub parted : (a b1 b2 : Copy S M N K) (c d : ℕ) → In a old → In b1 new → In b2 new → Carries has a c →
-          Carries has a d → Carries has b1 c → Carries has b2 d → b1.log ≡ b2.log → b1 ≡ b2
-      pub disjoint : Disjoint has new
       pub idle : (c : ℕ) → ((a : Copy S M N K) → In a old → Carries has a c → ⊥) → messages_taken c out ≡ []
 
   -- the copy b is a, where m is pending besides for the clones that take it
   pub record IsGiven (m : M) (k : K) (a b : Copy S M N K) : Type 0 where
-    pub set : b.set ≡ a.set
-    pub log : b.log ≡ a.log
-    pub state : b.state ≡ a.state
+    pub same : IsSameCopy a b
     pub parts : (c : ℕ) → Carries has a c →
         messages_taken c b.pending
         ≡ (if takes m k c then insert sim.order m (messages_taken c a.pending) else messages_taken c a.pending)
@@ -228,14 +245,12 @@ module _ {S M N K : Type 0} (sim : Simulation S M N) (has : K → ℕ → Bool) 
   -- what the messages msgs make of the copies
   pub record SoFarGiven (msgs : List (M × K)) (new done : List (Copy S M N K)) : Type 0 where
     pub from : (b : Copy S M N K) → In b done →
-        (a : Copy S M N K) × In a new × (b.set ≡ a.set) × (b.log ≡ a.log) × (b.state ≡ a.state)
+        (a : Copy S M N K) × In a new × IsSameCopy a b
         × ((c : ℕ) (z : M) → Carries has a c → In z (messages_taken c b.pending)
         → In z (messages_taken c a.pending) ⊎ In z (messages_taken c msgs))
         × ((c : ℕ) (z : M) → Carries has a c → In z (messages_taken c a.pending) ⊎ In z (messages_taken c msgs)
         → In z (messages_taken c b.pending))
-    pub each : (a : Copy S M N K) → In a new → (b : Copy S M N K) × In b done × (b.set ≡ a.set)
-    pub disjoint : Disjoint has done
-    pub sorted : (a : Copy S M N K) → In a done → SortedMarked sim.order a.pending
+    pub clones : HaveClones sim has new done
 
   -- the copy b is a with the clone `new` beside the clone `old`: what holds of b for new held of a for old, and all
   -- else is as it was
@@ -246,19 +261,20 @@ module _ {S M N K : Type 0} (sim : Simulation S M N) (has : K → ℕ → Bool) 
     pub parts : (c : ℕ) → part (takes_as old new) c b.pending ≡ messages_taken (origin_of old new c) a.pending
     pub sorted : SortedMarked sim.order b.pending
 
-module _ {S M N K : Type 0} (sim : Simulation S M N) (only : K) where
+module _ {M K : Type 0} (only : K) where
   -- what a station opens with, for a set of clones
   abbrev pub first_pending : Option M → List (M × K)
   first_pending None = []
   first_pending (Some m) = (m, only) ∷ []
 
+module _ {S M N K : Type 0} (sim : Simulation S M N) (only : K) where
   -- the copy of a station before anything was handled
   abbrev pub first_copy : ℕ → Copy S M N K
   first_copy s = record {
     set = only;
     state = (sim.setup s).state;
     log = [];
-    pending = first_pending (sim.setup s).first;
+    pending = first_pending only (sim.setup s).first;
   }
 
 module _ {S M N : Type 0} (sim : Simulation S M N) where
@@ -291,9 +307,7 @@ module _ {S M N K : Type 0} (sim : Simulation S M N) (has : K → ℕ → Bool) 
 
   -- the copy b is a, and has what was sent to station s besides: each clone its own
   pub record HasReceived (s : ℕ) (sent : ℕ → List (M × K)) (a b : Copy S M N K) : Type 0 where
-    pub set : b.set ≡ a.set
-    pub log : b.log ≡ a.log
-    pub state : b.state ≡ a.state
+    pub same : IsSameCopy a b
     pub from : (c : ℕ) (z : M) → Carries has a c → In z (messages_taken sim has (ends_of sim cs) c b.pending) →
         In z (messages_taken sim has (ends_of sim cs) c a.pending)
         ⊎ ((r : ℕ) × In z (messages_taken sim has (ends_of sim cs) c (sent r)) × (sim.to z ≡ s))
@@ -306,7 +320,5 @@ module _ {S M N K : Type 0} (sim : Simulation S M N) (has : K → ℕ → Bool) 
   -- what the stations sent to station s has reached its copies
   pub record IsDelivered (s : ℕ) (sent : ℕ → List (M × K)) (new done : List (Copy S M N K)) : Type 0 where
     pub from : (b : Copy S M N K) → In b done → (a : Copy S M N K) × In a new × HasReceived s sent a b
-    pub each : (a : Copy S M N K) → In a new → (b : Copy S M N K) × In b done × (b.set ≡ a.set)
     pub one : (a b : Copy S M N K) → In a done → In b done → (c : ℕ) → Carries has a c → Carries has b c → a ≡ b
-    pub disjoint : Disjoint has done
-    pub sorted : (a : Copy S M N K) → In a done → SortedMarked sim.order a.pending
+    pub clones : HaveClones sim has new done

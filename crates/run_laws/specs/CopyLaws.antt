@@ -1,21 +1,20 @@
 -- What is proved of copies, in words that contracts cite: through all that happens to them, the copies of each
 -- station stand for the clones.
-use Rattle.std.specs.Prelude.{◌≡◌, ◌↔◌, ℕ, ◌<◌, ◌≤◌, List, [], ◌∷◌, Bool, true, false, None, length}
+use Rattle.std.specs.Prelude.{◌≡◌, ℕ, ◌<◌, List, [], ◌∷◌, Bool, length}
 use Rattle.std.specs.List.{AllZip}
 use Rattle.sim_base.specs.Clones.{Clone, base, clone_at, clones_with_plan, clones_with_end, clones_with_fork}
 use Rattle.sim_base.specs.declared.decision.Planned.{Planned}
 use Rattle.run_laws.specs.Simulation.{Simulation}
-use Rattle.run_laws.specs.Runs.{end_of}
+use Rattle.run_laws.specs.Runs.{IsTimelyPlan, IsTimelyEnd, MayFork}
 use Rattle.run_laws.specs.Fronts.{IsWindow}
 use Rattle.run_laws.specs.Handlers.{IsStation, AllAreForStations}
-use Rattle.run_laws.specs.Copies.{Copy, IsGiven, IsForked, first_copy, ends_of, Stands, AllStepped, IsDelivered}
+use Rattle.run_laws.specs.Copies.{Copy, AreOf, IsGiven, IsForked, first_copy, ends_of, Stands, AllStepped, IsDelivered}
 
 -- K are sets of clones
 module _ {S M N : Type 0} (K : Type 0) (sim : Simulation S M N) where
   -- before anything was handled, one copy of a station stands for the first clone
   abbrev pub StandsAtStart : Type 0
-  StandsAtStart = (has : K → ℕ → Bool) (only : K) (s : ℕ) → ((c : ℕ) → (has only c ≡ true) ↔ (c ≡ 0))
-      → IsStation sim s →
+  StandsAtStart = (has : K → ℕ → Bool) (only : K) (s : ℕ) → AreOf has only 0 → IsStation sim s →
       Stands sim has (base ∷ []) 0 s (first_copy sim only s ∷ [])
 
   -- where the copies of all stations stand for the clones at a front, each station was stepped to a bound that is
@@ -31,8 +30,8 @@ module _ {S M N : Type 0} (K : Type 0) (sim : Simulation S M N) where
   abbrev pub StandsAfterDecision : Type 0
   StandsAfterDecision = (has : K → ℕ → Bool) (cs : List Clone) (front s who : ℕ) (p : Planned) (m : M) (k : K)
       (olds done : List (Copy S M N K)) →
-      who < length cs → m ≡ sim.set_message (length (clone_at cs who).plans) p → front ≤ sim.time m → sim.to m ≡ s →
-      has k who ≡ true → ((c : ℕ) → ¬ (c ≡ who) → has k c ≡ false) →
+      IsTimelyPlan sim cs front who p m → sim.to m ≡ s →
+      AreOf has k who →
       AllZip (IsGiven sim has (ends_of sim cs) m k) olds done →
       Stands sim has cs front s olds → Stands sim has (clones_with_plan cs who p) front s done
 
@@ -40,19 +39,19 @@ module _ {S M N : Type 0} (K : Type 0) (sim : Simulation S M N) where
   abbrev pub StandsAfterOtherDecision : Type 0
   StandsAfterOtherDecision = (has : K → ℕ → Bool) (cs : List Clone) (front s who : ℕ) (p : Planned) (m : M)
       (olds : List (Copy S M N K)) →
-      who < length cs → m ≡ sim.set_message (length (clone_at cs who).plans) p → front ≤ sim.time m → ¬ (sim.to m ≡ s) →
+      IsTimelyPlan sim cs front who p m → ¬ (sim.to m ≡ s) →
       Stands sim has cs front s olds → Stands sim has (clones_with_plan cs who p) front s olds
 
   -- an end at or after the front, not past the end that the clone had, leaves the copies as they are
   abbrev pub StandsAfterEnd : Type 0
   StandsAfterEnd = (has : K → ℕ → Bool) (cs : List Clone) (front s who at : ℕ) (olds : List (Copy S M N K)) →
-      who < length cs → front ≤ at → at ≤ end_of sim (clone_at cs who) →
+      who < length cs → IsTimelyEnd sim (clone_at cs who) front at →
       Stands sim has cs front s olds → Stands sim has (clones_with_end cs who at) front s olds
 
   -- a fork puts the new clone beside its old one, where that has no end
   abbrev pub StandsAfterFork : Type 0
   StandsAfterFork = (has : K → ℕ → Bool) (cs : List Clone) (front s old : ℕ) (name : List ℕ)
       (olds done : List (Copy S M N K)) →
-      old < length cs → (clone_at cs old).end ≡ None →
+      MayFork cs old →
       AllZip (IsForked sim has (ends_of sim cs) old (length cs)) olds done →
       Stands sim has cs front s olds → Stands sim has (clones_with_fork cs name old) front s done

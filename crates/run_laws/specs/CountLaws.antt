@@ -1,5 +1,5 @@
 -- What is proved of the counts of a report, in words that contracts cite: what clones handle once, and each by itself.
-use Rattle.std.specs.Prelude.{◌≡◌, ◌↔◌, ℕ, ◌+◌, ◌*◌, ◌<◌, ◌≤◌, List, [], ◌∷◌, Bool, true, None, length, sum_by}
+use Rattle.std.specs.Prelude.{◌≡◌, ◌↔◌, ℕ, ◌+◌, ◌*◌, ◌<◌, ◌≤◌, List, [], ◌∷◌, Bool, true, length, sum_by}
 use Rattle.std.specs.Bool.{Decides}
 use Rattle.sim_base.specs.Clones.{Clone, clone_at, clones_with_plan, clones_with_end, clones_with_fork}
 use Rattle.sim_base.specs.Marked.{JoinsMarks, SortedMarked}
@@ -7,7 +7,7 @@ use Rattle.sim_base.specs.declared.decision.Planned.{Planned}
 use Rattle.sim_base.specs.declared.entry.Entry.{Entry}
 use Rattle.run_laws.specs.Queue.{In}
 use Rattle.run_laws.specs.Simulation.{Simulation}
-use Rattle.run_laws.specs.Runs.{end_of, log_at}
+use Rattle.run_laws.specs.Runs.{IsTimelyPlan, IsTimelyEnd, MayFork, log_at}
 use Rattle.run_laws.specs.Fronts.{IsWindow, AreFronts}
 use Rattle.run_laws.specs.Sharing.{copies, handled_once, handled_to_limit, handled_alone, IsBeyond}
 use Rattle.run_laws.specs.Prefixes.{IsCount, IsGained}
@@ -33,8 +33,8 @@ module _ {S M N K : Type 0} (has : K → ℕ → Bool) (size : K → ℕ) where
 
 module _ {S M N : Type 0} (sim : Simulation S M N) where
   -- no clone's log at a station is beyond the limit
-  abbrev pub NoneIsBeyond : List Clone → ℕ → ℕ → Type 0
-  NoneIsBeyond cs s front = (c : ℕ) → c < length cs → length (log_at sim (clone_at cs c) s front) ≤ sim.limit
+  abbrev pub AreWithinLimitAt : List Clone → ℕ → ℕ → Type 0
+  AreWithinLimitAt cs s front = (c : ℕ) → c < length cs → length (log_at sim (clone_at cs c) s front) ≤ sim.limit
 
   -- a report counts no more copies than clones, and no more messages than the limit allows for each clone
   pub record AreFew (same : Entry M N → Entry M N → Bool) (cs : List Clone) (s front : ℕ) : Type 0 where
@@ -44,7 +44,7 @@ module _ {S M N : Type 0} (sim : Simulation S M N) where
 
   -- where no log is beyond the limit
   abbrev pub CountsAreFew : Type 0
-  CountsAreFew = (same : Entry M N → Entry M N → Bool) (cs : List Clone) (s front : ℕ) → NoneIsBeyond cs s front →
+  CountsAreFew = (same : Entry M N → Entry M N → Bool) (cs : List Clone) (s front : ℕ) → AreWithinLimitAt cs s front →
       AreFew same cs s front
 
   -- at the start nothing was handled
@@ -54,21 +54,21 @@ module _ {S M N : Type 0} (sim : Simulation S M N) where
 
   -- a decision at the front or later leaves what was handled
   abbrev pub HandledStaysAtDecision : Type 0
-  HandledStaysAtDecision = (same : Entry M N → Entry M N → Bool) (cs : List Clone) (front s who : ℕ) (p : Planned) →
-      who < length cs → front ≤ sim.time (sim.set_message (length (clone_at cs who).plans) p) →
+  HandledStaysAtDecision = (same : Entry M N → Entry M N → Bool) (cs : List Clone) (front s who : ℕ) (p : Planned)
+      (m : M) →
+      IsTimelyPlan sim cs front who p m →
       handled_once sim same (clones_with_plan cs who p) s front ≡ handled_once sim same cs s front
 
   -- and so does an end at the front or later
   abbrev pub HandledStaysAtEnd : Type 0
   HandledStaysAtEnd = (same : Entry M N → Entry M N → Bool) (cs : List Clone) (front s who at : ℕ) →
-      who < length cs → front ≤ at → at ≤ end_of sim (clone_at cs who) →
+      who < length cs → IsTimelyEnd sim (clone_at cs who) front at →
       handled_once sim same (clones_with_end cs who at) s front ≡ handled_once sim same cs s front
 
   -- and a fork
   abbrev pub HandledStaysAtFork : Type 0
   HandledStaysAtFork = (same : Entry M N → Entry M N → Bool) (cs : List Clone) (front s old : ℕ) (name : List ℕ) →
-      TellsEntries same →
-      old < length cs → (clone_at cs old).end ≡ None →
+      TellsEntries same → MayFork cs old →
       handled_once sim same (clones_with_fork cs name old) s front ≡ handled_once sim same cs s front
 
 -- K are sets of clones
@@ -88,19 +88,19 @@ module _ {S M N : Type 0} (K : Type 0) (sim : Simulation S M N) where
   -- where no log gets too long in a window, handled once at its bound is handled once at the front and what is gained
   abbrev pub HandledGrows : Type 0
   HandledGrows = (w : Counting M N K) (cs : List Clone) (front bound s total : ℕ) (old : List (Copy S M N K)) →
-      GainInWindow w.has cs front bound s total old → NoneIsBeyond sim cs s bound →
+      GainInWindow w.has cs front bound s total old → AreWithinLimitAt sim cs s bound →
       handled_once sim w.same cs s bound ≡ handled_once sim w.same cs s front + total
 
   -- where logs may get too long, the same, of each log at the bound no more than the limit
   abbrev pub HandledGrowsToLimit : Type 0
   HandledGrowsToLimit = (w : Counting M N K) (cs : List Clone) (front bound s total : ℕ) (old : List (Copy S M N K)) →
-      GainInWindow w.has cs front bound s total old → NoneIsBeyond sim cs s front →
+      GainInWindow w.has cs front bound s total old → AreWithinLimitAt sim cs s front →
       handled_to_limit sim w.same cs s bound ≡ handled_once sim w.same cs s front + total
 
   -- and that is at most as many as the limit allows for each clone
   abbrev pub HandledIsFew : Type 0
   HandledIsFew = (w : Counting M N K) (cs : List Clone) (front bound s total : ℕ) (old : List (Copy S M N K)) →
-      GainInWindow w.has cs front bound s total old → NoneIsBeyond sim cs s front →
+      GainInWindow w.has cs front bound s total old → AreWithinLimitAt sim cs s front →
       handled_once sim w.same cs s front + total ≤ length cs * sim.limit
 
   -- those that a step puts over the limit are the clones whose logs at the bound are beyond it
@@ -137,14 +137,14 @@ module _ {S M N : Type 0} (K : Type 0) (sim : Simulation S M N) where
   -- where no log gets too long, all windows from a front to the horizon gain what is handled once besides
   abbrev pub WindowsAddUp : Type 0
   WindowsAddUp = (w : Counting M N K) (cs : List Clone) (s front n : ℕ) (fs : List ℕ) →
-      0 < sim.lookahead → AreFronts sim cs front fs → NoneIsBeyond sim cs s sim.horizon →
+      0 < sim.lookahead → AreFronts sim cs front fs → AreWithinLimitAt sim cs s sim.horizon →
       WindowsGain w.has cs s front fs n
       → handled_once sim w.same cs s sim.horizon ≡ handled_once sim w.same cs s front + n
 
   -- so the windows of a run gain what its report says
   abbrev pub RunAddsUp : Type 0
   RunAddsUp = (w : Counting M N K) (cs : List Clone) (s n : ℕ) (fs : List ℕ) →
-      0 < sim.lookahead → AreFronts sim cs 0 fs → NoneIsBeyond sim cs s sim.horizon →
+      0 < sim.lookahead → AreFronts sim cs 0 fs → AreWithinLimitAt sim cs s sim.horizon →
       WindowsGain w.has cs s 0 fs n → handled_once sim w.same cs s sim.horizon ≡ n
 
   -- copies of a station that stand for the clones at a front, and how many clones each has

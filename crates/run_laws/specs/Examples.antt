@@ -9,7 +9,7 @@ use Rattle.sim_base.specs.declared.message.Param.TheVariants.{Room}
 use Rattle.sim_base.specs.declared.entry.Entry.{Entry}
 use Rattle.run_laws.specs.Machine.{Config}
 use Rattle.run_laws.specs.Simulation.{Simulation}
-use Rattle.run_laws.specs.Window.{Part}
+use Rattle.run_laws.specs.Window.{LocalStation}
 use Rattle.run_laws.specs.Merges.{merge_of_logs}
 use Rattle.run_laws.specs.Laws.{window}
 
@@ -109,5 +109,5 @@ same_catch e f = ((e.msg.time == f.msg.time && e.msg.number == f.msg.number) && 
     f.line
 
 -- one station's window by itself, from what it is in a clone at a front
-abbrev pub window_of : Clone → ℕ → ℕ → ℕ → Config (Part ℕ Ball ℕ) Ball
+abbrev pub window_of : Clone → ℕ → ℕ → ℕ → Config (LocalStation ℕ Ball ℕ) Ball
 window_of c s front bound = window game c s front bound

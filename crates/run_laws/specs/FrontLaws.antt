@@ -1,14 +1,14 @@
 -- What is proved of due times and of fronts, in words that contracts cite.
 use Rattle.std.specs.Prelude.{◌≡◌, ℕ, zero, suc, ◌+◌, ◌<◌, ◌≤◌, List, ◌∷◌}
-use Rattle.std.specs.Prelude.{Bool, Option, Some, None, if◌then◌else◌, length, min, nat_lt}
+use Rattle.std.specs.Prelude.{Bool, Option, Some, None, if◌then◌else◌, length, nat_lt}
 use Rattle.std.specs.List.{AllByRecursion}
 use Rattle.std.specs.Ordering.{nat_cmp}
-use Rattle.sim_base.specs.Clones.{Clone, clone_at, clones_with_fork, fork_of, with_plan, with_end}
+use Rattle.sim_base.specs.Clones.{Clone, clones_with_fork, fork_of, with_plan, with_end}
 use Rattle.sim_base.specs.declared.decision.Planned.{Planned}
 use Rattle.run_laws.specs.Queue.{In, Sorted}
 use Rattle.run_laws.specs.Simulation.{Simulation}
-use Rattle.run_laws.specs.Runs.{end_of, due_at}
-use Rattle.run_laws.specs.Fronts.{earlier, least_time, least_of, least, next_front, AreFronts}
+use Rattle.run_laws.specs.Runs.{end_of, IsTimelyEnd, MayFork, due_at}
+use Rattle.run_laws.specs.Fronts.{earlier, least_time, least_of, least, next_front, window_end, AreFronts}
 use Rattle.run_laws.specs.Handlers.{IsStation, AreForStations, AllAreForStations}
 use Rattle.run_laws.specs.Copies.{Copy, Carries, messages_taken, ends_of, Stands}
 
@@ -32,7 +32,7 @@ module _ {S M N : Type 0} (sim : Simulation S M N) where
 
   -- each window may go on by the lookahead, up to the horizon
   abbrev pub FrontIsFar : Type 0
-  FrontIsFar = (cs : List Clone) (front : ℕ) → min sim.horizon (front + sim.lookahead) ≤ next_front sim cs front
+  FrontIsFar = (cs : List Clone) (front : ℕ) → window_end sim (Some front) ≤ next_front sim cs front
 
   -- so below the horizon the next front is later
   abbrev pub FrontRises : Type 0
@@ -73,7 +73,7 @@ module _ {S M N : Type 0} (sim : Simulation S M N) where
 
   -- with an end at the front or later the least time stays, where it comes before the end
   abbrev pub LeastAtEnd : Type 0
-  LeastAtEnd = (c : Clone) (at front : ℕ) → front ≤ at → at ≤ end_of sim c →
+  LeastAtEnd = (c : Clone) (at front : ℕ) → IsTimelyEnd sim c front at →
       least_of sim (with_end c at) front ≡ time_before at (least_of sim c front)
 
   -- a fork of a clone without end has the least time of that clone
@@ -83,8 +83,7 @@ module _ {S M N : Type 0} (sim : Simulation S M N) where
 
   -- so the next front is as it was
   abbrev pub FrontStaysAtFork : Type 0
-  FrontStaysAtFork = (cs : List Clone) (old front : ℕ) (name : List ℕ) → old < length cs
-      → (clone_at cs old).end ≡ None →
+  FrontStaysAtFork = (cs : List Clone) (old front : ℕ) (name : List ℕ) → MayFork cs old →
       next_front sim (clones_with_fork cs name old) front ≡ next_front sim cs front
 
 module _ {S M N : Type 0} (K : Type 0) (sim : Simulation S M N) where

@@ -10,8 +10,8 @@ use Rattle.run_laws.specs.Queue.{insert, In, Sorted}
 use Rattle.run_laws.specs.Machine.{Config, run_to, Reach, IsSettled}
 use Rattle.run_laws.specs.Simulation.{Simulation}
 use Rattle.run_laws.specs.World.{World, replay}
-use Rattle.run_laws.specs.Window.{Part, local, earlier_than}
-use Rattle.run_laws.specs.Runs.{end_of, run_of, log_at, state_at, all_due, due_at}
+use Rattle.run_laws.specs.Window.{LocalStation, local_run, earlier_than}
+use Rattle.run_laws.specs.Runs.{end_of, IsTimelyEnd, run_of, log_at, state_at, all_due, due_at}
 use Rattle.run_laws.specs.Fronts.{IsWindow}
 use Rattle.run_laws.specs.Handlers.{key_order, IsStation, AreForStations}
 
@@ -52,8 +52,8 @@ IsMessageOf w m = In m (map (λ e. e.msg) w.at.trace) ⊎ In m w.pending
 
 module _ {S M N : Type 0} (sim : Simulation S M N) where
   -- the entries before a front
-  abbrev pub before : ℕ → List (Entry M N) → List (Entry M N)
-  before front es = filter (λ e. nat_lt (sim.time e.msg) front) es
+  abbrev pub entries_before : ℕ → List (Entry M N) → List (Entry M N)
+  entries_before front es = filter (λ e. nat_lt (sim.time e.msg) front) es
 
   -- the trace of a clone rises strictly by time, then sender, then number
   abbrev pub TraceRises : (M → ℕ) → (M → ℕ) → Type 0
@@ -88,7 +88,7 @@ module _ {S M N : Type 0} (sim : Simulation S M N) where
   -- the log of a station at a front is that part of any later log which comes before the front
   abbrev pub LogAtFront : Type 0
   LogAtFront = (c : Clone) (s front bound : ℕ) → front ≤ bound →
-      before front (log_at sim c s bound) ≡ log_at sim c s front
+      entries_before front (log_at sim c s bound) ≡ log_at sim c s front
 
   -- what a new decision, as the message m, changes at a front: m is due, where it comes before the clone's end
   pub record AddsDue (c : Clone) (p : Planned) (m : M) (front : ℕ) : Type 0 where
@@ -114,11 +114,11 @@ module _ {S M N : Type 0} (sim : Simulation S M N) where
   -- an end at or after a front, and not past the end that the clone had, drops the due messages from it on,
   -- and changes nothing else
   abbrev pub EndDropsDue : Type 0
-  EndDropsDue = (c : Clone) (at front : ℕ) → front ≤ at → at ≤ end_of sim c → DropsDue c at front
+  EndDropsDue = (c : Clone) (at front : ℕ) → IsTimelyEnd sim c front at → DropsDue c at front
 
   -- station s of a clone by itself, from a front to a bound
-  abbrev pub window : Clone → ℕ → ℕ → ℕ → Config (Part S M N) M
-  window c s front bound = local sim s (log_at sim c s front) (state_at sim c s front)
+  abbrev pub window : Clone → ℕ → ℕ → ℕ → Config (LocalStation S M N) M
+  window c s front bound = local_run sim s (log_at sim c s front) (state_at sim c s front)
       (due_at sim c s front) bound (end_of sim c)
 
   -- the stations of a clone, each by itself from a front to a bound, come to what the clone's run comes to;

@@ -19,13 +19,13 @@ module _ {M : Type 0} (time : M → ℕ) where
 
 module _ {X M : Type 0} (cmp : M → M → Ordering) (handle : X → M → X × List M) where
   -- m was handled, and what it sent joins q
-  abbrev pub after : X → M → List M → Config X M
-  after x m q = let h = handle x m in record { at = h.0; pending = insert_all cmp h.1 q }
+  abbrev pub config_after : X → M → List M → Config X M
+  config_after x m q = let h = handle x m in record { at = h.0; pending = insert_all cmp h.1 q }
 
   -- the turn of a machine with these messages: the first is handled, and where there is none all stays
   abbrev pub turn_on : X → List M → Config X M
   turn_on x [] = record { at = x; pending = [] }
-  turn_on x (m ∷ q) = after x m q
+  turn_on x (m ∷ q) = config_after x m q
 
   -- one turn: the least pending message is handled
   abbrev pub turn : Config X M → Config X M
@@ -50,7 +50,7 @@ module _ {X M : Type 0} (cmp : M → M → Ordering) (time : M → ℕ) (handle 
     pub q : List M
     pub pending : d.pending ≡ m ∷ q
     pub early : time m < bound
-    pub is : e ≡ after cmp handle d.at m q
+    pub is : e ≡ config_after cmp handle d.at m q
 
   -- some turns, each of a message before the bound, lead from c to this machine
   pub data Reach (c : Config X M) : Config X M → Type 0 where

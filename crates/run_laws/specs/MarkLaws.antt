@@ -1,14 +1,10 @@
 -- What is proved of marks, in words that contracts cite: the halves of a split, and a fork, take what was taken.
-use Rattle.std.specs.Prelude.{◌≡◌, ◌==◌, ℕ, List, Bool, true, false, Option, Some}
+use Rattle.std.specs.Prelude.{◌≡◌, ℕ, List, Bool, true, false, Option, Some}
 use Rattle.std.specs.List.{AllByRecursion}
 use Rattle.sim_base.specs.Pending.{cut_by, spread_marks}
 use Rattle.sim_base.specs.Marked.{JoinsMarks, MeetsMarks}
 use Rattle.run_laws.specs.Simulation.{Simulation}
-use Rattle.run_laws.specs.Copies.{part, messages_taken, takes_as, origin_of}
-
--- the marks are those of one clone
-abbrev pub AreOf : {K : Type 0} → (K → ℕ → Bool) → K → ℕ → Type 0
-AreOf has k c = (d : ℕ) → has k d ≡ (c == d)
+use Rattle.run_laws.specs.Copies.{AreOf, part, messages_taken, takes_as, origin_of}
 
 module _ {S M N : Type 0} (K : Type 0) (sim : Simulation S M N) where
   -- a clone of a half takes of the messages that were cut to it what it took of the whole

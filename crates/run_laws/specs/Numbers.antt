@@ -5,7 +5,7 @@ use Rattle.sim_base.specs.declared.entry.Entry.{Entry}
 use Rattle.run_laws.specs.Queue.{In}
 use Rattle.run_laws.specs.Simulation.{Simulation}
 use Rattle.run_laws.specs.Runs.{run_of, log_at}
-use Rattle.run_laws.specs.Sharing.{IsBeyond}
+use Rattle.run_laws.specs.Sharing.{IsWithinLimit}
 use Rattle.run_laws.specs.Handlers.{IsStation, AreForStations}
 use Rattle.run_laws.specs.Laws.{IsMessageOf}
 
@@ -33,5 +33,5 @@ module _ {S M N : Type 0} (sim : Simulation S M N) where
     -- so where no station's log is beyond the limit, and the list is short, all numbers are below a bound
     abbrev pub NumbersFit : ℕ → Type 0
     NumbersFit most = (c : Clone) (front bound : ℕ) (m : M) → AreForStations sim c.plans →
-        ((s : ℕ) → IsStation sim s → ¬ (IsBeyond sim s front c)) →
-        length c.plans ≤ bound → most * (sim.limit + 1) ≤ bound → IsMessageOf (run_of sim c front) m → number m < bound
+        IsWithinLimit sim front c → length c.plans ≤ bound → most * (sim.limit + 1) ≤ bound →
+        IsMessageOf (run_of sim c front) m → number m < bound

@@ -1,12 +1,17 @@
 -- The run of a clone, and its parts: trace, logs, states, and the messages that are due.
-use Rattle.std.specs.Prelude.{ℕ, List, min, unwrap_or, nat_lt}
+use Rattle.std.specs.Prelude.{ℕ, ◌≡◌, ◌<◌, ◌≤◌, List, None, length, min, unwrap_or, nat_lt}
 use Rattle.std.specs.List.{filter}
-use Rattle.sim_base.specs.Clones.{Clone}
+use Rattle.sim_base.specs.Clones.{Clone, clone_at}
 use Rattle.sim_base.specs.declared.decision.Planned.{Planned}
 use Rattle.sim_base.specs.declared.entry.Entry.{Entry}
 use Rattle.run_laws.specs.Machine.{Config, run_to}
 use Rattle.run_laws.specs.Simulation.{Simulation}
-use Rattle.run_laws.specs.World.{World, begin, world_step, to_it, log_of}
+use Rattle.run_laws.specs.World.{World, first_world, world_step, to_it, log_of}
+
+-- a clone may be forked: it is there, and has no end
+pub record MayFork (cs : List Clone) (old : ℕ) : Type 0 where
+  pub there : old < length cs
+  pub going : (clone_at cs old).end ≡ None
 
 module _ {S M N : Type 0} (sim : Simulation S M N) where
   -- the run of a world, from what it is now, to a front: every message below the front is handled
@@ -15,11 +20,22 @@ module _ {S M N : Type 0} (sim : Simulation S M N) where
 
   -- the run of a decision list to a front
   abbrev pub run : List Planned → ℕ → Config (World S M N) M
-  run plans front = run_from (begin sim plans) front
+  run plans front = run_from (first_world sim plans) front
 
   -- a clone's end, which is the horizon where it has none
   abbrev pub end_of : Clone → ℕ
   end_of c = unwrap_or c.end sim.horizon
+
+  -- m is the message of a decision of clone who, which is there, and comes at a front or later
+  pub record IsTimelyPlan (cs : List Clone) (front who : ℕ) (p : Planned) (m : M) : Type 0 where
+    pub there : who < length cs
+    pub is : m ≡ sim.set_message (length (clone_at cs who).plans) p
+    pub late : front ≤ sim.time m
+
+  -- a clone may end so: at a front or later, and not past the end that it has
+  pub record IsTimelyEnd (c : Clone) (front at : ℕ) : Type 0 where
+    pub late : front ≤ at
+    pub within : at ≤ end_of c
 
   -- a clone's run to a front: its end, where that comes first, is as far as it goes
   abbrev pub run_of : Clone → ℕ → Config (World S M N) M

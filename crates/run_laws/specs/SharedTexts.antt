@@ -10,18 +10,18 @@ use Rattle.run_laws.specs.Simulation.{Simulation}
 use Rattle.run_laws.specs.World.{set_messages}
 use Rattle.run_laws.specs.Window.{earlier_than}
 use Rattle.run_laws.specs.Runs.{end_of, trace_of, log_at}
-use Rattle.run_laws.specs.Laws.{before}
+use Rattle.run_laws.specs.Laws.{entries_before}
 use Rattle.run_laws.specs.Handlers.{AreForStations}
 use Rattle.run_laws.specs.Merges.{entry_order}
 use Rattle.run_laws.specs.TraceLaws.{InLists}
 
 -- the least time, from `most` down, of a decision that one of two lists has at a place and the other has not
-abbrev pub parting : (Planned → Planned → Bool) → ℕ → List Planned → List Planned → ℕ
-parting same most [] [] = most
-parting same most (p ∷ ps) [] = min p.at (parting same most ps [])
-parting same most [] (q ∷ qs) = min q.at (parting same most [] qs)
-parting same most (p ∷ ps) (q ∷ qs) =
-    if same p q then parting same most ps qs else min (min p.at q.at) (parting same most ps qs)
+abbrev pub parting_time : (Planned → Planned → Bool) → ℕ → List Planned → List Planned → ℕ
+parting_time same most [] [] = most
+parting_time same most (p ∷ ps) [] = min p.at (parting_time same most ps [])
+parting_time same most [] (q ∷ qs) = min q.at (parting_time same most [] qs)
+parting_time same most (p ∷ ps) (q ∷ qs) =
+    if same p q then parting_time same most ps qs else min (min p.at q.at) (parting_time same most ps qs)
 
 -- the sum of a number for each station from 1 to n
 abbrev pub station_sum : (ℕ → ℕ) → ℕ → ℕ
@@ -30,16 +30,16 @@ station_sum f (suc n) = station_sum f n + f (suc n)
 
 module _ {S M N : Type 0} (sim : Simulation S M N) where
   -- the entries at a time or after it
-  abbrev pub from_on : ℕ → List (Entry M N) → List (Entry M N)
-  from_on t es = filter (λ e. not (nat_lt (sim.time e.msg) t)) es
+  abbrev pub entries_from : ℕ → List (Entry M N) → List (Entry M N)
+  entries_from t es = filter (λ e. not (nat_lt (sim.time e.msg) t)) es
 
   -- what the log of station s has from a time on
   abbrev pub log_from : Clone → ℕ → ℕ → List (Entry M N)
-  log_from c t s = from_on t (log_at sim c s sim.horizon)
+  log_from c t s = entries_from t (log_at sim c s sim.horizon)
 
   -- the time before which two clones have one trace
-  abbrev pub shared_to : (Planned → Planned → Bool) → Clone → Clone → ℕ
-  shared_to same c d = parting same (min (end_of sim c) (end_of sim d)) c.plans d.plans
+  abbrev pub parting_of : (Planned → Planned → Bool) → Clone → Clone → ℕ
+  parting_of same c d = parting_time same (min (end_of sim c) (end_of sim d)) c.plans d.plans
 
   -- `same` holds of no two different decisions, and each decision comes at its time
   pub record TellsPlans (same : Planned → Planned → Bool) : Type 0 where
@@ -50,18 +50,19 @@ module _ {S M N : Type 0} (sim : Simulation S M N) where
   abbrev pub TracesAgree : Type 0
   TracesAgree = (c d : Clone) (t : ℕ) → t ≤ end_of sim c → t ≤ end_of sim d → t ≤ sim.horizon →
       earlier_than sim.time t (set_messages sim 0 c.plans) ≡ earlier_than sim.time t (set_messages sim 0 d.plans) →
-      before sim t (trace_of sim c) ≡ before sim t (trace_of sim d)
+      entries_before sim t (trace_of sim c) ≡ entries_before sim t (trace_of sim d)
 
   -- and so do clones up to where their decision lists part
   abbrev pub TracesAgreeToParting : Type 0
   TracesAgreeToParting = (same : Planned → Planned → Bool) (c d : Clone) → TellsPlans same →
       end_of sim c ≤ sim.horizon → end_of sim d ≤ sim.horizon →
-      before sim (shared_to same c d) (trace_of sim c) ≡ before sim (shared_to same c d) (trace_of sim d)
+      entries_before sim (parting_of same c d) (trace_of sim c)
+      ≡ entries_before sim (parting_of same c d) (trace_of sim d)
 
   -- a trace is what comes before a time, and then the rest
   abbrev pub TraceIsSplit : Type 0
   TraceIsSplit = (c : Clone) (t : ℕ) → AreForStations sim c.plans →
-      trace_of sim c ≡ before sim t (trace_of sim c) ++ from_on t (trace_of sim c)
+      trace_of sim c ≡ entries_before sim t (trace_of sim c) ++ entries_from t (trace_of sim c)
 
   -- where two clones part, the lines of the one so far are the first lines of the other, whatever a line is
   abbrev pub LinesAgree : Type 0
@@ -69,13 +70,14 @@ module _ {S M N : Type 0} (sim : Simulation S M N) where
       end_of sim c ≤ sim.horizon → end_of sim d ≤ sim.horizon → AreForStations sim c.plans
       → AreForStations sim d.plans →
       flat_map line (trace_of sim d) ≡
-      take (length (flat_map line (before sim (shared_to same c d) (trace_of sim d)))) (flat_map line (trace_of sim c))
-      ++ flat_map line (from_on (shared_to same c d) (trace_of sim d))
+      take (length (flat_map line (entries_before sim (parting_of same c d) (trace_of sim d))))
+      (flat_map line (trace_of sim c))
+      ++ flat_map line (entries_from (parting_of same c d) (trace_of sim d))
 
   -- the lines of a trace from a time on are as long as those of the stations' logs together
   abbrev pub LengthIsOfLogs : Type 0
   LengthIsOfLogs = (c : Clone) (t : ℕ) (line : Entry M N → List ℕ) → AreForStations sim c.plans →
-      length (flat_map line (from_on t (trace_of sim c))) ≡
+      length (flat_map line (entries_from t (trace_of sim c))) ≡
       station_sum (λ s. sum_by (λ e. length (line e)) (log_from c t s)) sim.stations
 
   -- a list that rises by key, and has the entries of the stations' logs from a time on and no others,
@@ -83,4 +85,4 @@ module _ {S M N : Type 0} (sim : Simulation S M N) where
   abbrev pub RestIsOfLogs : (M → ℕ) → (M → ℕ) → Type 0
   RestIsOfLogs sender number = (c : Clone) (t : ℕ) (es : List (Entry M N)) → AreForStations sim c.plans →
       Sorted (entry_order sim.time sender number) es → ((e : Entry M N) → In e es → InLists sim (log_from c t) e) →
-      ((e : Entry M N) → InLists sim (log_from c t) e → In e es) → es ≡ from_on t (trace_of sim c)
+      ((e : Entry M N) → InLists sim (log_from c t) e → In e es) → es ≡ entries_from t (trace_of sim c)

@@ -6,6 +6,7 @@ use Rattle.sim_base.specs.Clones.{Clone}
 use Rattle.sim_base.specs.declared.entry.Entry.{Entry}
 use Rattle.run_laws.specs.Simulation.{Simulation}
 use Rattle.run_laws.specs.Runs.{log_at}
+use Rattle.run_laws.specs.Handlers.{IsStation}
 
 -- the nonempty prefixes of a list
 abbrev pub prefixes : {E : Type 0} → List E → List (List E)
@@ -31,6 +32,10 @@ module _ {S M N : Type 0} (sim : Simulation S M N) where
   -- a clone's log at a station is beyond the limit
   abbrev pub IsBeyond : ℕ → ℕ → Clone → Type 0
   IsBeyond s front c = sim.limit < length (log_at sim c s front)
+
+  -- and its log at no station is
+  abbrev pub IsWithinLimit : ℕ → Clone → Type 0
+  IsWithinLimit front c = (s : ℕ) → IsStation sim s → ¬ (IsBeyond s front c)
 
   module _ (same : Entry M N → Entry M N → Bool) where
     -- the number of classes at a station: its different logs

@@ -6,8 +6,8 @@ use Rattle.run_laws.specs.Machine.{Config, run_to}
 use Rattle.run_laws.specs.Simulation.{Simulation, Outcome}
 use Rattle.run_laws.specs.World.{to_it}
 
--- a station: its state, its log, and what it has laid aside for other stations
-pub record Part (S M N : Type 0) : Type 0 where
+-- a station by itself: its state, its log, and what it has laid aside for other stations
+pub record LocalStation (S M N : Type 0) : Type 0 where
   pub state : S
   pub log : List (Entry M N)
   pub aside : List M
@@ -24,8 +24,8 @@ module _ {M : Type 0} (time : M → ℕ) where
 
 module _ {S M N : Type 0} (to : M → ℕ) (handle : ℕ → S → M → Outcome S M N) where
   -- station s handles a message: what it sends to itself becomes pending, and the rest is laid aside
-  abbrev pub part_step : ℕ → Part S M N → M → Part S M N × List M
-  part_step s p m =
+  abbrev pub local_step : ℕ → LocalStation S M N → M → LocalStation S M N × List M
+  local_step s p m =
       let h = handle s p.state m in (
         record {
           state = h.state;
@@ -37,13 +37,13 @@ module _ {S M N : Type 0} (to : M → ℕ) (handle : ℕ → S → M → Outcome
 
 module _ {S M N : Type 0} where
   -- a station before its window
-  abbrev pub alone_at : List (Entry M N) → S → List M → Config (Part S M N) M
+  abbrev pub alone_at : List (Entry M N) → S → List M → Config (LocalStation S M N) M
   alone_at log state pending = record { at = record { state = state; log = log; aside = [] }; pending = pending }
 
 module _ {S M N : Type 0} (sim : Simulation S M N) where
   -- one station's window, from its log, state and pending messages: it handles, least first,
   -- the messages below the bound and below the end of its clone
-  abbrev pub local : ℕ → List (Entry M N) → S → List M → ℕ → ℕ → Config (Part S M N) M
-  local s log state pending bound end =
-      run_to sim.order (part_step sim.to sim.handle s) sim.time (alone_at log state pending)
+  abbrev pub local_run : ℕ → List (Entry M N) → S → List M → ℕ → ℕ → Config (LocalStation S M N) M
+  local_run s log state pending bound end =
+      run_to sim.order (local_step sim.to sim.handle s) sim.time (alone_at log state pending)
       (min bound end)

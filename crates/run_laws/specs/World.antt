@@ -46,9 +46,9 @@ module _ {S M N : Type 0} (sim : Simulation S M N) where
   and_first ms (Some m) = ms ++ m ∷ []
 
   -- the first messages of the stations 1 to n
-  abbrev pub openings : ℕ → List M
-  openings zero = []
-  openings (suc n) = and_first (openings n) (sim.setup (suc n)).first
+  abbrev pub first_messages : ℕ → List M
+  first_messages zero = []
+  first_messages (suc n) = and_first (first_messages n) (sim.setup (suc n)).first
 
   -- the decisions as messages, the first numbered k
   abbrev pub set_messages : ℕ → List Planned → List M
@@ -56,8 +56,8 @@ module _ {S M N : Type 0} (sim : Simulation S M N) where
   set_messages k (d ∷ ds) = sim.set_message k d ∷ set_messages (suc k) ds
 
   -- the world of a clone with these decisions, before anything was handled
-  abbrev pub begin : List Planned → Config (World S M N) M
-  begin plans = record {
+  abbrev pub first_world : List Planned → Config (World S M N) M
+  first_world plans = record {
     at = record { states = λ s. (sim.setup s).state; trace = [] };
-    pending = insert_all sim.order (openings sim.stations ++ set_messages 0 plans) [];
+    pending = insert_all sim.order (first_messages sim.stations ++ set_messages 0 plans) [];
   }

@@ -22,7 +22,7 @@
 //! its proofs, as `phys_proc` does:
 //!
 //!     ensures windows { .. IsStepped (simulation model.now) has .. self.old.copies self.new.copies sent.new.items }
-//!     use Rattle.run_laws.proofs.Steps.{stepped}
+//!     use Rattle.run_laws.proofs.Steps.{IsStepped-SoFar}
 //!
 //! The promises that rest on it: copies give every clone its own trace, the report counts each message once that
 //! clones handle together, and windows on many threads change nothing.

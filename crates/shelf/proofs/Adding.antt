@@ -7,7 +7,7 @@ use mathlib.Core.List.{IsPrefix}
 use prog.Atomic.{either}
 use Rattle.logbook.specs.Pages.{Cell, cell, keeps, no_nib, step, Moves, Goes}
 use Rattle.phys_proc.specs.Racks.{RackView}
-use Rattle.shelf.specs.Racks.{MayFollow, AreLegal}
+use Rattle.shelf.specs.Racks.{MayBePublished, AreLegal}
 use Rattle.shelf.specs.Rules.{IsHistory, Adds}
 use Rattle.shelf.proofs.Prefixes.{prefix_whole}
 use Rattle.shelf.proofs.Legals.{AreLegal-push}
@@ -25,7 +25,7 @@ trades_nothing xs ys n = Unit {0}
 -- ---- Goes, Moves
 
 -- over a legal history that begins with what was seen the exchange goes as told, whether it finds more or not
-adds_goes : (all seen : List RackView) (r : RackView) (old : ℕ) → length seen ≡ old → MayFollow seen r
+adds_goes : (all seen : List RackView) (r : RackView) (old : ℕ) → length seen ≡ old → MayBePublished seen r
     → AreLegal all → IsPrefix seen all
     → (b : Bool) → (length all == old) ≡ b
     → Goes IsHistory shows_nothing trades_nothing 0 (seen, (no_nib, None)) (λ n. either (n == old) (old + 1) n)
@@ -33,7 +33,7 @@ adds_goes : (all seen : List RackView) (r : RackView) (old : ℕ) → length see
 adds_goes all seen r old len may legal pre true is =
     let here : length all ≡ old = grind (arith, nat_tests) in
     let same : seen ≡ all = prefix_whole seen all pre (omega (arith, here, len)) in
-    let legal' : AreLegal (all ++ r ∷ []) = AreLegal-push all r legal (subst (λ xs. MayFollow xs r) same may) in
+    let legal' : AreLegal (all ++ r ∷ []) = AreLegal-push all r legal (subst (λ xs. MayBePublished xs r) same may) in
     let n : either (length all == old) (old + 1) (length all) ≡ length (all ++ r ∷ []) =
     rw is (omega (arith, here, length-append all (r ∷ []))) in (
       keeps,
@@ -58,7 +58,7 @@ adds_goes all seen r old len may legal pre false is =
     )
 
 -- whatever the history is, the exchange adds the rack to all that was seen, or finds that the history is longer
-pub adds_moves : (seen : List RackView) (r : RackView) (old : ℕ) → length seen ≡ old → MayFollow seen r
+pub adds_moves : (seen : List RackView) (r : RackView) (old : ℕ) → length seen ≡ old → MayBePublished seen r
     → Moves IsHistory shows_nothing trades_nothing 0 (seen, (no_nib, None)) (λ n. either (n == old) (old + 1) n)
     (Adds (step 0 old (old + 1) r) (seen, (no_nib, None)))
 adds_moves seen r old len may cs all kept pre away =

@@ -10,13 +10,13 @@ use mathlib.Core.List.{IsPrefix}
 use Rattle.sim_base.proofs.ListLaws.{all_push}
 use Rattle.sim_base.proofs.Elements.{take_next}
 use Rattle.phys_proc.specs.Racks.{RackView}
-use Rattle.shelf.specs.Racks.{MayComeAfter, MayFollow, AreLegal, latest, or_this, if_this}
+use Rattle.shelf.specs.Racks.{MayComeAfter, MayBePublished, AreLegal, latest, or_this, if_this}
 use Rattle.shelf.specs.Racks.{HasRack, AreShown, OneEach, MayOpen}
 
 -- ---- AreLegal
 
 -- one rack more that may follow leaves the list legal
-pub AreLegal-push : (racks : List RackView) (r : RackView) → AreLegal racks → MayFollow racks r
+pub AreLegal-push : (racks : List RackView) (r : RackView) → AreLegal racks → MayBePublished racks r
     → AreLegal (racks ++ r ∷ [])
 AreLegal-push [] r legal may = (tt, tt)
 AreLegal-push (q ∷ racks) r legal may =
@@ -193,14 +193,14 @@ AreShown-opening racks each = record {
 
 -- each of the opening racks may follow those before it
 MayOpen-follows : (racks : List RackView) (i : ℕ) (r : RackView) → MayOpen racks → slice_get racks i ≡ Some r
-    → MayFollow (take i racks) r
+    → MayBePublished (take i racks) r
 MayOpen-follows racks i r may e = of_part racks i (λ j q l f. record {
   net = may.net j i q r f e;
   later = λ same. let h = may.each j q f in let g = may.each i r e in absurd (omega (arith, h, g, same, l));
 })
   where
     of_part : (xs : List RackView) (i : ℕ)
-        → ((j : ℕ) (q : RackView) → j < i → slice_get xs j ≡ Some q → MayComeAfter r q) → MayFollow (take i xs) r
+        → ((j : ℕ) (q : RackView) → j < i → slice_get xs j ≡ Some q → MayComeAfter r q) → MayBePublished (take i xs) r
     of_part [] zero f = tt
     of_part [] (suc i) f = tt
     of_part (x ∷ xs) zero f = tt
@@ -215,10 +215,10 @@ slice_get-image f xs i x l e = slice_get-map f xs i ∙ ap (option_map f) (slice
 pub MayOpen-next : {A : Type 0} (f : A → RackView) (xs : List A) (i : ℕ) (x : A) (r : RackView)
     (published : List RackView)
     → published ≡ take i (map f xs) → MayOpen (map f xs) → i < length xs → x ≡ get_or xs i x → r ≡ f x
-    → MayFollow published r × (published ++ r ∷ [] ≡ take (i + 1) (map f xs))
+    → MayBePublished published r × (published ++ r ∷ [] ≡ take (i + 1) (map f xs))
 MayOpen-next f xs i x r published e may l got is =
     let g : slice_get (map f xs) i ≡ Some r = slice_get-image f xs i x l got ∙ ap Some (sym is) in (
-      subst (λ q. MayFollow q r) (sym e) (MayOpen-follows (map f xs) i r may g),
+      subst (λ q. MayBePublished q r) (sym e) (MayOpen-follows (map f xs) i r may g),
       ap (λ q. q ++ r ∷ []) e ∙ sym (take_next (map f xs) i r (slice_get_within (map f xs) i r g)
           (sym (get_or_from_slice_get (map f xs) i r r g))),
     )

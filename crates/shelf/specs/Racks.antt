@@ -13,8 +13,8 @@ pub record MayComeAfter (r q : RackView) : Type 0 where
   pub later : q.station ≡ r.station → q.front < r.front
 
 -- rack r may be published after these
-abbrev pub MayFollow : List RackView → RackView → Type 0
-MayFollow racks r = AllByRecursion (λ q. MayComeAfter r q) racks
+abbrev pub MayBePublished : List RackView → RackView → Type 0
+MayBePublished racks r = AllByRecursion (λ q. MayComeAfter r q) racks
 
 -- each rack may be published after those before it
 abbrev pub AreLegal : List RackView → Type 0

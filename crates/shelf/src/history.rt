@@ -1,12 +1,16 @@
 //! The history of all racks that were published, which only grows.
-ghost use Rattle.std.specs.Prelude.{◌≡◌, ◌+◌, ◌<◌, ◌^◌, ◌++◌, ◌∷◌, ◌⊎◌, [], length, MatchBool};
+ghost use Rattle.std.specs.Prelude.{◌≡◌, ◌+◌, ◌<◌, ◌++◌, ◌∷◌, ◌⊎◌, [], length, MatchBool};
 ghost use mathlib.Core.List.{IsPrefix};
-ghost use Rattle.shelf.specs.Racks.{AreLegal, IsLonger, MayFollow};
+ghost use Rattle.shelf.specs.Racks.{AreLegal, IsLonger, MayBePublished};
 ghost use Rattle.shelf.specs.Rules.{head_of};
+ghost use Rattle.shelf.specs.declared.history.TheConstants.{MOST_RACKS};
 
 use logbook::{Gain, Offer, Plain, Play, Rule, Seen, Start, Word};
 use phys_proc::Rack;
 use std::marker::{Brand, Model, PhantomData};
+
+/// The most racks that a history may have.
+pub const MOST_RACKS: u64 = 1 << 61;
 
 /// The rule of the history: its racks rise in front, station by station.
 pub struct HistoryRule;
@@ -173,8 +177,8 @@ impl<J: Naming> PublishedRacks<J> {
 
     /// Adds a rack to all that was seen, and says whether it did. It did not where the history is longer.
     pub fn add(&mut self, history: &History<J>, rack: &Rack) -> bool
-        requires few { length self.old < 2 ^ 62 }
-        requires may { MayFollow self.old rack.now }
+        requires few { length self.old < MOST_RACKS }
+        requires may { MayBePublished self.old rack.now }
         ensures value { MatchBool result (self.new ≡ self.old ++ rack.now ∷ []) (IsLonger self.old self.new) }
     {
         let mut offer: Offer<Rack, u64, HistoryRule, Nothing> = self

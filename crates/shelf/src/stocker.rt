@@ -1,26 +1,25 @@
 //! The writer: the one that publishes racks.
-ghost use Rattle.std.specs.Prelude.{All, ◌≡◌, ◌+◌, ◌<◌, ◌≤◌, ◌^◌, ◌++◌, ◌∷◌, []};
+ghost use Rattle.std.specs.Prelude.{All, ◌≡◌, ◌+◌, ◌<◌, ◌≤◌, ◌++◌, ◌∷◌, []};
 ghost use Rattle.std.specs.Prelude.{length, map, List, Some, IfOk, IfSome, IfNone, OnOk, OnErr};
 ghost use Rattle.std.specs.Arc.{arc_value};
 ghost use Rattle.net_model.specs.declared.limits.TheConstants.{MOST_STATIONS};
 ghost use Rattle.phys_proc.specs.Racks.{RackView};
-ghost use Rattle.shelf.specs.Racks.{AreShown, HasRack, MayFollow, MayOpen, with_rack};
+ghost use Rattle.shelf.specs.Racks.{AreShown, HasRack, MayBePublished, MayOpen, with_rack};
+ghost use Rattle.shelf.specs.declared.history.TheConstants.{MOST_RACKS};
 ghost use Rattle.shelf.specs.declared.stocker.TheConstants.{MOST_READERS};
 
-use crate::history::{History, Naming, NewHistory, PublishedRacks};
+use crate::history::{History, MOST_RACKS, Naming, NewHistory, PublishedRacks};
 use crate::seat::{Seat, Told};
 use crate::version::{NextVersion, ShownVersion, Version};
 use left_right::{Absorb, WriteHandle};
 use phys_proc::Rack;
 use sim_base::NoMemory;
+use sim_base::limits::MOST_ANALYSTS;
 use std::alloc::Global;
 use std::sync::{Arc, Wait};
 
-/// The most racks that a history may have.
-const MOST_RACKS: u64 = 1 << 61;
-
-/// The greatest number of readers of a shelf.
-pub const MOST_READERS: u32 = 16;
+/// The greatest number of readers of a shelf, one for each analyst.
+pub const MOST_READERS: u32 = MOST_ANALYSTS;
 
 // So many handles of one version.
 fn share_version<J: Naming>(
@@ -120,10 +119,10 @@ fn next_version<J: Naming>(
     newest: &Version<J>,
     rack: Rack,
 ) -> Result<(PublishedRacks<J>, Arc<Version<J>>), NoMemory>
-    requires few { length published.now < 2 ^ 62 }
+    requires few { length published.now < MOST_RACKS }
     requires newest { newest.now ≡ published.now }
     requires there { HasRack rack.station published.now }
-    requires may { MayFollow published.now rack }
+    requires may { MayBePublished published.now rack }
     ensures published { IfOk result (λ p. p.0 ≡ published.now ++ rack ∷ []) }
     ensures version { IfOk result (λ p. p.1.value ≡ published.now ++ rack ∷ []) }
 {
@@ -144,7 +143,7 @@ where
     /// Makes this the rack of its station for all looks from now on. Out of memory readers see what they saw.
     pub fn publish(&mut self, alloc: Global, rack: Rack) -> Result<(), NoMemory>
         requires there { HasRack rack.station self.old.published }
-        requires may { MayFollow self.old.published rack }
+        requires may { MayBePublished self.old.published rack }
         ensures published { OnOk result (self.new.published ≡ self.old.published ++ rack ∷ []) }
         ensures spares { OnOk result (length self.new.spares.items ≡ self.old.readers) }
         ensures readers { self.new.readers ≡ self.old.readers }

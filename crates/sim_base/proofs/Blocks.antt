@@ -1,27 +1,17 @@
 -- Pending messages in blocks: what an insertion into one block is to all, and a block cut in two.
 use Rattle.std.proofs.Common.{◌≡◌, ℕ, zero, suc, ◌<◌, refl, sym, ap, ◌∙◌, subst}
-use Rattle.std.proofs.Common.{List, [], ◌∷◌, ◌++◌, true, false, Ordering, Less, Equal, Greater, length, take}
+use Rattle.std.proofs.Common.{List, [], ◌∷◌, ◌++◌, false, Ordering, Greater, length, take}
 use Rattle.std.proofs.Common.{drop, get_or, set, map, arith, append_assoc, Option}
-use Rattle.std.specs.Ordering.{is_lt}
 use Rattle.std.specs.Cmp.{IsTotalOrder}
 use Rattle.std.specs.List.{AllByRecursion}
 use Rattle.std.proofs.lemmas.List.{append-nil, take-append-drop, length-take, length-drop, map-append, length-map}
 use Rattle.sim_base.specs.Pending.{insert_marked, spread_marks}
 use Rattle.sim_base.specs.Marked.{SortedMarked}
 use Rattle.sim_base.specs.Blocks.{of_blocks, block_at, halves_of, AreFilled, AreSized, StartsAfter, IsBlockOf}
-use Rattle.sim_base.specs.declared.pending.blocks.TheConstants.{MOST_MESSAGES, HALF}
+use Rattle.sim_base.specs.declared.pending.blocks.TheConstants.{MOST_IN_BLOCK, HALF}
 use Rattle.std.specs.Prelude.{slice_get}
-use Rattle.sim_base.proofs.Placing.{insert_behind, insert_before}
 use Rattle.sim_base.proofs.ListLaws.{all_left}
-use Rattle.sim_base.proofs.Placing.{all_before, sorted_right}
-
--- ---- is_lt
-
--- what `is_lt` tells is Less
-is_lt-Less : (o : Ordering) → true ≡ is_lt o → o ≡ Less
-is_lt-Less Less e = refl
-is_lt-Less Equal e = absurd (cc)
-is_lt-Less Greater e = absurd (cc)
+use Rattle.sim_base.proofs.Placing.{is_lt-Less, insert_behind, insert_before, all_before, sorted_right}
 
 -- ---- halves_of
 
@@ -61,11 +51,11 @@ module _ {X : Type 0} where
   behind_halves (suc at) (b ∷ bs) l = behind_halves at bs (omega arith)
 
   -- a full block has two halves of one length
-  half_lengths : (b : List X) → length b ≡ MOST_MESSAGES → (length (take HALF b) ≡ HALF) × (length (drop HALF b) ≡ HALF)
+  half_lengths : (b : List X) → length b ≡ MOST_IN_BLOCK → (length (take HALF b) ≡ HALF) × (length (drop HALF b) ≡ HALF)
   half_lengths b full = (omega (arith, length-take HALF b), omega (arith, length-drop HALF b))
 
   -- where a full block is cut, no block is empty and none has too many messages
-  AreFilled-halves : (at : ℕ) (bs : List (List X)) → AreFilled bs → length (get_or bs at []) ≡ MOST_MESSAGES
+  AreFilled-halves : (at : ℕ) (bs : List (List X)) → AreFilled bs → length (get_or bs at []) ≡ MOST_IN_BLOCK
       → AreFilled (halves_of at bs)
   AreFilled-halves at [] h full = h
   AreFilled-halves zero (b ∷ bs) h full = let l = half_lengths b full in
@@ -74,7 +64,7 @@ module _ {X : Type 0} where
 
   -- halves are of a right size
   pub AreSized-halves : (at : ℕ) (first : List X) (later : List (List X)) (first' : List X) (later' : List (List X))
-      → AreSized first later → length (block_at first later at) ≡ MOST_MESSAGES
+      → AreSized first later → length (block_at first later at) ≡ MOST_IN_BLOCK
       → (first' ∷ later') ≡ halves_of at (first ∷ later) → AreSized first' later'
   AreSized-halves zero first later first' later' h full e =
       let l = half_lengths first full in
@@ -120,7 +110,7 @@ module _ {M K : Type 0} {cmp : M → M → Ordering} (o : IsTotalOrder cmp) (joi
   insert-of_blocks zero first [] s h place = rw (append-nil first, append-nil (insert_marked join cmp m k first)) refl
   insert-of_blocks zero first ([] ∷ bs) s h place = absurd (let some = h.0.0 in omega arith)
   insert-of_blocks zero first ((y ∷ ys) ∷ bs) s h place = insert_before cmp join m k first y (ys ++ of_blocks bs)
-      (is_lt-Less _ (place.behind (omega arith)))
+      (is_lt-Less (cmp m y.0) (sym (place.behind (omega arith))))
   insert-of_blocks (suc n) first [] s h place = absurd (let l = place.within in omega arith)
   insert-of_blocks (suc n) first (b ∷ bs) s h place =
       let l = place.within in

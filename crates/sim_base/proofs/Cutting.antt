@@ -4,7 +4,7 @@ use Rattle.std.proofs.Common.{Ordering, Less, length, option_map, arith}
 use Rattle.std.specs.Prelude.{slice_get}
 use Rattle.std.specs.List.{cons_option}
 use Rattle.std.proofs.lemmas.List.Elements.{filter_map-append}
-use Rattle.sim_base.specs.Pending.{met_by, cut_by, spread_marks}
+use Rattle.sim_base.specs.Pending.{shared_by, cut_by, spread_marks}
 use Rattle.sim_base.specs.Marked.{Above, SortedMarked}
 
 -- ---- cut_by
@@ -22,7 +22,7 @@ module _ {M K : Type 0} (meet : K → K → Option K) (by : K) where
 
   -- what meets of two lists
   pub cut-append : (xs ys : List (M × K)) → cut_by meet by (xs ++ ys) ≡ cut_by meet by xs ++ cut_by meet by ys
-  cut-append xs ys = filter_map-append (met_by meet by) xs ys
+  cut-append xs ys = filter_map-append (shared_by meet by) xs ys
 
   -- one message, where it meets, makes a list at most one longer
   length_one : (r : Option K) (x : M × K) (rest : List (M × K)) (n : ℕ) → length rest ≤ n

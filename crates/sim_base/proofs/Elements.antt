@@ -1,10 +1,16 @@
--- What is in a list.
-use Rattle.std.proofs.Common.{◌≡◌, ℕ, zero, suc, ◌+◌, ◌<◌, ◌⊎◌, inl, inr, List, [], ◌∷◌, ◌++◌}
+-- What is in a list, and what is read from it; the lesser of two numbers.
+use Rattle.std.proofs.Common.{◌≡◌, ℕ, zero, suc, ◌+◌, ◌<◌, ◌≤◌, ◌⊎◌, inl, inr, min, List, [], ◌∷◌, ◌++◌}
 use Rattle.std.proofs.Common.{Bool, true, false, cond, length, take, get_or, refl, sym, ap, ◌∙◌, arith}
 use Rattle.std.specs.List.{Contains}
-use Rattle.std.proofs.lemmas.Bool.{false≢true}
-use Rattle.std.proofs.lemmas.List.{take_more}
+use Rattle.std.proofs.lemmas.Bool.{false≢true, cases_lt}
+use Rattle.std.proofs.lemmas.List.{get_or_default, take_more}
 use Rattle.sim_base.specs.Counts.{In}
+
+-- ---- min
+
+-- the lesser of two numbers is one of them
+pub min_cases : (a b : ℕ) → (min a b ≡ a) ⊎ (min a b ≡ b)
+min_cases a b = elim (cases_lt a b) [ inl below ↦ inl (omega arith) | inr above ↦ inr (omega arith) ]
 
 -- ---- In of cond
 
@@ -33,6 +39,14 @@ pub in_at : {X : Type 0} (xs : List X) (i : ℕ) (x : X) → i < length xs → x
 in_at [] i x l e = absurd (omega (arith, l))
 in_at (y ∷ ys) zero x l e = inl e
 in_at (y ∷ ys) (suc i) x l e = inr (in_at ys i x (omega (arith, l)) e)
+
+-- ---- get_or
+
+-- what is read at one place twice is the same
+pub get_or-same : {X : Type 0} (xs : List X) (i k : ℕ) (x y : X) → i ≡ k → i < length xs → x ≡ get_or xs i x
+    → y ≡ get_or xs k y → x ≡ y
+get_or-same xs i k x y same there here also =
+    here ∙ (get_or_default xs i x y there ∙ (ap (λ n. get_or xs n y) same ∙ sym also))
 
 -- ---- Contains
 

@@ -2,7 +2,7 @@
 use Rattle.std.proofs.Common.{◌≡◌, ℕ, zero, suc, ◌≤◌, ◌<◌, ◌⊎◌, inl, inr, refl}
 use Rattle.std.proofs.Common.{sym, ap, ◌∙◌, subst, Ordering, Less, Equal, Greater, nat_cmp, arith}
 use Rattle.std.specs.Ordering.{MatchOrdering, ordering_then}
-use Rattle.std.specs.Cmp.{ranks}
+use Rattle.std.specs.Cmp.{ranks, nat_cmp_is}
 use Rattle.sim_base.specs.declared.message.Key.{Key}
 use Rattle.sim_base.specs.declared.message.Msg.{Msg}
 use Rattle.sim_base.specs.declared.message.Job.{Job as JobOf}
@@ -16,7 +16,7 @@ use Rattle.sim_base.specs.Order.{key_cmp, job_cmp, param_index, change_cmp, payl
 -- ---- ordering_then
 
 -- where two orders one after the other tie, each does
-pub both_equal : (o p : Ordering) → ordering_then o p ≡ Equal → (o ≡ Equal) × (p ≡ Equal)
+both_equal : (o p : Ordering) → ordering_then o p ≡ Equal → (o ≡ Equal) × (p ≡ Equal)
 both_equal Less p e = absurd (cc)
 both_equal Equal p e = (refl, e)
 both_equal Greater p e = absurd (cc)
@@ -27,18 +27,28 @@ ordering_then-Less Less p e = inl refl
 ordering_then-Less Equal p e = inr refl
 ordering_then-Less Greater p e = absurd (cc)
 
+-- what is less by the first of two orders is less
+pub ordering_then-lt : (x y : ℕ) (s : Ordering) → x < y → ordering_then (nat_cmp x y) s ≡ Less
+ordering_then-lt x y s l = ap (λ o. ordering_then o s) (sym (nat_cmp_is x y Less l))
+
+-- and what is less by both is not greater by the first
+pub ordering_then-le : (x y : ℕ) (s : Ordering) → ordering_then (nat_cmp x y) s ≡ Less → x ≤ y
+ordering_then-le x y s e = by (nat_cmp x y) (ranks x y) e
+  where
+    -- by how the two numbers lie
+    by : (r : Ordering) → MatchOrdering r (x < y) (x ≡ y) (y < x) → ordering_then r s ≡ Less → x ≤ y
+    by Less h e = omega (arith, h)
+    by Equal h e = omega (arith, h)
+    by Greater h e = let n : ⊥ = cc in absurd n
+
 -- ---- nat_cmp
 
 -- numbers that tie are equal
-pub nat_same : (x y : ℕ) → nat_cmp x y ≡ Equal → x ≡ y
+nat_same : (x y : ℕ) → nat_cmp x y ≡ Equal → x ≡ y
 nat_same x y e = subst (λ r. MatchOrdering r (x < y) (x ≡ y) (y < x)) e (ranks x y)
 
--- a number that comes before another is below it
-nat_below : (x y : ℕ) → nat_cmp x y ≡ Less → x < y
-nat_below x y e = subst (λ r. MatchOrdering r (x < y) (x ≡ y) (y < x)) e (ranks x y)
-
 -- three numbers that tie one after another are equal
-three_same : (a b c x y z : ℕ) → ordering_then (nat_cmp a x) (ordering_then (nat_cmp b y) (nat_cmp c z)) ≡ Equal
+pub three_same : (a b c x y z : ℕ) → ordering_then (nat_cmp a x) (ordering_then (nat_cmp b y) (nat_cmp c z)) ≡ Equal
     → (a ≡ x) × (b ≡ y) × (c ≡ z)
 three_same a b c x y z e =
     let first = both_equal (nat_cmp a x) (ordering_then (nat_cmp b y) (nat_cmp c z)) e in
@@ -128,10 +138,7 @@ msg-keyed a b e = ordering_then-Less (key_cmp a.key b.key)
 -- and no later time
 pub msg-timed : (a b : Msg) → msg_cmp a b ≡ Less → a.key.time ≤ b.key.time
 msg-timed a b e = elim (msg-keyed a b e) [
-  | inl less ↦ elim (ordering_then-Less (nat_cmp a.key.time b.key.time)
-      (ordering_then (nat_cmp a.key.sender b.key.sender) (nat_cmp a.key.number b.key.number)) less) [
-        | inl below ↦ (let h = nat_below a.key.time b.key.time below in omega arith)
-        | inr same ↦ (let h = nat_same a.key.time b.key.time same in omega arith)
-      ]
+  | inl less ↦ ordering_then-le a.key.time b.key.time
+      (ordering_then (nat_cmp a.key.sender b.key.sender) (nat_cmp a.key.number b.key.number)) less
   | inr equal ↦ (let h = ap (λ (k : Key). k.time) (key_same a.key b.key equal) in omega arith)
 ]

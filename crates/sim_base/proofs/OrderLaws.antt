@@ -1,20 +1,33 @@
--- The order of messages is total.
-use Rattle.std.proofs.Common.{◌≡◌, ℕ, refl, Ordering, nat_cmp}
+-- The order of messages is total, and so is that of entries.
+use Rattle.std.proofs.Common.{◌≡◌, ℕ, ◌<◌, refl, sym, Ordering, Less, nat_cmp}
 use Rattle.std.specs.Ordering.{ordering_then}
-use Rattle.std.specs.Cmp.{IsTotalOrder, nat_cmp_total}
+use Rattle.std.specs.Cmp.{IsTotalOrder, nat_cmp_total, nat_cmp_is}
 use Rattle.std.proofs.lemmas.Cmp.{on_total, then_total}
 use Rattle.sim_base.specs.declared.message.Key.{Key}
 use Rattle.sim_base.specs.declared.message.Msg.{Msg}
 use Rattle.sim_base.specs.declared.message.Payload.{Payload}
 use Rattle.sim_base.specs.declared.message.Payload.TheVariants.{Tick, Job, Done, Set}
-use Rattle.sim_base.specs.Order.{key_cmp, payload_cmp, payload_index, param_index, msg_cmp}
+use Rattle.sim_base.specs.declared.entry.Entry.{Entry}
+use Rattle.sim_base.specs.Order.{key_order, payload_cmp, payload_index, param_index, msg_cmp}
+use Rattle.sim_base.specs.Entries.{entry_order}
 
--- ---- key_cmp
+-- ---- nat_cmp
 
--- the order of keys is total
-pub key_total : IsTotalOrder key_cmp
-key_total = then_total (on_total (λ (k : Key). k.time) nat_cmp_total)
-    (then_total (on_total (λ (k : Key). k.sender) nat_cmp_total) (on_total (λ (k : Key). k.number) nat_cmp_total))
+-- a lower number comes before
+pub nat_cmp-lt : (m n : ℕ) → m < n → nat_cmp m n ≡ Less
+nat_cmp-lt m n l = sym (nat_cmp_is m n Less l)
+
+-- ---- key_order and entry_order
+
+module _ {M : Type 0} (time sender number : M → ℕ) where
+  -- the order of keys is total
+  pub key_total : IsTotalOrder (key_order time sender number)
+  key_total = then_total (on_total time nat_cmp_total)
+      (then_total (on_total sender nat_cmp_total) (on_total number nat_cmp_total))
+
+  -- and so is the order of entries by key
+  pub entry_total : (N : Type 0) → IsTotalOrder (entry_order {M = M} {N = N} time sender number)
+  entry_total N = on_total (λ (e : Entry M N). e.msg) key_total
 
 -- ---- payload_cmp
 
@@ -84,5 +97,5 @@ payload_total = record {
 
 -- the order of messages is total
 pub msg_total : IsTotalOrder msg_cmp
-msg_total = then_total (on_total (λ (m : Msg). m.key) key_total)
+msg_total = then_total (on_total (λ (m : Msg). m.key) (key_total (λ (k : Key). k.time) (λ k. k.sender) (λ k. k.number)))
     (then_total (on_total (λ (m : Msg). m.to) nat_cmp_total) (on_total (λ (m : Msg). m.payload) payload_total))

@@ -13,6 +13,14 @@ use Rattle.sim_base.specs.Pending.{place_marked, insert_marked}
 use Rattle.sim_base.specs.Marked.{Above, SortedMarked}
 use Rattle.sim_base.specs.Blocks.{IsPlaceOf, is_there}
 
+-- ---- is_lt
+
+-- what `is_lt` tells is Less
+pub is_lt-Less : (o : Ordering) → is_lt o ≡ true → o ≡ Less
+is_lt-Less Less e = refl
+is_lt-Less Equal e = absurd (cc)
+is_lt-Less Greater e = absurd (cc)
+
 -- ---- is_gt
 
 -- what `is_gt` tells is Greater
@@ -113,9 +121,10 @@ module _ {M K : Type 0} {cmp : M → M → Ordering} (o : IsTotalOrder cmp) (joi
   sorted_place Greater y ys e s t = (above_insert y.0 ys (o.antisymm y.0 m ∙ ap ordering_reverse e) s.0, t)
 
   -- an insertion keeps the order
-  pub sorted_insert : (xs : List (M × K)) → SortedMarked cmp xs → SortedMarked cmp (insert_marked join cmp m k xs)
-  sorted_insert [] s = (tt, tt)
-  sorted_insert (y ∷ ys) s = sorted_place (cmp m y.0) y ys refl s (sorted_insert ys s.1)
+  pub sorted_insert_marked : (xs : List (M × K)) → SortedMarked cmp xs
+      → SortedMarked cmp (insert_marked join cmp m k xs)
+  sorted_insert_marked [] s = (tt, tt)
+  sorted_insert_marked (y ∷ ys) s = sorted_place (cmp m y.0) y ys refl s (sorted_insert_marked ys s.1)
 
 -- ---- length of insert_marked
 

@@ -9,7 +9,7 @@ use Rattle.std.proofs.lemmas.List.{append-nil, drop_more, nil_from_length}
 use Rattle.sim_base.specs.Pending.{cut_by}
 use Rattle.sim_base.specs.Blocks.{of_blocks, AreFilled, StartsAt}
 use Rattle.sim_base.specs.declared.message.Msg.{Msg}
-use Rattle.sim_base.specs.declared.pending.blocks.TheConstants.{MOST_MESSAGES}
+use Rattle.sim_base.specs.declared.pending.blocks.TheConstants.{MOST_IN_BLOCK}
 use Rattle.sim_base.proofs.Elements.{take_next}
 use Rattle.sim_base.proofs.ListLaws.{all_append, all_at}
 use Rattle.sim_base.proofs.Cutting.{cut-Some, cut-None, cut-append, length-cut}
@@ -30,29 +30,29 @@ module _ {X : Type 0} where
 module _ {M K : Type 0} (meet : K → K → Option K) (by : K) (old items rest : List (M × K)) (i : ℕ) (x : M × K)
     (l : i < length old) (is : items ≡ drop i old ++ cut_by meet by (take i old)) (leaves : items ≡ x ∷ rest) where
   -- what is taken out is the next message, and the others stay
-  next : (x ≡ get_or old i x) × (rest ≡ drop (i + 1) old ++ cut_by meet by (take i old))
-  next = drop_next old items rest (cut_by meet by (take i old)) i x l is leaves
+  get_or-next : (x ≡ get_or old i x) × (rest ≡ drop (i + 1) old ++ cut_by meet by (take i old))
+  get_or-next = drop_next old items rest (cut_by meet by (take i old)) i x l is leaves
 
   -- what meets so far, with one message more
-  more : cut_by meet by (take (i + 1) old) ≡ cut_by meet by (take i old) ++ cut_by meet by (x ∷ [])
-  more = ap (cut_by meet by) (take_next old i x l next.0) ∙ cut-append meet by (take i old) (x ∷ [])
+  cut_by-next : cut_by meet by (take (i + 1) old) ≡ cut_by meet by (take i old) ++ cut_by meet by (x ∷ [])
+  cut_by-next = ap (cut_by meet by) (take_next old i x l get_or-next.0) ∙ cut-append meet by (take i old) (x ∷ [])
 
   -- a message that stays
   pub rotated-Some : (v : K) → meet x.1 by ≡ Some v
       → rest ++ (x.0, v) ∷ [] ≡ drop (i + 1) old ++ cut_by meet by (take (i + 1) old)
   rotated-Some v e =
       let all : cut_by meet by (take (i + 1) old) ≡ cut_by meet by (take i old) ++ (x.0, v) ∷ [] =
-      more ∙ ap (λ t. cut_by meet by (take i old) ++ t) (cut-Some meet by x v [] e) in
-      ap (λ t. t ++ (x.0, v) ∷ []) next.1 ∙ append_assoc (drop (i + 1) old) (cut_by meet by (take i old))
+      cut_by-next ∙ ap (λ t. cut_by meet by (take i old) ++ t) (cut-Some meet by x v [] e) in
+      ap (λ t. t ++ (x.0, v) ∷ []) get_or-next.1 ∙ append_assoc (drop (i + 1) old) (cut_by meet by (take i old))
       ((x.0, v) ∷ []) ∙ ap (λ t. drop (i + 1) old ++ t) (sym all)
 
   -- and one that goes
   pub rotated-None : meet x.1 by ≡ None → rest ≡ drop (i + 1) old ++ cut_by meet by (take (i + 1) old)
   rotated-None e =
       let all : cut_by meet by (take (i + 1) old) ≡ cut_by meet by (take i old) =
-      more ∙ ap (λ t. cut_by meet by (take i old) ++ t) (cut-None meet by x [] e)
+      cut_by-next ∙ ap (λ t. cut_by meet by (take i old) ++ t) (cut-None meet by x [] e)
       ∙ append-nil (cut_by meet by (take i old)) in
-      next.1 ∙ ap (λ t. drop (i + 1) old ++ t) (sym all)
+      get_or-next.1 ∙ ap (λ t. drop (i + 1) old ++ t) (sym all)
 
 -- ---- HasRotated
 
@@ -82,8 +82,8 @@ module _ {M K : Type 0} (meet : K → K → Option K) (by : K) (old : List (List
     pub HasRotated-filled : AreFilled old → 0 < length (cut_by meet by b)
         → HasRotated (rest ++ cut_by meet by b ∷ []) (i + 1)
     HasRotated-filled filled some =
-        let size = all_at (λ b. (0 < length b) × (length b ≤ MOST_MESSAGES)) old i b filled l in
-        let few : length b ≤ MOST_MESSAGES = subst (λ c. length c ≤ MOST_MESSAGES) (sym next_block.0) size.1 in
+        let size = all_at (λ b. (0 < length b) × (length b ≤ MOST_IN_BLOCK)) old i b filled l in
+        let few : length b ≤ MOST_IN_BLOCK = subst (λ c. length c ≤ MOST_IN_BLOCK) (sym next_block.0) size.1 in
         let short = length-cut meet by b in
         record {
           done = rotated.done ++ cut_by meet by b ∷ [];

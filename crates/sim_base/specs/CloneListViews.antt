@@ -1,11 +1,11 @@
 -- The decision lists of the clones in memory.
 use Rattle.std.specs.Prelude.{◌≡◌, ℕ, ◌+◌, ◌^◌, ◌<◌, ◌≤◌, List, [], ◌∷◌, ◌++◌, length}
-use Rattle.std.specs.Prelude.{map, false, AllPairs, Option, Some, None, slice_get, slice_set, unwrap_or, codes}
+use Rattle.std.specs.Prelude.{map, Option, Some, None, slice_get, slice_set, unwrap_or, codes}
 use Rattle.std.specs.List.{AllByRecursion}
-use Rattle.std.specs.Str.{bytes_eq}
 use Rattle.sim_base.specs.declared.decision.Planned.{Planned}
 use Rattle.sim_base.specs.Reserved.{ReservedView}
 use Rattle.sim_base.specs.Clones.{Clone}
+use Rattle.sim_base.specs.Names.{AreDistinct}
 
 -- a clone with its list
 pub record CloneListView : Type 0 where
@@ -32,9 +32,9 @@ names clones = map (λ c. c.name) clones
 pub record AreClones (clones : List Clone) : Type 0 where
   pub some : 1 ≤ length clones
   pub few : length clones < 2 ^ 32
-  pub distinct : AllPairs (λ a b. bytes_eq a b ≡ false) (names clones)
+  pub distinct : AreDistinct (names clones)
 
--- what stands for a list at a place where there is none
+-- the list at a place where there is none
 abbrev pub no_list : CloneListView
 no_list = record { name = []; plans = record { items = []; reserved = 0 }; end = None }
 

@@ -24,7 +24,7 @@ base = record { name = codes "base"; plans = []; end = None }
 abbrev pub place_of : List ℕ → List Clone → Option ℕ
 place_of name clones = position (λ c. bytes_eq c.name name) clones
 
--- what stands for a clone at a place where there is none
+-- the clone at a place where there is none
 abbrev pub nobody : Clone
 nobody = record { name = []; plans = []; end = None }
 

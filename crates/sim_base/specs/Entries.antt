@@ -1,15 +1,10 @@
 -- Entries of a log: their order by key.
 use Rattle.std.specs.Prelude.{ℕ}
-use Rattle.std.specs.Ordering.{nat_cmp, ordering_then}
 use Rattle.std.specs.declared.cmp.Ordering.{Ordering}
 use Rattle.sim_base.specs.declared.entry.Entry.{Entry}
 use Rattle.sim_base.specs.declared.entry.Line.{Line}
 use Rattle.sim_base.specs.declared.message.Msg.{Msg}
-
--- messages by time, then by sender, then by number
-abbrev pub key_order : {M : Type 0} → (M → ℕ) → (M → ℕ) → (M → ℕ) → M → M → Ordering
-key_order time sender number x y = ordering_then (nat_cmp (time x) (time y))
-    (ordering_then (nat_cmp (sender x) (sender y)) (nat_cmp (number x) (number y)))
+use Rattle.sim_base.specs.Order.{key_order}
 
 -- entries by the keys of their messages
 abbrev pub entry_order : {M N : Type 0} → (M → ℕ) → (M → ℕ) → (M → ℕ) → Entry M N → Entry M N → Ordering

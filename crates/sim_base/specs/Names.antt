@@ -1,6 +1,7 @@
--- What a name is.
-use Rattle.std.specs.Prelude.{◌&&◌, ◌||◌, ◌==◌, ℕ, Bool, false, nat_le, nat_lt, List, [], ◌∷◌, length}
-use Rattle.std.specs.List.{list_all}
+-- What a name is, and when names are distinct.
+use Rattle.std.specs.Prelude.{◌≡◌, ◌&&◌, ◌||◌, ◌==◌, ℕ, Bool, false, nat_le, nat_lt, List, [], ◌∷◌, length}
+use Rattle.std.specs.List.{list_all, AllPairs}
+use Rattle.std.specs.Str.{bytes_eq}
 use Rattle.sim_base.specs.declared.name.TheConstants.{LONGEST_NAME}
 
 -- whether a byte is one of a to z
@@ -23,3 +24,7 @@ is_name_byte b = (is_lower b || is_digit b) || (b == 95)
 abbrev pub is_name : List ℕ → Bool
 is_name [] = false
 is_name (b ∷ bs) = (is_lower b && list_all is_name_byte bs) && nat_lt (length bs) LONGEST_NAME
+
+-- no two of the names are equal
+abbrev pub AreDistinct : List (List ℕ) → Type 0
+AreDistinct names = AllPairs (λ a b. bytes_eq a b ≡ false) names

@@ -11,10 +11,14 @@ use Rattle.sim_base.specs.declared.message.Param.TheVariants.{Every, Service, Ho
 use Rattle.sim_base.specs.declared.message.Payload.{Payload}
 use Rattle.sim_base.specs.declared.message.Payload.TheVariants.{Tick, Job, Done, Set}
 
--- keys by time, then by sender, then by number
+-- what has a time, a sender and a number, by time, then by sender, then by number
+abbrev pub key_order : {M : Type 0} → (M → ℕ) → (M → ℕ) → (M → ℕ) → M → M → Ordering
+key_order time sender number x y = ordering_then (nat_cmp (time x) (time y))
+    (ordering_then (nat_cmp (sender x) (sender y)) (nat_cmp (number x) (number y)))
+
+-- keys are ordered so
 abbrev pub key_cmp : Key → Key → Ordering
-key_cmp a b = ordering_then (nat_cmp a.time b.time)
-    (ordering_then (nat_cmp a.sender b.sender) (nat_cmp a.number b.number))
+key_cmp a b = key_order (λ (k : Key). k.time) (λ k. k.sender) (λ k. k.number) a b
 
 -- jobs by source, then by count, then by time of birth
 abbrev pub job_cmp : JobOf → JobOf → Ordering

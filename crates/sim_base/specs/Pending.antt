@@ -23,12 +23,12 @@ module _ {M K : Type 0} (join : K → K → K) where
 
 module _ {M K : Type 0} (meet : K → K → Option K) where
   -- a message whose marks meet `by`, with what they share
-  abbrev pub met_by : K → M × K → Option (M × K)
-  met_by by x = option_map (λ k. (x.0, k)) (meet x.1 by)
+  abbrev pub shared_by : K → M × K → Option (M × K)
+  shared_by by x = option_map (λ k. (x.0, k)) (meet x.1 by)
 
   -- the messages whose marks meet `by`, each with what they share
   abbrev pub cut_by : K → List (M × K) → List (M × K)
-  cut_by by xs = filter_map (met_by by) xs
+  cut_by by xs = filter_map (shared_by by) xs
 
 -- the time of the first message
 abbrev pub first_time : {K : Type 0} → List (Msg × K) → Option ℕ

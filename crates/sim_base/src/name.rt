@@ -45,8 +45,8 @@ fn is_lower_byte(byte: u8) -> bool
     b'a' <= byte && byte <= b'z'
 }
 
-// Whether the byte may stand in a name behind its first.
-fn may_follow(byte: u8) -> bool
+/// Whether the byte may stand in a name behind its first.
+pub fn may_follow(byte: u8) -> bool
     ensures value { result ≡ is_name_byte byte }
 {
     is_lower_byte(byte) || (b'0' <= byte && byte <= b'9') || byte == b'_'

@@ -1,6 +1,6 @@
 //! Pending messages: the future event list.
 //!
-//! They stand in blocks of at most `MOST_MESSAGES`, each in order and all before the next. Most lists have one block,
+//! They stand in blocks of at most `MOST_IN_BLOCK`, each in order and all before the next. Most lists have one block,
 //! which is never looked for. In a long list an insert halves over the blocks and then within one, and moves the
 //! messages of that one at most:
 //!

@@ -24,9 +24,9 @@ word seed stream i = (pcg32 (generator (record { seed = seed; stream = stream; c
 abbrev pub next_of : DrawsView → ℕ
 next_of d = word d.seed d.stream d.count
 
--- one word more was drawn
-abbrev pub drawn_one : DrawsView → DrawsView
-drawn_one d = record d { count = d.count + 1 }
+-- the stream after one word more was drawn
+abbrev pub after_draw : DrawsView → DrawsView
+after_draw d = record d { count = d.count + 1 }
 
 -- a number from lo to hi, by the next word
 abbrev pub range_of : ℕ → ℕ → DrawsView → ℕ
@@ -50,11 +50,11 @@ pick_of [] d = 0
 pick_of (w ∷ []) d = 0
 pick_of ws d = index_of ws (next_of d % sum ws)
 
--- what is drawn by a pick: one word, and none where there is no choice
-abbrev pub drawn_by : List ℕ → DrawsView → DrawsView
-drawn_by [] d = d
-drawn_by (w ∷ []) d = d
-drawn_by ws d = drawn_one d
+-- the stream after a pick by weights: one word more was drawn, and none where there is no choice
+abbrev pub after_pick_by : List ℕ → DrawsView → DrawsView
+after_pick_by [] d = d
+after_pick_by (w ∷ []) d = d
+after_pick_by ws d = after_draw d
 
 -- the running sum up to index i exceeds x, and that before it does not
 pub record IsFirstAbove (ws : List ℕ) (x i : ℕ) : Type 0 where

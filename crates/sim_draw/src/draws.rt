@@ -1,21 +1,21 @@
 //! Random variates: seeded draws from a range, and by weights.
 ghost use Rattle.std.specs.Prelude.{◌≡◌, ◌+◌, ◌-◌, ◌%◌, ◌<◌, ◌≤◌, length, sum};
-ghost use Rattle.sim_draw.specs.Drawing.{DrawsView, drawn_one, range_of, next_of};
-ghost use Rattle.sim_draw.specs.Drawing.{AreWeights, pick_of, index_of, drawn_by, IsFirstAbove};
-ghost use Rattle.sim_draw.specs.declared.draws.TheConstants.{MOST_BOUND, MOST_DRAWS};
+ghost use Rattle.sim_draw.specs.Drawing.{DrawsView, after_draw, range_of, next_of};
+ghost use Rattle.sim_draw.specs.Drawing.{AreWeights, pick_of, index_of, after_pick_by, IsFirstAbove};
+ghost use Rattle.sim_draw.specs.declared.draws.TheConstants.{MOST_DRAWS};
+ghost use Rattle.sim_base.specs.declared.limits.TheConstants.{MOST_TIME};
 
 use rand_core::utils::NextWord;
 use rand_pcg::Lcg64Xsh32;
+use sim_base::limits::MOST_LINKS;
 use std::marker::Model;
 
 /// How many words of a stream may be drawn: 32 bits.
 pub const MOST_DRAWS: u64 = 4_294_967_296;
-/// The greatest upper bound of a range.
-pub const MOST_BOUND: u64 = 1_000_000;
 /// How many weights a pick may have.
-pub const MOST_WEIGHTS: usize = 16;
+pub const MOST_WEIGHTS: usize = MOST_LINKS;
 /// The greatest weight.
-pub const MOST_WEIGHT: u32 = 1_000;
+pub const MOST_WEIGHT: u32 = sim_base::limits::MOST_WEIGHT;
 
 /// Draws from one stream of a seed.
 ///
@@ -83,10 +83,10 @@ impl Draws {
     /// A number from `lo` to `hi`, by one word: `lo` and the word modulo the size of the range.
     pub fn range(&mut self, lo: u64, hi: u64) -> u64
         requires ordered { lo ≤ hi }
-        requires small { hi ≤ MOST_BOUND }
+        requires small { hi ≤ MOST_TIME }
         requires few_drawn { self.old.count < MOST_DRAWS }
         ensures value { result ≡ range_of lo hi self.old }
-        ensures drawn { self.new ≡ drawn_one self.old }
+        ensures drawn { self.new ≡ after_draw self.old }
         ensures least { lo ≤ result }
         ensures greatest { result ≤ hi }
     {
@@ -101,7 +101,7 @@ impl Draws {
         requires valid { AreWeights weights.now }
         requires few_drawn { self.old.count < MOST_DRAWS }
         ensures value { result ≡ pick_of weights.now self.old }
-        ensures drawn { self.new ≡ drawn_by weights.now self.old }
+        ensures drawn { self.new ≡ after_pick_by weights.now self.old }
         ensures within { result < length weights.now }
         ensures choice { 2 ≤ length weights.now → IsFirstAbove weights.now (next_of self.old % sum weights.now) result }
     {
@@ -116,7 +116,7 @@ impl Draws {
     fn word(&mut self) -> u32
         requires { self.old.count < MOST_DRAWS }
         ensures value { result ≡ next_of self.old }
-        ensures drawn { self.new ≡ drawn_one self.old }
+        ensures drawn { self.new ≡ after_draw self.old }
     {
         let word = self.words.next_word();
         self.drawn += 1;

@@ -1,6 +1,6 @@
 -- Calls, one after the other.
 use Rattle.std.proofs.Common.{◌≡◌, ℕ, suc, ◌+◌, refl, sym, ap, ◌∙◌, arith, Option, Some, None}
-use Rattle.sim_outer.specs.Causes.{counts_after, AreCounted, IsCounted}
+use Rattle.sim_outer.specs.Counts.{counts_after, AreCounted, IsCounted}
 
 -- ---- AreCounted
 

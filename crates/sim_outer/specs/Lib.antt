@@ -1,5 +1,5 @@
 pub mod Bytes
-pub mod Causes
+pub mod Counts
 pub mod Views
 pub mod Files
 pub mod MemSinkView

@@ -4,7 +4,7 @@ use Rattle.std.specs.FinMap as finite
 use Rattle.std.specs.List.{list_any}
 use Rattle.std.specs.Option.{option_map}
 use Rattle.std.specs.declared.vec.Vec.{Vec}
-use Rattle.sim_outer.specs.Causes.{next_count}
+use Rattle.sim_outer.specs.Counts.{next_count}
 use Rattle.sim_outer.specs.Files.{Files, prefix_of}
 
 -- what inputs in memory hold

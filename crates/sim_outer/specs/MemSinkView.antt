@@ -2,7 +2,7 @@
 use Rattle.std.specs.Prelude.{ℕ, ◌+◌, ◌-◌, ◌&&◌, ◌++◌, ◌==◌, Bool, false, List, find}
 use Rattle.std.specs.Prelude.{length, min, nat_le, take, Option, is_none, unwrap_or, if◌then◌else◌}
 use Rattle.std.specs.Option.{option_map}
-use Rattle.sim_outer.specs.Causes.{next_count}
+use Rattle.sim_outer.specs.Counts.{next_count}
 
 -- what a sink in memory holds
 pub record MemSinkView : Type 0 where

@@ -1,6 +1,6 @@
 //! Inputs: files that are fetched by name.
 ghost use Rattle.std.specs.Prelude.{◌≡◌, ◌≤◌, ◌⊎◌, IfOk, IfErr};
-ghost use Rattle.sim_outer.specs.Causes.{IsCounted, HasRisen};
+ghost use Rattle.sim_outer.specs.Counts.{IsCounted, HasRisen};
 ghost use Rattle.sim_outer.specs.Views.{InputsView};
 ghost use Rattle.sim_outer.specs.Files.{IsFetched, Lacks};
 

@@ -3,7 +3,7 @@ ghost use Rattle.std.specs.Prelude.{◌≡◌, ◌≤◌, ◌⊎◌, ◌↔◌, 
 ghost use Rattle.std.specs.FinMap as finite;
 ghost use Rattle.std.specs.List.{list_any};
 ghost use Rattle.std.specs.Option.{option_map};
-ghost use Rattle.sim_outer.specs.Causes.{IsCounted, HasRisen};
+ghost use Rattle.sim_outer.specs.Counts.{IsCounted, HasRisen};
 ghost use Rattle.sim_outer.specs.Files.{IsFetched, Lacks, prefix_of};
 ghost use Rattle.sim_outer.specs.MemInputsView.{named_bytes, files_by_name, prefix_by_name, next_prefix, after_fetch};
 

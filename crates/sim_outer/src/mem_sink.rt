@@ -1,7 +1,7 @@
 //! Sinks in memory, for tests: they hold so many bytes, and fail at stated calls.
 ghost use Rattle.std.specs.Prelude.{◌≡◌, ◌≤◌, ◌+◌, ◌↔◌, ◌++◌, [], true, length, take, Some, OnOk, OnErr, IfOk, IsOk};
 ghost use Rattle.sim_outer.specs.Bytes.{IsAppended, IsPrefixAppended};
-ghost use Rattle.sim_outer.specs.Causes.{IsCounted, HasRisen};
+ghost use Rattle.sim_outer.specs.Counts.{IsCounted, HasRisen};
 ghost use Rattle.sim_outer.specs.MemSinkView.{stop_of as stop_of', share as share', with_share, fits_whole};
 ghost use Rattle.sim_outer.specs.MemSinkView.{left_of, next_stop};
 ghost use Rattle.sim_outer.specs.MemSinkView.{after_call, next_is_whole, after_put, next_part_is_whole, after_part};

@@ -1,7 +1,7 @@
 //! Sinks: what takes bytes, piece by piece.
 ghost use Rattle.std.specs.Prelude.{◌≡◌, ◌≤◌, OnOk, OnErr};
 ghost use Rattle.sim_outer.specs.Bytes.{IsAppended, IsPrefixAppended};
-ghost use Rattle.sim_outer.specs.Causes.{IsCounted, HasRisen};
+ghost use Rattle.sim_outer.specs.Counts.{IsCounted, HasRisen};
 ghost use Rattle.sim_outer.specs.Views.{SinkView};
 
 /// A piece was not taken whole.

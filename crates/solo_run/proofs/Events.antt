@@ -1,7 +1,7 @@
 -- The pending messages of all stations: the least word is that of the first message, and what a change leaves.
 use Rattle.std.proofs.Common.{◌≡◌, ◌≢◌, inl, inr, ℕ, suc, ◌+◌, ◌/◌, ◌%◌, ◌<◌, ◌≤◌, refl, sym, ap, ◌∙◌}
 use Rattle.std.proofs.Common.{subst, arith, List, [], ◌∷◌, length, get_or, set, replicate, Ordering, Less, Equal}
-use Rattle.std.proofs.Common.{Greater, nat_cmp, true, false, Option, Some, None, slice_get}
+use Rattle.std.proofs.Common.{Greater, nat_cmp, false, Option, Some, None, slice_get}
 use Rattle.std.specs.Cmp.{nat_cmp_is}
 use Rattle.std.specs.List.{AllByRecursion}
 use Rattle.std.specs.Ordering.{ordering_then, is_lt}
@@ -19,7 +19,7 @@ use Rattle.run_laws.proofs.Queue.{not_below_itself, less_if_greater}
 use Rattle.run_laws.specs.Queue.{In, insert, Sorted}
 use Rattle.run_laws.proofs.Queue.{all_in, all_from, sorted_insert, all_insert_all}
 use Rattle.run_laws.proofs.MessageOrder.{messages_ordered}
-use Rattle.trace_cursor.specs.Tournament.{IsLeast}
+use Rattle.trace_cursor.specs.Tournament.{IsLeastWord}
 use Rattle.trace_cursor.specs.declared.tree.TheConstants.{NO_WORD}
 use Rattle.solo_run.specs.EventLists.{EventListView, messages_of, all_messages, IsWordOf}
 use Rattle.solo_run.specs.EventLists.{HasFirst, IsFound, IsListOf, AreStationLists, IsEventList}
@@ -169,7 +169,7 @@ module _ (ls : List MarkedMessages) (words : List ℕ) (inv : IsEventList ls wor
         all_messages-set_insert = all_messages-insert ls i new there m
             (messages_are ∙ ap (λ l. insert msg_cmp m (messages_of l)) (sym here))
 
-  module _ (w : ℕ) (h : IsLeast w words) (some : w ≢ 0) where
+  module _ (w : ℕ) (h : IsLeastWord w words) (some : w ≢ 0) where
     -- the least word is that of one of the lists
     low : h.place < length ls
     low = let count = inv.count in let there = h.there in omega (arith, count, there)
@@ -295,13 +295,7 @@ slice_get-head : (l : MarkedMessages) (x : Msg × Unit {0}) → slice_get l 0 �
 slice_get-head [] x e = absurd (cc)
 slice_get-head (y ∷ ys) x e = (ys, cc)
 
--- what is less, by the test
-pub is_lt-true : (r : Ordering) → is_lt r ≡ true → r ≡ Less
-is_lt-true Less e = refl
-is_lt-true Equal e = absurd (cc)
-is_lt-true Greater e = absurd (cc)
-
--- and what is not less, by the test
+-- what is not less, by the test
 pub is_lt-false : (r : Ordering) → is_lt r ≡ false → r ≢ Less
 is_lt-false r e is = let yes = ap is_lt is in cc
 
@@ -310,7 +304,7 @@ pub found_is : (ls : List MarkedMessages) (n : ℕ) (found f : Option (ℕ × Ms
     → IsFound ls n f
 found_is ls n found f e h = subst (IsFound ls n) e h
 
--- the first message of the list at a place, whatever stands for a list that is not there
+-- the first message of the list at a place, whatever list is taken where there is none
 pub first_at : (ls : List MarkedMessages) (n : ℕ) → n < length ls → (l : MarkedMessages) → l ≡ get_or ls n l
     → (r f : Option (Msg × Unit {0})) → r ≡ slice_get l 0 → r ≡ f → slice_get (get_or ls n []) 0 ≡ f
 first_at ls n there l at r f is e = ap (λ k. slice_get k 0) (sym (at ∙ get_or_default ls n l [] there)) ∙ (sym is ∙ e)

@@ -26,7 +26,7 @@ use Rattle.stations.specs.Handling.{StateView, handle}
 use Rattle.stations.specs.Opening.{setup}
 use Rattle.stations.specs.Sends.{AreSends}
 use Rattle.stations.specs.declared.sender.TheConstants.{ALL_TIMES}
-use Rattle.stations.proofs.Lawful.{handles-well}
+use Rattle.stations.proofs.Lawful.{handles-fitting}
 use Rattle.stations.proofs.GoodLaws.{lawful-stations}
 use Rattle.solo_run.specs.EventLists.{IsForStation, EventListView}
 use Rattle.solo_run.specs.Limit.{receiver, first_beyond}
@@ -111,7 +111,7 @@ sends_for : (net : Net) (now s k : ℕ) (ms : List Msg) → AreSends net now s k
     → AllByRecursion (IsForStation (length net.sites)) ms
 sends_for net now s k [] are = tt
 sends_for net now s k (m ∷ ms) are = (
-  (are.0.first, are.0.last),
+  (are.0.is_station.low, are.0.is_station.high),
   sends_for net now s (suc k) ms are.1,
 )
 
@@ -178,7 +178,7 @@ module _ (net : Net) (valid : IsNet net) (v : SoloView) (m : Msg) (new : List St
         let at : slice_get new (m.to - 1) ≡ Some h.after = ap (λ t. slice_get t (m.to - 1)) h.new_states
         ∙ slice_get-set_same v.states (m.to - 1) h.after within in
         let same : st ≡ h.after = let k = sym is ∙ (ap (slice_get new) here ∙ at) in cc in
-        let well = handles-well net h.before m valid old.fits old.suits early in
+        let well = handles-fitting net h.before m valid old.fits old.suits early in
         let state = ap (λ d. d.state) h.gives in
         let station : h.after.sender.station ≡ h.before.sender.station = ap (λ d. d.sender.station) (sym state)
         ∙ well.station in
@@ -214,7 +214,7 @@ module _ (net : Net) (valid : IsNet net) (v : SoloView) (m : Msg) (new : List St
   -- what is sent is for stations
   sends_for_stations : AllByRecursion (IsForStation (length net.sites)) sends
   sends_for_stations =
-      let well = handles-well net h.before m valid old.fits old.suits early in
+      let well = handles-fitting net h.before m valid old.fits old.suits early in
       subst (AllByRecursion (IsForStation (length net.sites))) (ap (λ d. d.sends) h.gives)
       (sends_for net m.key.time h.before.sender.station h.before.sender.next
       (handle net h.before m).sends well.sends)
@@ -229,7 +229,7 @@ module _ (net : Net) (valid : IsNet net) (v : SoloView) (m : Msg) (new : List St
       → IsSolo net (record { states = new; pending = next; trace = v.trace ++ e ∷ [] })
   is_solo is =
       let order = (lawful-stations net valid).order.order in
-      let well = handles-well net h.before m valid old.fits old.suits early in
+      let well = handles-fitting net h.before m valid old.fits old.suits early in
       let state = ap (λ d. d.state) h.gives in
       let handled : h.after.handled ≡ h.before.handled + 1 = ap (λ d. d.handled) (sym state) ∙ well.handled in
       let sum = sum_by-set_one (λ st. st.handled) v.states (m.to - 1) h.before h.after h.is_there in

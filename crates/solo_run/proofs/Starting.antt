@@ -9,7 +9,7 @@ use Rattle.sim_base.specs.declared.message.Msg.{Msg}
 use Rattle.sim_base.specs.declared.decision.Planned.{Planned}
 use Rattle.run_laws.specs.Queue.{insert, insert_all, Sorted}
 use Rattle.run_laws.specs.Machine.{run_to}
-use Rattle.run_laws.specs.World.{openings, set_messages, and_first}
+use Rattle.run_laws.specs.World.{first_messages, set_messages, and_first}
 use Rattle.run_laws.specs.Handlers.{AreForStations}
 use Rattle.run_laws.proofs.Queue.{all_from, sorted_insert_all, insert_all-push}
 use Rattle.run_laws.proofs.ForStations.{pending_for_stations}
@@ -21,7 +21,7 @@ use Rattle.stations.specs.Handling.{StateView}
 use Rattle.stations.specs.Opening.{setup}
 use Rattle.stations.specs.Runs.{simulation}
 use Rattle.stations.proofs.GoodLaws.{lawful-stations, stations-to_stations}
-use Rattle.solo_run.specs.Beginning.{AreOpeningStates, and_put, start_of}
+use Rattle.solo_run.specs.Beginning.{AreOpeningStates, with_first, start_of}
 use Rattle.solo_run.specs.EventLists.{IsForStation}
 use Rattle.solo_run.specs.SoloView.{IsSolo, config_of, state_of}
 use Rattle.solo_run.proofs.OneTurn.{sum_most}
@@ -46,23 +46,23 @@ opening_states-push net n states st before is fits suits =
       ];
     }
 
--- what a station sends first is put among what is pending as if it were one of the openings before
+-- what a station sends first is put among what is pending as if it were one of those before
 put_after : (net : Net) (ms q : List Msg) (o : Option Msg) → insert_all msg_cmp (and_first (simulation net) ms o) q
-    ≡ and_put o (insert_all msg_cmp ms q)
+    ≡ with_first o (insert_all msg_cmp ms q)
 put_after net ms q None = refl
 put_after net ms q (Some m) = insert_all-push msg_cmp ms m q
 
 -- and what it sends first is pending
 pub first_more : (net : Net) (n : ℕ) (q p : List Msg) (first : Option Msg)
-    → p ≡ insert_all msg_cmp (openings (simulation net) n) q → (setup net (n + 1)).first ≡ first
-    → and_put first p ≡ insert_all msg_cmp (openings (simulation net) (n + 1)) q
+    → p ≡ insert_all msg_cmp (first_messages (simulation net) n) q → (setup net (n + 1)).first ≡ first
+    → with_first first p ≡ insert_all msg_cmp (first_messages (simulation net) (n + 1)) q
 first_more net n q p first is sends =
     let number : suc n ≡ n + 1 = omega arith in
-    ap (and_put first) is
-    ∙ (sym (put_after net (openings (simulation net) n) q first)
-    ∙ (ap (λ o. insert_all msg_cmp (and_first (simulation net) (openings (simulation net) n) o) q)
+    ap (with_first first) is
+    ∙ (sym (put_after net (first_messages (simulation net) n) q first)
+    ∙ (ap (λ o. insert_all msg_cmp (and_first (simulation net) (first_messages (simulation net) n) o) q)
     (sym sends ∙ ap (λ k. (setup net k).first) (sym number))
-    ∙ ap (λ k. insert_all msg_cmp (openings (simulation net) k) q) number))
+    ∙ ap (λ k. insert_all msg_cmp (first_messages (simulation net) k) q) number))
 
 -- messages of two lists are inserted one list after the other
 insert_all-append : (xs ys q : List Msg)
@@ -85,26 +85,27 @@ state_of-opening net states opened (suc i) = elim (slice_get_cases states i).1 [
 module _ (net : Net) (valid : IsNet net) (list : List Planned) (states : List StateView) (p : List Msg)
     (firsts : List Msg)
     (opened : AreOpeningStates net (length net.sites) states)
-    (first : firsts ≡ insert_all msg_cmp (openings (simulation net) (length net.sites)) [])
+    (first : firsts ≡ insert_all msg_cmp (first_messages (simulation net) (length net.sites)) [])
     (then_all : p ≡ insert_all msg_cmp (set_messages (simulation net) 0 list) firsts) where
-  -- what is pending is the openings and the decisions
+  -- what is pending are the first messages and the decisions
   pending_is : p ≡ (start_of net list).pending
   pending_is = then_all ∙ (ap (insert_all msg_cmp (set_messages (simulation net) 0 list)) first
-      ∙ sym (insert_all-append (openings (simulation net) (length net.sites)) (set_messages (simulation net) 0 list)
+      ∙ sym (insert_all-append (first_messages (simulation net) (length net.sites))
+      (set_messages (simulation net) 0 list)
       []))
 
   -- with the opening states and these messages, the run is where the world of the clone begins
-  pub begins : config_of net (record { states = states; pending = p; trace = [] }) ≡ start_of net list
-  begins =
+  pub config_of-start : config_of net (record { states = states; pending = p; trace = [] }) ≡ start_of net list
+  config_of-start =
       ap (λ f. record { at = record { states = f; trace = [] }; pending = p })
       (fun_ext (state_of-opening net states opened))
       ∙ ap (λ q. record { at = record { states = λ s. (setup net s).state; trace = [] }; pending = q }) pending_is
 
   -- and where the decisions are for stations, it is a run of the network with no log beyond the limit
-  pub begins_solo : AreForStations (simulation net) list
+  pub IsSolo-start : AreForStations (simulation net) list
       → IsSolo net (record { states = states; pending = p; trace = [] })
   unfolding run_to
-  begins_solo there =
+  IsSolo-start there =
       let law = lawful-stations net valid in
       let none = sum_most (λ st. st.handled) 0 states
       (λ i st at. let h = ap (λ d. d.handled) (opened.each i st at).is in omega (arith, h)) in
@@ -125,7 +126,7 @@ module _ (net : Net) (valid : IsNet net) (list : List Planned) (states : List St
             };
         sorted = subst (λ q. Sorted msg_cmp q) (sym pending_is)
             (sorted_insert_all law.order.order
-            (openings (simulation net) (length net.sites) ++ set_messages (simulation net) 0 list) [] tt);
+            (first_messages (simulation net) (length net.sites) ++ set_messages (simulation net) 0 list) [] tt);
         targets = subst (AllByRecursion (IsForStation (length net.sites))) (sym pending_is)
             (all_from (IsForStation (length net.sites)) (start_of net list).pending
             (λ z i. pending_for_stations law (stations-to_stations net valid) list 0 there z i));

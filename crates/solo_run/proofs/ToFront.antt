@@ -8,7 +8,7 @@ use Rattle.sim_base.specs.Order.{msg_cmp}
 use Rattle.sim_base.specs.declared.message.Msg.{Msg}
 use Rattle.sim_base.specs.declared.entry.Entry.{Entry}
 use Rattle.sim_base.specs.declared.entry.Line.{Line}
-use Rattle.run_laws.specs.Machine.{Config, Next, Reach, stay, go, IsSettled, after, run_to}
+use Rattle.run_laws.specs.Machine.{Config, Next, Reach, stay, go, IsSettled, config_after, run_to}
 use Rattle.run_laws.specs.World.{World, log_of}
 use Rattle.run_laws.specs.Handlers.{AllGood, IsStationOf}
 use Rattle.run_laws.proofs.Machine.{reach_trans, reach_first, is_settled-no_next}
@@ -25,7 +25,7 @@ use Rattle.stations.proofs.Lawful.{site_is}
 use Rattle.stations.proofs.GoodLaws.{lawful-stations}
 use Rattle.solo_run.specs.Limit.{receiver, first_beyond}
 use Rattle.solo_run.specs.SoloView.{SoloView, IsSolo, IsStateAfter, config_of, state_of, with_due}
-use Rattle.solo_run.specs.Turns.{GoesBeyond, IsFull, Stops, StopsAt, HasTurned, run_from, step_of, IsReached}
+use Rattle.solo_run.specs.Turns.{GoesBeyond, IsStationFull, Stops, StopsAt, HasTurned, run_from, step_of, IsReached}
 use Rattle.solo_run.specs.declared.turn.SoloFault.{SoloFault}
 use Rattle.solo_run.specs.declared.turn.SoloFault.TheVariants.{NoMemory, Limit}
 use Rattle.solo_run.proofs.OneTurn.{beyond_append, beyond_here, sum_most}
@@ -105,14 +105,14 @@ module _ (net : Net) (valid : IsNet net) where
   -- the least message is before the front, and its station has handled as many as it may
   goes_beyond : (front : ℕ) (v w : SoloView) (m : Msg) (at_start at_end now station kept : ℕ)
       → IsSolo net v → IsSolo net (with_due m w) → IsReached net front v (with_due m w)
-      → m.key.time < front → IsFull net (m.to - 1) w.states now at_end station kept
+      → m.key.time < front → IsStationFull net (m.to - 1) w.states now at_end station kept
       → now + length v.trace ≡ at_start + length w.trace
       → GoesBeyond net v front at_start at_end station kept
   goes_beyond front v w m at_start at_end now station kept from here ran early full count =
       let law = lawful-stations net valid in
       let fine = fine_reach law.order (world_lawful law) 0 (fine_solo v from) ran in
       let c = config_of net (with_due m w) in
-      let step : Config (World StateView Msg Line) Msg = after msg_cmp (step_of net) c.at m w.pending in
+      let step : Config (World StateView Msg Line) Msg = config_after msg_cmp (step_of net) c.at m w.pending in
       let on = run_reach law.order (world_lawful law) front front c (omega arith) fine in
       let last = run_to msg_cmp (step_of net) (λ m. m.key.time) c front in
       let same : last ≡ run_from net v front = run_is law.order (world_lawful law) front (config_of net v) last
@@ -145,18 +145,19 @@ module _ (net : Net) (valid : IsNet net) where
         before = here.below;
         first = ap (first_beyond net.limit []) whole ∙ (is ∙ ap Some (sym number));
         is_for = number;
-        is_station = subst (IsStationOf (length net.sites)) (sym number) here.targets.0;
+        is_station = let at = subst (IsStationOf (length net.sites)) (sym number) here.targets.0 in
+            record { low = at.0; high = at.1 };
         keeps = full.keeps;
         steps = omega (arith, unmoved, count);
         bounded = trace-short (with_due m w) here;
       }
 
   -- why the turns stop
-  pub stops : (front : ℕ) (v w : SoloView) (m : Msg) (at_start at_end now : ℕ) (fault : SoloFault)
+  pub Stops-StopsAt : (front : ℕ) (v w : SoloView) (m : Msg) (at_start at_end now : ℕ) (fault : SoloFault)
       → IsSolo net v → IsSolo net (with_due m w) → IsReached net front v (with_due m w)
       → m.key.time < front → StopsAt net (m.to - 1) w.states now at_end fault
       → now + length v.trace ≡ at_start + length w.trace
       → Stops net v front at_start at_end fault
-  stops front v w m at_start at_end now NoMemory from here ran early at count = tt
-  stops front v w m at_start at_end now (Limit station kept) from here ran early at count =
+  Stops-StopsAt front v w m at_start at_end now NoMemory from here ran early at count = tt
+  Stops-StopsAt front v w m at_start at_end now (Limit station kept) from here ran early at count =
       goes_beyond front v w m at_start at_end now station kept from here ran early at count

@@ -4,7 +4,7 @@ use Rattle.sim_base.specs.Order.{msg_cmp}
 use Rattle.run_laws.specs.Queue.{insert}
 use Rattle.sim_base.specs.declared.decision.Planned.{Planned}
 use Rattle.net_model.specs.Net.{Net}
-use Rattle.run_laws.specs.World.{World, begin}
+use Rattle.run_laws.specs.World.{World, first_world}
 use Rattle.run_laws.specs.Machine.{Config}
 use Rattle.sim_base.specs.declared.message.Msg.{Msg}
 use Rattle.sim_base.specs.declared.entry.Line.{Line}
@@ -15,7 +15,7 @@ use Rattle.stations.specs.Runs.{simulation}
 
 -- the world of a clone with these decisions, before anything was handled
 abbrev pub start_of : Net → List Planned → Config (World StateView Msg Line) Msg
-start_of net plans = begin (simulation net) plans
+start_of net plans = first_world (simulation net) plans
 
 -- the state at place i is the opening state of the station of number i + 1
 pub record IsOpeningState (net : Net) (i : ℕ) (st : StateView) : Type 0 where
@@ -29,6 +29,6 @@ pub record AreOpeningStates (net : Net) (n : ℕ) (states : List StateView) : Ty
   pub each : (i : ℕ) (st : StateView) → slice_get states i ≡ Some st → IsOpeningState net i st
 
 -- what a station sends first, if anything, becomes pending
-abbrev pub and_put : Option Msg → List Msg → List Msg
-and_put None q = q
-and_put (Some m) q = insert msg_cmp m q
+abbrev pub with_first : Option Msg → List Msg → List Msg
+with_first None q = q
+with_first (Some m) q = insert msg_cmp m q

@@ -4,11 +4,10 @@ use Rattle.sim_base.specs.Order.{msg_cmp}
 use Rattle.sim_base.specs.declared.message.Msg.{Msg}
 use Rattle.sim_base.specs.declared.entry.Entry.{Entry}
 use Rattle.sim_base.specs.declared.entry.Line.{Line}
-use Rattle.run_laws.specs.Machine.{Config, after, Reach}
+use Rattle.run_laws.specs.Machine.{Config, config_after, Reach}
 use Rattle.run_laws.specs.Runs as runs
 use Rattle.run_laws.specs.World.{World, world_step}
-use Rattle.run_laws.specs.Handlers.{IsStationOf}
-use Rattle.net_model.specs.Net.{Net}
+use Rattle.net_model.specs.Net.{Net, HasStation}
 use Rattle.stations.specs.Fits.{FitsState, SuitsNet}
 use Rattle.stations.specs.Handling.{StateView, handle}
 use Rattle.stations.specs.Runs.{simulation}
@@ -42,7 +41,8 @@ pub record HandlesAt (net : Net) (i : ℕ) (m : Msg) (old new : List StateView) 
   pub fits : FitsState after
 
 -- the station at place i has handled as many messages as it may, and no step was taken
-pub record IsFull (net : Net) (i : ℕ) (states : List StateView) (old_steps new_steps station kept : ℕ) : Type 0 where
+pub record IsStationFull (net : Net) (i : ℕ) (states : List StateView) (old_steps new_steps station kept : ℕ) :
+    Type 0 where
   pub state : StateView
   pub is_there : slice_get states i ≡ Some state
   pub full : net.limit ≤ state.handled
@@ -53,11 +53,12 @@ pub record IsFull (net : Net) (i : ℕ) (states : List StateView) (old_steps new
 -- why a step of the station at place i fails: out of memory needs no cause, and at the limit it is full
 abbrev pub StopsAt : Net → ℕ → List StateView → ℕ → ℕ → SoloFault → Type 0
 StopsAt net i states old_steps new_steps NoMemory = Unit {0}
-StopsAt net i states old_steps new_steps (Limit station kept) = IsFull net i states old_steps new_steps station kept
+StopsAt net i states old_steps new_steps (Limit station kept) =
+    IsStationFull net i states old_steps new_steps station kept
 
 -- a message that was due is handled: the run comes to where the turn leads
 abbrev pub HasTurned : Net → SoloView → Msg → SoloView → Type 0
-HasTurned net v m new = config_of net new ≡ after msg_cmp (step_of net) (config_of net v).at m v.pending
+HasTurned net v m new = config_of net new ≡ config_after msg_cmp (step_of net) (config_of net v).at m v.pending
 
 -- the run to a front goes beyond the limit: up to the first such entry all was handled, one step for each, and no
 -- station has handled more than the limit
@@ -69,7 +70,7 @@ pub record GoesBeyond (net : Net) (v : SoloView) (front old_steps new_steps stat
   pub before : first_beyond net.limit [] done ≡ None
   pub first : first_beyond net.limit [] (run_from net v front).at.trace ≡ Some station
   pub is_for : station ≡ entry.msg.to
-  pub is_station : IsStationOf (length net.sites) station
+  pub is_station : HasStation net station
   pub keeps : kept ≡ net.limit
   pub steps : new_steps + length v.trace ≡ old_steps + length done
   pub bounded : length done ≤ length net.sites * net.limit

@@ -6,9 +6,9 @@ ghost use Rattle.net_model.specs.Net.{Net};
 ghost use Rattle.net_model.specs.Rules.{IsNet};
 ghost use Rattle.run_laws.specs.Handlers.{IsStationOf};
 ghost use Rattle.run_laws.specs.Queue.{insert_all};
-ghost use Rattle.run_laws.specs.World.{openings, set_messages};
+ghost use Rattle.run_laws.specs.World.{first_messages, set_messages};
 ghost use Rattle.stations.specs.Runs.{simulation};
-ghost use Rattle.solo_run.specs.Beginning.{AreOpeningStates, and_put};
+ghost use Rattle.solo_run.specs.Beginning.{AreOpeningStates, with_first};
 ghost use Rattle.solo_run.specs.EventLists.{IsForStation};
 
 use crate::event_list::EventList;
@@ -22,7 +22,7 @@ use std::alloc::Global;
 // What a station sends first, if anything, becomes pending.
 fn put_first(pending: &mut EventList, first: Option<Msg>) -> Result<(), NoMemory>
     requires first { IfSome first (IsForStation pending.old.stations) }
-    ensures ok { OnOk result (pending.new.messages ≡ and_put first pending.old.messages) }
+    ensures ok { OnOk result (pending.new.messages ≡ with_first first pending.old.messages) }
     ensures stations { pending.new.stations ≡ pending.old.stations }
 {
     if let Some(msg) = first {
@@ -41,7 +41,7 @@ pub(crate) fn open_all(
     ensures valid { IsNet model.now }
     ensures opened { IfOk result (λ states. AreOpeningStates model.now (length model.now.sites) states.items) }
     ensures first { OnOk result (pending.new.messages ≡ insert_all msg_cmp
-        (openings (simulation model.now) (length model.now.sites)) pending.old.messages) }
+        (first_messages (simulation model.now) (length model.now.sites)) pending.old.messages) }
     ensures stations { pending.new.stations ≡ pending.old.stations }
 {
     let mut states = Vec::new(alloc);
@@ -54,7 +54,7 @@ pub(crate) fn open_all(
 }
 
 /// The decisions of a clone become pending messages, numbered from 0.
-pub(crate) fn plan_all(pending: &mut EventList, list: &[Planned]) -> Result<(), NoMemory>
+pub(crate) fn put_decisions(pending: &mut EventList, list: &[Planned]) -> Result<(), NoMemory>
     requires stations { AllByRecursion (λ p. IsStationOf pending.old.stations p.station) list.now }
     ensures ok { (net : Net) → OnOk result
         (pending.new.messages ≡ insert_all msg_cmp (set_messages (simulation net) 0 list.now) pending.old.messages) }

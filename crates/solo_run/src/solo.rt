@@ -10,7 +10,7 @@ ghost use Rattle.solo_run.specs.SoloView.{IsSolo, config_of};
 ghost use Rattle.solo_run.specs.Turns.{Stops, run_from};
 
 use crate::event_list::EventList;
-use crate::opening::{open_all, plan_all};
+use crate::opening::{open_all, put_decisions};
 use crate::turn::SoloFault;
 use arrayvec::ArrayVec;
 use log_chain::Log;
@@ -50,7 +50,7 @@ impl Solo {
     {
         let mut pending = EventList::new(alloc, model.len())?;
         let states = open_all(alloc, model, &mut pending)?;
-        plan_all(&mut pending, list)?;
+        put_decisions(&mut pending, list)?;
         Ok(Solo {
             states,
             pending,

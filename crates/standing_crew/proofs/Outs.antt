@@ -68,27 +68,28 @@ AreOutFrom-at work n (Some one ∷ outs) (suc k) d all less =
 
 -- what the next of the callers has out
 pub AreOutFrom-next : {W X : Type 0} (work : W) (outs : List (Option (PartView W X))) (k : ℕ)
-    (line : Option (PartView W X))
-    → AreOutFrom work 0 outs → (k < length outs) × (line ≡ get_or outs k line)
-    → (part : PartView W X) × (line ≡ Some part) × (part.work ≡ work)
+    (caller : Option (PartView W X))
+    → AreOutFrom work 0 outs → (k < length outs) × (caller ≡ get_or outs k caller)
+    → (part : PartView W X) × (caller ≡ Some part) × (part.work ≡ work)
     × (part.first ≡ 0 + length (items_out (take k outs)))
-AreOutFrom-next work outs k line all next =
-    let out = AreOutFrom-at work 0 outs k line all next.0 in
+AreOutFrom-next work outs k caller all next =
+    let out = AreOutFrom-at work 0 outs k caller all next.0 in
     (out.0, next.1 ∙ out.1, out.2, out.3)
 
 -- ---- EachAnsweredFrom
 
 -- the answers to the parts so far, and then those to the next part
 pub EachAnsweredFrom-next : {W X Y : Type 0} (answers : W → ℕ → X → Y → Type 0) (work : W)
-    (all seen : List (Option (PartView W X))) (line : Option (PartView W X)) (part : PartView W X) (outs more : List Y)
-    → seen ≡ take (length seen) all → line ≡ Some part → part.work ≡ work
+    (all seen : List (Option (PartView W X))) (caller : Option (PartView W X)) (part : PartView W X)
+    (outs more : List Y)
+    → seen ≡ take (length seen) all → caller ≡ Some part → part.work ≡ work
     → part.first ≡ 0 + length (items_out (take (length seen) all))
     → EachAnsweredFrom (answers work) 0 (items_out seen) outs → IsAnsweredBy answers part more
-    → EachAnsweredFrom (answers work) 0 (items_out (seen ++ line ∷ [])) (outs ++ more)
-EachAnsweredFrom-next answers work all seen line part outs more so_far here same first old new =
+    → EachAnsweredFrom (answers work) 0 (items_out (seen ++ caller ∷ [])) (outs ++ more)
+EachAnsweredFrom-next answers work all seen caller part outs more so_far here same first old new =
     let begins : part.first ≡ 0 + length (items_out seen) =
     first ∙ ap (λ l. 0 + length (items_out l)) (sym so_far) in
-    let longer : items_out (seen ++ line ∷ []) ≡ items_out seen ++ part.items =
+    let longer : items_out (seen ++ caller ∷ []) ≡ items_out seen ++ part.items =
     ap (λ o. items_out (seen ++ o ∷ [])) here ∙ items_out-push seen part in
     let next : EachAnsweredFrom (answers work) (0 + length (items_out seen)) part.items more =
     subst (λ w. EachAnsweredFrom (answers w) (0 + length (items_out seen)) part.items more) same

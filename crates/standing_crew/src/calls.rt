@@ -15,14 +15,14 @@ use std::alloc::Global;
 use std::sync::{Arc, Wait};
 
 /// The caller's end of one worker's mailbox.
-pub type Line<W> = Caller<Part<W>, Answer<W>, InParts>;
+pub type PartCaller<W> = Caller<Part<W>, Answer<W>, InParts>;
 
 /// What is out after a call has given its parts.
 pub(crate) struct PartsOut<W: Work> {
-    /// The lines of the workers that were given a part, in the order of the parts.
-    pub busy: Vec<Line<W>>,
-    /// The lines of the others.
-    pub idle: Vec<Line<W>>,
+    /// The callers of the workers that were given a part, in the order of the parts.
+    pub busy: Vec<PartCaller<W>>,
+    /// The callers of the others.
+    pub idle: Vec<PartCaller<W>>,
     /// The number of the first task that is left to the caller.
     pub first: u32,
     /// The items that are left to the caller.
@@ -30,10 +30,10 @@ pub(crate) struct PartsOut<W: Work> {
 }
 
 /// Gives each worker its run of neighbouring items and wakes it, as long as more items are left than one run has. What
-/// is left then is the caller's own. The idle lines stand behind the busy ones, so the workers keep their numbers.
+/// is left then is the caller's own. The idle callers stand behind the busy ones, so the workers keep their numbers.
 pub(crate) fn hand_out<W: Work + Send + Drop>(
     alloc: Global,
-    lines: Vec<Line<W>>,
+    callers: Vec<PartCaller<W>>,
     bell: &Bell,
     work: &Arc<W>,
     items: Vec<W::In>,
@@ -42,25 +42,25 @@ pub(crate) fn hand_out<W: Work + Send + Drop>(
     // what it asks: items for at most `MOST_TASKS` tasks, each ready for its task, and lines that nothing is out on
     requires few { length items.items ≤ MOST_TASKS }
     requires ready { EachReady (W.ready work.now.value) items.items }
-    requires idle { All (λ line. line ≡ None) lines.items }
-    // what it gives: the parts that are out, one after the other from task 0 on, and lines that nothing is out on
+    requires idle { All (λ caller. caller ≡ None) callers.items }
+    // what it gives: the parts that are out, one after the other from task 0 on, and callers that nothing is out on
     ensures out { IfOk result (λ r. AreOutFrom work.now.value 0 r.busy.items) }
-    ensures idle { IfOk result (λ r. All (λ line. line ≡ None) r.idle.items) }
+    ensures idle { IfOk result (λ r. All (λ caller. caller ≡ None) r.idle.items) }
     // what is kept: all items in their order, those that are out and then the caller's own, from `first` on
     ensures items { IfOk result (λ r. items_out r.busy.items ++ r.own.items ≡ items.items) }
     ensures first { IfOk result (λ r. r.first ≡ length (items_out r.busy.items)) }
 {
-    let mut busy = Vec::with_capacity(alloc, lines.len())?;
-    let mut idle = Vec::with_capacity(alloc, lines.len())?;
+    let mut busy = Vec::with_capacity(alloc, callers.len())?;
+    let mut idle = Vec::with_capacity(alloc, callers.len())?;
     let mut first = 0;
     let mut own = items;
-    for line in lines {
+    for caller in callers {
         if own.len() <= size {
-            add(&mut idle, line)?;
+            add(&mut idle, caller)?;
         } else {
             let (run, rest) = cut(own, size)?;
-            let line = give(line, work, first, run)?;
-            add(&mut busy, line)?;
+            let caller = give(caller, work, first, run)?;
+            add(&mut busy, caller)?;
             bell.wake(busy.len());
             first += size as u32;
             own = rest;
@@ -76,19 +76,19 @@ pub(crate) fn hand_out<W: Work + Send + Drop>(
 
 /// Gives one worker its part.
 fn give<W: Work + Send + Drop>(
-    mut line: Line<W>,
+    mut caller: PartCaller<W>,
     work: &Arc<W>,
     first: u32,
     items: Vec<W::In>,
-) -> Result<Line<W>, NoMemory>
-    requires idle { line ≡ None }
+) -> Result<PartCaller<W>, NoMemory>
+    requires idle { caller ≡ None }
     requires few { first + length items.items ≤ MOST_TASKS }
     requires ready { EachReadyFrom (W.ready work.now.value) first items.items }
     ensures given { IfOk result (λ r. r ≡ Some (record { work = work.now.value; first = first; items = items.items })) }
 {
     let work = work.clone()?;
-    line.give(Part::new(work, first, items));
-    Ok(line)
+    caller.give(Part::new(work, first, items));
+    Ok(caller)
 }
 
 /// Runs the part of one worker if it has not begun it, else waits for its answer.
@@ -96,38 +96,38 @@ fn finish<W: Work + Send + Drop, G: Gate, R: Wait>(
     rt: &R,
     alloc: Global,
     gate: &G,
-    line: &mut Line<W>,
+    caller: &mut PartCaller<W>,
 ) -> Answer<W>
-    requires given { (part : PartView W W.In) × (line.old ≡ Some part) }
-    ensures idle { line.new ≡ None }
-    ensures answers { (part : PartView W W.In) → line.old ≡ Some part
+    requires given { (part : PartView W W.In) × (caller.old ≡ Some part) }
+    ensures idle { caller.new ≡ None }
+    ensures answers { (part : PartView W W.In) → caller.old ≡ Some part
         → IfOk result (λ outs. IsAnsweredBy W.answers part outs.items) }
 {
-    match line.take_back() {
+    match caller.take_back() {
         Some(part) => part.run(rt, alloc, gate, 0),
-        None => line.collect(rt),
+        None => caller.collect(rt),
     }
 }
 
-/// The answers to all parts that are out, in their order, and the lines, which are idle again.
+/// The answers to all parts that are out, in their order, and the callers, which are idle again.
 pub(crate) fn gather<W: Work + Send + Drop, G: Gate, R: Wait>(
     rt: &R,
     alloc: Global,
     gate: &G,
     _work: &W,
-    busy: Vec<Line<W>>,
-) -> Result<(Vec<Line<W>>, Vec<W::Out>), NoMemory>
+    busy: Vec<PartCaller<W>>,
+) -> Result<(Vec<PartCaller<W>>, Vec<W::Out>), NoMemory>
     requires out { AreOutFrom _work.now 0 busy.items }
-    ensures idle { IfOk result (λ r. All (λ line. line ≡ None) r.0.items) }
+    ensures idle { IfOk result (λ r. All (λ caller. caller ≡ None) r.0.items) }
     ensures answers { IfOk result (λ r.
         EachAnsweredFrom (W.answers _work.now) 0 (items_out busy.items) r.1.items) }
 {
-    let mut lines = Vec::with_capacity(alloc, busy.len())?;
+    let mut callers = Vec::with_capacity(alloc, busy.len())?;
     let mut outs = Vec::new(alloc);
-    for mut line in busy {
-        let more = finish(rt, alloc, gate, &mut line)?;
+    for mut caller in busy {
+        let more = finish(rt, alloc, gate, &mut caller)?;
         add_all(&mut outs, more)?;
-        add(&mut lines, line)?;
+        add(&mut callers, caller)?;
     }
-    Ok((lines, outs))
+    Ok((callers, outs))
 }

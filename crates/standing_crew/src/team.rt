@@ -4,7 +4,7 @@ ghost use Rattle.crew_pool.specs.Tasks.{EachReady, AnswersTo, EachAnswers};
 ghost use Rattle.crew_pool.specs.declared.crew.TheConstants.{MOST_TASKS};
 
 use crate::bell::Bell;
-use crate::calls::{Line, PartsOut, gather, hand_out};
+use crate::calls::{PartCaller, PartsOut, gather, hand_out};
 use crate::member::Member;
 use crate::part::run_part;
 use crew_pool::{Gate, Work, Workers, add, add_all, tick_costs};
@@ -17,7 +17,7 @@ use std::sync::{Arc, Wait};
 /// The caller's end: workers that stay from call to call. No clause sees how many they are, or which of them ran what.
 #[derive(Drop)]
 pub struct Team<W: Work> {
-    lines: Vec<Line<W>>,
+    callers: Vec<PartCaller<W>>,
     bell: Arc<Bell>,
 }
 
@@ -28,24 +28,24 @@ impl<W: Work> std::marker::Model for Team<W> {
 
     ghost view = { λ _. tt };
 
-    ghost invariant = { λ t. All (λ line. line ≡ None) t.lines.items };
+    ghost invariant = { λ t. All (λ caller. caller ≡ None) t.callers.items };
 }
 
 impl<W: Work + Send + Drop> Team<W> {
     /// A team of so many workers, of which the caller is one, with the ends of the others.
     pub fn begin(alloc: Global, workers: Workers) -> Result<(Team<W>, Vec<Member<W>>), NoMemory> {
-        let mut lines = Vec::new(alloc);
+        let mut callers = Vec::new(alloc);
         let mut members = Vec::new(alloc);
         let mut wakers = Vec::new(alloc);
         for number in 1..workers.count {
-            let (line, parts) = mailbox::open(alloc)?;
+            let (caller, parts) = mailbox::open(alloc)?;
             let parker = Parker::new(alloc)?;
             add(&mut wakers, parker.unparker().clone()?)?;
-            add(&mut lines, line)?;
+            add(&mut callers, caller)?;
             add(&mut members, Member::new(number, parts, parker))?;
         }
         let bell = Arc::new(alloc, Bell::new(wakers))?;
-        Ok((Team { lines, bell }, members))
+        Ok((Team { callers, bell }, members))
     }
 
     /// The bell of this team, for whoever starts its workers.
@@ -73,20 +73,20 @@ impl<W: Work + Send + Drop> Team<W> {
         // what is counted: the steps that the answers took
         ensures cost { IfOk result (λ r. steps.new ≡ steps.old + sum_by W.cost r.1.items) }
     {
-        let Team { lines, bell } = self;
-        let size = run_size(&*work, items.len(), lines.len());
+        let Team { callers, bell } = self;
+        let size = run_size(&*work, items.len(), callers.len());
         let PartsOut {
             busy,
             idle,
             first,
             own,
-        } = hand_out(alloc, lines, &bell, &work, items, size)?;
+        } = hand_out(alloc, callers, &bell, &work, items, size)?;
         let own = run_part(rt, alloc, gate, 0, &*work, first, own)?;
-        let (mut lines, mut outs) = gather(rt, alloc, gate, &*work, busy)?;
-        add_all(&mut lines, idle)?;
+        let (mut callers, mut outs) = gather(rt, alloc, gate, &*work, busy)?;
+        add_all(&mut callers, idle)?;
         add_all(&mut outs, own)?;
         tick_costs(&*work, outs.as_slice(), steps);
-        Ok((Team { lines, bell }, outs))
+        Ok((Team { callers, bell }, outs))
     }
 }
 

@@ -1,11 +1,11 @@
 -- What a delay keeps, and what it sends.
-use Rattle.std.proofs.Common.{◌≡◌, ℕ, ◌+◌, ◌≤◌, length, Bool, true, false, if◌then◌else◌, refl, arith}
+use Rattle.std.proofs.Common.{◌≡◌, ℕ, ◌+◌, ◌≤◌, Bool, true, false, if◌then◌else◌, refl, arith}
 use Rattle.std.specs.List.{AllByRecursion}
 use Rattle.sim_base.specs.declared.message.Change.{Change}
 use Rattle.sim_base.specs.declared.message.Payload.{Payload}
 use Rattle.sim_base.specs.declared.message.Payload.TheVariants.{Tick, Job, Done, Set}
 use Rattle.net_model.specs.declared.station.Kind.TheVariants as kind
-use Rattle.net_model.specs.Net.{Net, Site}
+use Rattle.net_model.specs.Net.{Net, Site, HasStation}
 use Rattle.net_model.specs.Rules.{IsLink}
 use Rattle.stations.specs.declared.kind_state.DelayState.{DelayState}
 use Rattle.stations.specs.Changes.{is_accepted}
@@ -19,7 +19,7 @@ use Rattle.stations.specs.declared.sender.TheConstants.{MOST_SENDS}
 
 module _ (net : Net) (site : Site) (now : ℕ) (links : AllByRecursion (IsLink net) site.links)
     (ahead : 1 ≤ net.lookahead)
-    (a : Outgoing) (first : 1 ≤ a.sender.station) (last : a.sender.station ≤ length net.sites) where
+    (a : Outgoing) (is_station : HasStation net a.sender.station) where
   -- ---- delay_set
 
   -- after a change a delay fits one message more
@@ -27,6 +27,7 @@ module _ (net : Net) (site : Site) (now : ℕ) (links : AllByRecursion (IsLink n
       → FitsDelay handled s → FitsDelay (handled + 1) (delay_set site c s)
   delay_set-fits lo hi handled c s is f = by (is_accepted site c) refl
     where
+      -- by whether it takes the change
       by : (t : Bool) → is_accepted site c ≡ t
           → FitsDelay (handled + 1) (if t then record s { lo = c.a; hi = c.b } else s)
       by true accepted = record { range = is_accepted-delay lo hi site c is accepted; passed = omega (arith, f.passed) }

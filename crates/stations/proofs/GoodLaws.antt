@@ -41,7 +41,7 @@ module _ (net : Net) (valid : IsNet net) where
   -- ---- handle
 
   -- a good state handles a message and stays good, and sends as stations send
-  pub record HandlesGood (s : ℕ) (st : StateView) (m : Msg) : Type 0 where
+  pub record HandlesGoodState (s : ℕ) (st : StateView) (m : Msg) : Type 0 where
     pub good : IsGood net s (handle net st m).state
     pub sends : AreSends net m.key.time s st.sender.next (handle net st m).sends
     pub few : length (handle net st m).sends ≤ MOST_SENDS
@@ -50,7 +50,7 @@ module _ (net : Net) (valid : IsNet net) where
   -- so it is at a station of the network
   handles-at_station : (site : Site) (st : StateView) (m : Msg) → site_at net st.sender.station ≡ Some site
       → IsOfKind (site_of net st.sender.station) (site_of net st.sender.station).kind st.kind
-      → GoodKind st.handled st.kind → HandlesGood st.sender.station st m
+      → GoodKind st.handled st.kind → HandlesGoodState st.sender.station st m
   unfolding handle
   handles-at_station site st m there of good =
       let at = site_of net st.sender.station in
@@ -58,7 +58,7 @@ module _ (net : Net) (valid : IsNet net) where
       (site_valid net st.sender.station site valid there) in
       let number = number_in net st.sender.station site there in
       let begin : Outgoing = record { sender = st.sender; sends = [] } in
-      let after = kind_on-good net at m.key.time lawful.links valid.ahead begin number.0 number.1 at.kind st.handled
+      let after = kind_on-good net at m.key.time lawful.links valid.ahead begin number at.kind st.handled
       m.payload st.kind refl of good in
       let g = after.grown in
       let count = ap length g.sends in
@@ -72,7 +72,7 @@ module _ (net : Net) (valid : IsNet net) where
   -- a message to a number that no station has is handled as a sink's
   handles-at_no_station : (sender : Sender) (handled : ℕ) (k : KindState) (m : Msg)
       → site_of net sender.station ≡ no_site → IsOfKind no_site kind.Sink k
-      → HandlesGood sender.station (record { sender = sender; handled = handled; kind = k }) m
+      → HandlesGoodState sender.station (record { sender = sender; handled = handled; kind = k }) m
   unfolding handle
   handles-at_no_station sender handled (Sink s) m none of =
       record {
@@ -89,7 +89,7 @@ module _ (net : Net) (valid : IsNet net) where
   -- so a state whose kind is that of its own number does, whatever the number
   handles-own : (st : StateView) (m : Msg)
       → IsOfKind (site_of net st.sender.station) (site_of net st.sender.station).kind st.kind
-      → GoodKind st.handled st.kind → HandlesGood st.sender.station st m
+      → GoodKind st.handled st.kind → HandlesGoodState st.sender.station st m
   handles-own st m of good = elim (site_cases net st.sender.station) [
     | inl found ↦ handles-at_station found.0 st m found.1 of good
     | inr none ↦ handles-at_no_station st.sender st.handled st.kind m none
@@ -97,9 +97,9 @@ module _ (net : Net) (valid : IsNet net) where
   ]
 
   -- a good state stays good, and sends as stations send
-  pub handles-good : (s : ℕ) (st : StateView) (m : Msg) → IsGood net s st → HandlesGood s st m
+  pub handles-good : (s : ℕ) (st : StateView) (m : Msg) → IsGood net s st → HandlesGoodState s st m
   handles-good s st m good =
-      subst (λ (r : ℕ). HandlesGood r st m) good.station
+      subst (λ (r : ℕ). HandlesGoodState r st m) good.station
       (handles-own st m (subst (λ (r : ℕ). IsOfKind (site_of net r) (site_of net r).kind st.kind)
       (sym good.station) good.kind) good.fits)
 
@@ -183,7 +183,7 @@ module _ (net : Net) (valid : IsNet net) where
     set_message = λ k p. refl;
     sends = λ s st m z there good i. let sent =
         (among net valid m.key.time s st.sender.next (handle net st m).sends z
-        (handles-good net valid s st m good).sends i).is in (omega (arith, sent.first), sent.last);
+        (handles-good net valid s st m good).sends i).is.is_station in (omega (arith, sent.low), sent.high);
   }
 
   -- a station numbers what it sends, each number once, and the number of a decision is its place in the list

@@ -7,7 +7,7 @@ use Rattle.sim_base.specs.declared.message.Job.{Job as JobOf}
 use Rattle.sim_base.specs.declared.message.Payload.{Payload}
 use Rattle.sim_base.specs.declared.message.Payload.TheVariants.{Job}
 use Rattle.net_model.specs.declared.station.Link.{Link}
-use Rattle.net_model.specs.Net.{Net}
+use Rattle.net_model.specs.Net.{Net, HasStation}
 use Rattle.net_model.specs.Rules.{IsLink}
 use Rattle.sim_draw.specs.Drawing.{range_of}
 use Rattle.stations.specs.Sending.{Outgoing, send, draw, send_later, send_over, after_pick, link_by, route_by}
@@ -86,9 +86,9 @@ module _ (net : Net) (now : ℕ) where
   grown-send : (time to : ℕ) (payload : Payload) (a o : Outgoing) → o.sender.station ≡ a.sender.station
       → o.sender.next ≡ a.sender.next → o.sends ≡ a.sends → o.sender.draws.count ≤ a.sender.draws.count + 1
       → now < time → (to ≢ a.sender.station → now + net.lookahead ≤ time)
-      → (IsJob payload → now + net.lookahead ≤ time) → 1 ≤ to → to ≤ length net.sites
+      → (IsJob payload → now + net.lookahead ≤ time) → HasStation net to
       → Grown 1 a (send time to payload o)
-  grown-send time to payload a o station next sends draws later far on_link first last =
+  grown-send time to payload a o station next sends draws later far on_link is_station =
       let m : Msg = record {
         key = record { time = time; sender = o.sender.station; number = o.sender.next };
         to = to;
@@ -108,8 +108,7 @@ module _ (net : Net) (now : ℕ) where
             later = later;
             far = far;
             on_link = on_link;
-            first = first;
-            last = last;
+            is_station = is_station;
           },
           tt,
         );
@@ -136,13 +135,13 @@ module _ (net : Net) (now : ℕ) where
     are = tt;
   }
 
-  module _ (a : Outgoing) (first : 1 ≤ a.sender.station) (last : a.sender.station ≤ length net.sites) where
+  module _ (a : Outgoing) (is_station : HasStation net a.sender.station) where
     -- a message to the station itself
     pub grown-later : (lo hi : ℕ) (payload : Payload) → ¬ IsJob payload → 1 ≤ lo
         → Grown 1 a (send_later now lo hi payload a)
     grown-later lo hi payload own low =
         grown-send (now + range_of lo hi a.sender.draws) a.sender.station payload a (draw a) refl refl refl
-        (omega arith) (omega arith) (λ other. absurd (other refl)) (λ job. absurd (own job)) first last
+        (omega arith) (omega arith) (λ other. absurd (other refl)) (λ job. absurd (own job)) is_station
 
   -- ---- send_over
 
@@ -165,7 +164,7 @@ module _ (net : Net) (now : ℕ) where
       let valid = AllByRecursion-slice_get (IsLink net) links i link are (sym is) in
       grown-send ((now + extra) + link.delay) link.to (Job job) a o station next sends draws
       (omega (arith, valid.slow)) (λ other. omega (arith, valid.slow))
-      (λ job. omega (arith, valid.slow)) valid.first valid.last
+      (λ job. omega (arith, valid.slow)) valid.is_station
 
   -- a job over a link that is picked by weights
   pub grown-route : (links : List Link) (weights : List ℕ) (job : JobOf) (a : Outgoing)

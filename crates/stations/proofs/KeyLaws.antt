@@ -52,8 +52,7 @@ module _ (net : Net) (valid : IsNet net) where
         ];
     number = numbers_fit (lawful-stations net valid) (stations-to_stations net valid)
         (fresh-stations net valid) few-numbers
-        c front counted.there WORD_NUMBERS m (λ s here beyond. counted.within s here.0 here.1 beyond) counted.short
-        bound-enough i;
+        c front counted.there WORD_NUMBERS m counted.within counted.short bound-enough i;
   }
 
   -- so has the message of each entry of a log, which comes before the front

@@ -1,14 +1,14 @@
 -- What every kind keeps, and what it sends.
-use Rattle.std.proofs.Common.{◌≡◌, ℕ, ◌+◌, ◌<◌, ◌≤◌, length, sym, ap, subst}
+use Rattle.std.proofs.Common.{◌≡◌, ℕ, ◌+◌, ◌<◌, ◌≤◌, sym, ap, subst}
 use Rattle.std.specs.List.{AllByRecursion}
 use Rattle.sim_base.specs.declared.message.Payload.{Payload}
 use Rattle.net_model.specs.declared.station.Kind.{Kind}
 use Rattle.net_model.specs.declared.station.Kind.TheVariants as kind
-use Rattle.net_model.specs.Net.{Net, Site}
+use Rattle.net_model.specs.Net.{Net, Site, HasStation, is_router}
 use Rattle.net_model.specs.Rules.{IsLink}
 use Rattle.stations.specs.declared.kind_state.KindState.{KindState}
 use Rattle.stations.specs.declared.kind_state.KindState.TheVariants.{Source, Server, Delay, Router, Sink}
-use Rattle.stations.specs.Fits.{FitsKind, GoodKind, IsOfKind, is_router}
+use Rattle.stations.specs.Fits.{FitsKind, GoodKind, IsOfKind}
 use Rattle.stations.specs.Sending.{Outgoing, Reaction}
 use Rattle.stations.specs.Routers.{router_on}
 use Rattle.stations.specs.Handling.{kind_on}
@@ -41,21 +41,21 @@ module _ (net : Net) (site : Site) (now : ℕ) where
 
 module _ (net : Net) (site : Site) (now : ℕ) (links : AllByRecursion (IsLink net) site.links)
     (ahead : 1 ≤ net.lookahead)
-    (a : Outgoing) (first : 1 ≤ a.sender.station) (last : a.sender.station ≤ length net.sites) where
+    (a : Outgoing) (is_station : HasStation net a.sender.station) where
   -- whatever message comes, a station of any kind keeps what it should, and sends as stations send
   pub kind_on-good : (k : Kind) (handled : ℕ) (p : Payload) (s : KindState) → site.kind ≡ k → IsOfKind site k s
       → GoodKind handled s → IsGoodReaction net site now handled a (kind_on net site now p s a)
   kind_on-good (kind.Source lo hi jobs class) handled p (Source s) is of f =
-      let r = source_on-good net site now links ahead a first last lo hi jobs class handled p s is f in
+      let r = source_on-good net site now links ahead a is_station lo hi jobs class handled p s is f in
       record { good = r.0; kind = rw is tt; grown = r.1 }
   kind_on-good (kind.Server servers room lo hi by_class) handled p (Server s) is of f =
-      let r = server_on-good net site now links ahead a first last handled p s f in
+      let r = server_on-good net site now links ahead a is_station handled p s f in
       record { good = r.holds; kind = rw is tt; grown = r.grown }
   kind_on-good (kind.Delay lo hi) handled p (Delay s) is of f =
-      let r = delay_on-good net site now links ahead a first last lo hi handled p s is f in
+      let r = delay_on-good net site now links ahead a is_station lo hi handled p s is f in
       record { good = r.0; kind = rw is tt; grown = r.1 }
   kind_on-good (kind.Router turn) handled p (Router s) is of f =
-      let r = router_on-good net site now links ahead a first last handled p s (ap is_router is) of f in
+      let r = router_on-good net site now links ahead a is_station handled p s (ap is_router is) of f in
       record {
         good = r.0;
         kind = subst (λ (q : Kind). IsOfKind site q (Router (router_on site now p s a).state))

@@ -4,7 +4,7 @@ use Rattle.std.proofs.Common.{length, refl, sym, ap, subst, Some, unwrap_or, ari
 use Rattle.std.proofs.lemmas.List.{nil_from_length}
 use Rattle.std.proofs.lemmas.Option.{slice_get_within}
 use Rattle.sim_base.proofs.ListLaws.{all_weaker}
-use Rattle.net_model.specs.Net.{Net, Site, site_at, site_of, no_site}
+use Rattle.net_model.specs.Net.{Net, Site, HasStation, site_at, site_of, no_site}
 use Rattle.net_model.specs.Rules.{IsNet, IsSite, IsLink, IsWeight}
 use Rattle.net_model.specs.declared.limits.TheConstants.{MOST_TIME}
 use Rattle.stations.specs.declared.kind_state.KindState.{KindState}
@@ -26,9 +26,10 @@ site_valid net zero site valid is = absurd (cc)
 site_valid net (suc i) site valid is = AllByRecursion-slice_get (IsSite net) net.sites i site valid.sites is
 
 -- the number of a station that is there is from 1 to that of the last
-pub number_in : (net : Net) (s : ℕ) (site : Site) → site_at net s ≡ Some site → (1 ≤ s) × (s ≤ length net.sites)
+pub number_in : (net : Net) (s : ℕ) (site : Site) → site_at net s ≡ Some site → HasStation net s
 number_in net zero site is = absurd (cc)
-number_in net (suc i) site is = (omega arith, (let rest = slice_get_within net.sites i site is in omega arith))
+number_in net (suc i) site is =
+    record { low = omega arith; high = let rest = slice_get_within net.sites i site is in omega arith }
 
 -- a station that is found at a number is the station of that number
 pub site_is : (net : Net) (s : ℕ) (site : Site) → site_at net s ≡ Some site → site_of net s ≡ site
@@ -48,8 +49,8 @@ are_links net site valid some =
 
 -- ---- handle
 
--- what the handling of a message keeps, and what it sends
-pub record HandlesWell (net : Net) (st : StateView) (m : Msg) : Type 0 where
+-- a state of the network's station that fits handles a message and stays so, and sends as stations send
+pub record HandlesFittingState (net : Net) (st : StateView) (m : Msg) : Type 0 where
   pub fits : FitsState (handle net st m).state
   pub suits : SuitsNet net (handle net st m).state
   pub sends : AreSends net m.key.time st.sender.station st.sender.next (handle net st m).sends
@@ -59,10 +60,10 @@ pub record HandlesWell (net : Net) (st : StateView) (m : Msg) : Type 0 where
   pub station : (handle net st m).state.sender.station ≡ st.sender.station
 
 -- so it is for each station of the network whose state fits, and each message that it may handle
-pub handles-well : (net : Net) (st : StateView) (m : Msg) → IsNet net → FitsState st → SuitsNet net st
-    → m.key.time < ALL_TIMES → HandlesWell net st m
+pub handles-fitting : (net : Net) (st : StateView) (m : Msg) → IsNet net → FitsState st → SuitsNet net st
+    → m.key.time < ALL_TIMES → HandlesFittingState net st m
 unfolding handle
-handles-well net st m valid fits suits early =
+handles-fitting net st m valid fits suits early =
     let site = site_of net st.sender.station in
     let is = site_is net st.sender.station suits.site suits.is_there in
     let there : site_at net st.sender.station ≡ Some site = rw is suits.is_there in
@@ -70,14 +71,14 @@ handles-well net st m valid fits suits early =
     let of : IsOfKind site site.kind st.kind = subst (λ (q : Site). IsOfKind q q.kind st.kind) (sym is) suits.kind in
     let number = number_in net st.sender.station suits.site suits.is_there in
     let begin : Outgoing = record { sender = st.sender; sends = [] } in
-    let after = kind_on-good net site m.key.time lawful.links valid.ahead begin number.0 number.1 site.kind st.handled
+    let after = kind_on-good net site m.key.time lawful.links valid.ahead begin number site.kind st.handled
     m.payload st.kind refl of (good_kind st.handled st.kind fits.kind) in
     let g = after.grown in
     let count = ap length g.sends in
     record {
       fits = record {
         sender = record {
-          station = rw g.station number.0;
+          station = rw g.station number.low;
           next = omega (arith, g.next, g.few, fits.sender.next);
           draws = omega (arith, g.draws, fits.sender.draws);
         };

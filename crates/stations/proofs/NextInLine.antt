@@ -1,16 +1,11 @@
 -- The next in line is in the line.
 use Rattle.std.proofs.Common.{◌≡◌, ℕ, ◌<◌, ◌≤◌, ◌⊎◌, inl, inr, min, List, [], ◌∷◌}
 use Rattle.std.proofs.Common.{length, Bool, true, false, if◌then◌else◌, eqb, eq-eqb, refl, sym, ◌∙◌, arith}
-use Rattle.std.proofs.lemmas.Bool.{cases_Bool, cases_lt, false≢true}
+use Rattle.std.proofs.lemmas.Bool.{cases_Bool, false≢true}
 use Rattle.sim_base.specs.declared.message.Job.{Job as JobOf}
+use Rattle.sim_base.proofs.Elements.{min_cases}
 use Rattle.net_model.specs.Net.{Net, Site, serves_by_class}
 use Rattle.stations.specs.Servers.{class_of, least_class, least_in, place_of_class, next_place}
-
--- ---- min
-
--- the lesser of two numbers is one of them
-min_is : (a b : ℕ) → (min a b ≡ a) ⊎ (min a b ≡ b)
-min_is a b = elim (cases_lt a b) [ inl below ↦ inl (omega arith) | inr above ↦ inr (omega arith) ]
 
 module _ (net : Net) where
   -- ---- least_class and least_in
@@ -24,7 +19,7 @@ module _ (net : Net) where
   least_class-reached : (n : ℕ) (js : List JobOf) → (least_class net n js ≡ n) ⊎ HasClass (least_class net n js) js
   least_class-reached n [] = inl refl
   least_class-reached n (j ∷ js) = elim (least_class-reached (min n (class_of net j)) js) [
-    | inl same ↦ elim (min_is n (class_of net j)) [
+    | inl same ↦ elim (min_cases n (class_of net j)) [
       | inl first ↦ inl (same ∙ first)
       | inr second ↦ inr (inl (sym (same ∙ second)))
     ]
@@ -56,6 +51,7 @@ module _ (net : Net) where
   pub next_place-below : (site : Site) (jobs : List JobOf) → 1 ≤ length jobs → next_place net site jobs < length jobs
   next_place-below site jobs some = by (serves_by_class site.kind)
     where
+      -- by whether the least class is served first
       by : (b : Bool) → (if b then place_of_class net (least_in net jobs) jobs else 0) < length jobs
       by true = place_of_class-below (least_in net jobs) jobs (least_in-reached jobs some)
       by false = omega arith

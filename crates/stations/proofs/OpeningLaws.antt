@@ -1,12 +1,12 @@
 -- What a station opens with.
-use Rattle.std.proofs.Common.{◌≡◌, ℕ, ◌<◌, ◌≤◌, Bool, true, false, nat_lt, if◌then◌else◌, slice_get}
-use Rattle.std.proofs.Common.{inl, List, [], length, refl, sym, ap, subst, Some, arith}
+use Rattle.std.proofs.Common.{◌≡◌, ℕ, ◌<◌, Bool, true, false, nat_lt, if◌then◌else◌, slice_get}
+use Rattle.std.proofs.Common.{inl, List, [], refl, sym, ap, subst, Some, arith}
 use Rattle.std.proofs.lemmas.List.{length-map}
 use Rattle.std.proofs.lemmas.Option.{same_Some}
 use Rattle.net_model.specs.declared.station.Kind.{Kind}
 use Rattle.net_model.specs.declared.station.Kind.TheVariants as kind
 use Rattle.net_model.specs.declared.station.Link.{Link}
-use Rattle.net_model.specs.Net.{Net, Site, site_at, site_of}
+use Rattle.net_model.specs.Net.{Net, Site, HasStation, site_at, site_of}
 use Rattle.net_model.specs.Rules.{IsNet, IsSite, IsKind, HasWayOut}
 use Rattle.sim_base.specs.declared.message.Payload.TheVariants.{Tick}
 use Rattle.stations.specs.declared.kind_state.KindState.{KindState}
@@ -62,18 +62,18 @@ opening_kind-is_of_kind site kind.Sink = tt
 
 -- a station that opens sends one message at most, as stations send, and draws one word at most
 first_tick-grown : (net : Net) (site : Site) (k : Kind) (o : Outgoing) → IsNet net → IsSite net site
-    → site.kind ≡ k → 1 ≤ o.sender.station → o.sender.station ≤ length net.sites
+    → site.kind ≡ k → HasStation net o.sender.station
     → Grown net 0 1 o (first_tick (opening_kind site k) o)
-first_tick-grown net site (kind.Source lo hi jobs class) o valid lawful is first last =
+first_tick-grown net site (kind.Source lo hi jobs class) o valid lawful is is_station =
     let fits = opening_kind-fits net site (kind.Source lo hi jobs class) lawful is in
-    next_tick-grown net 0 (record { lo = lo; hi = hi; jobs = jobs; sent = 0 }) o fits.range first last
-first_tick-grown net site (kind.Server servers room lo hi by_class) o valid lawful is first last =
+    next_tick-grown net 0 (record { lo = lo; hi = hi; jobs = jobs; sent = 0 }) o fits.range is_station
+first_tick-grown net site (kind.Server servers room lo hi by_class) o valid lawful is is_station =
     grown-same net 0 1 o
-first_tick-grown net site (kind.Delay lo hi) o valid lawful is first last =
+first_tick-grown net site (kind.Delay lo hi) o valid lawful is is_station =
     grown-same net 0 1 o
-first_tick-grown net site (kind.Router turn) o valid lawful is first last =
+first_tick-grown net site (kind.Router turn) o valid lawful is is_station =
     grown-same net 0 1 o
-first_tick-grown net site kind.Sink o valid lawful is first last =
+first_tick-grown net site kind.Sink o valid lawful is is_station =
     grown-same net 0 1 o
 
 -- ---- setup
@@ -95,10 +95,10 @@ setup-well net s site valid there =
       };
       sends = [];
     } in
-    let g = first_tick-grown net at at.kind o valid lawful refl number.0 number.1 in (
+    let g = first_tick-grown net at at.kind o valid lawful refl number in (
       record {
         sender = record {
-          station = rw g.station number.0;
+          station = rw g.station number.low;
           next = omega (arith, g.next, g.few);
           draws = omega (arith, g.draws);
         };
@@ -131,6 +131,7 @@ setup-is net s site begun sender' before after there is none ticked =
 pub first_tick-station : (k : KindState) (o : Outgoing) → (first_tick k o).sender.station ≡ o.sender.station
 first_tick-station (Source s) o = by (nat_lt s.sent s.jobs)
   where
+    -- by whether a job is left
     by : (b : Bool) → (if b then send_later 0 s.lo s.hi Tick o else o).sender.station ≡ o.sender.station
     by true = refl
     by false = refl
@@ -151,6 +152,7 @@ pub first_tick-first : (k : KindState) (sender : Sender) (m : Msg)
     → IsFirst sender.station (first_tick k (outgoing sender [])).sender.next m
 first_tick-first (Source s) sender m is = by (nat_lt s.sent s.jobs) is
   where
+    -- by whether a job is left
     by : (b : Bool) → slice_get (if b then send_later 0 s.lo s.hi Tick (outgoing sender []) else outgoing sender
         []).sends 0 ≡ Some m → IsFirst sender.station
         (if b then send_later 0 s.lo s.hi Tick (outgoing sender []) else outgoing sender []).sender.next m

@@ -1,6 +1,6 @@
 -- What a log leads to, and how what a station sends is numbered.
 use Rattle.std.proofs.Common.{◌≡◌, ℕ, zero, suc, ◌+◌, ◌*◌, ◌<◌, ◌≤◌, inl, inr, List, [], ◌∷◌}
-use Rattle.std.proofs.Common.{◌++◌, length, refl, ap, ◌∙◌, subst, Some, nat_lt, Bool, true, false, if◌then◌else◌, arith}
+use Rattle.std.proofs.Common.{length, ap, ◌∙◌, subst, Some, nat_lt, Bool, true, false, if◌then◌else◌, arith}
 use Rattle.std.specs.List.{AllByRecursion}
 use Rattle.std.proofs.lemmas.Option.{slice_get_cases}
 use Rattle.sim_base.specs.declared.message.Msg.{Msg}
@@ -8,19 +8,21 @@ use Rattle.sim_base.specs.declared.message.Payload.TheVariants.{Tick}
 use Rattle.sim_base.specs.declared.entry.Entry.{Entry}
 use Rattle.sim_base.specs.declared.entry.Line.{Line}
 use Rattle.run_laws.specs.World as world
-use Rattle.net_model.specs.Net.{Net, Site, site_at, site_of}
+use Rattle.run_laws.proofs.Replaying.{replay-push, replay_is_good}
+use Rattle.net_model.specs.Net.{Net, Site, HasStation, site_at, site_of}
 use Rattle.net_model.specs.Rules.{IsNet}
 use Rattle.stations.specs.declared.kind_state.KindState.{KindState}
 use Rattle.stations.specs.declared.kind_state.KindState.TheVariants.{Source, Server, Delay, Router, Sink}
 use Rattle.stations.specs.Fits.{FitsState, IsOfKind, SuitsNet}
 use Rattle.stations.specs.Good.{IsGood}
 use Rattle.stations.specs.Handling.{StateView, handle}
-use Rattle.stations.specs.Laws.{ReplayIsGood, ReplayCounts, ReplaySuits, ReplayFits}
+use Rattle.stations.specs.Laws.{ReplayCounts, ReplaySuits, ReplayFits}
 use Rattle.stations.specs.Laws.{ReplayGoesOn, SendsNextNumbers, NumbersAreSmall, JobsTakeTheLookahead}
 use Rattle.stations.specs.Opening.{first_tick, opening_kind, setup}
+use Rattle.stations.specs.Runs.{simulation}
 use Rattle.stations.specs.Sending.{Outgoing, send_later}
-use Rattle.stations.proofs.GoodLaws.{among, handles-good, opens_good}
-use Rattle.stations.proofs.Lawful.{handles-well, site_is}
+use Rattle.stations.proofs.GoodLaws.{among, handles-good, lawful-stations, opens_good}
+use Rattle.stations.proofs.Lawful.{handles-fitting, site_is}
 use Rattle.stations.proofs.OpeningLaws.{setup-well}
 use Rattle.stations.specs.declared.sender.TheConstants.{ALL_TIMES, MOST_SENDS}
 
@@ -30,6 +32,7 @@ use Rattle.stations.specs.declared.sender.TheConstants.{ALL_TIMES, MOST_SENDS}
 first_tick-next : (k : KindState) (o : Outgoing) → (first_tick k o).sender.next ≤ o.sender.next + 1
 first_tick-next (Source s) o = by (nat_lt s.sent s.jobs)
   where
+    -- by whether a job is left
     by : (b : Bool) → (if b then send_later 0 s.lo s.hi Tick o else o).sender.next ≤ o.sender.next + 1
     by true = omega arith
     by false = omega arith
@@ -56,41 +59,25 @@ module _ (net : Net) where
   pub replay-counts : ReplayCounts net
   replay-counts s log = count_from s (setup net s).state log ∙ omega arith
 
-  -- with one entry more it is what the message of that entry leads to
-  goes_on_from : (s : ℕ) (st : StateView) (log : List (Entry Msg Line)) (e : Entry Msg Line)
-      → replay_from s st (log ++ e ∷ []) ≡ (handle net (replay_from s st log) e.msg).state
-  goes_on_from s st [] e = refl
-  goes_on_from s st (x ∷ log) e = goes_on_from s (handle net st x.msg).state log e
-
   -- the replay of one entry more is what its message leads to from the replay
   pub replay-goes_on : ReplayGoesOn net
-  replay-goes_on s log e = goes_on_from s (setup net s).state log e
+  replay-goes_on s log e = replay-push (simulation net) s (setup net s).state log e
 
 -- a number from 1 to that of the last station is that of a station
-site_at-within : (net : Net) (s : ℕ) → 1 ≤ s → s ≤ length net.sites → (site : Site) × (site_at net s ≡ Some site)
-site_at-within net zero low high = absurd (omega arith)
-site_at-within net (suc i) low high = elim (slice_get_cases net.sites i).1 [
+site_at-within : (net : Net) (s : ℕ) → HasStation net s → (site : Site) × (site_at net s ≡ Some site)
+site_at-within net zero is = absurd (let low = is.low in omega arith)
+site_at-within net (suc i) is = let high = is.high in elim (slice_get_cases net.sites i).1 [
   | inl found ↦ (found.0, found.2)
   | inr past ↦ absurd (let beyond = past.0 in omega arith)
 ]
 
 module _ (net : Net) (valid : IsNet net) where
-  -- good states lead to good ones
-  good_from : (s : ℕ) (st : StateView) (log : List (Entry Msg Line)) → IsGood net s st
-      → IsGood net s (replay_from net s st log)
-  good_from s st [] good = good
-  good_from s st (e ∷ es) good =
-      good_from s (handle net st e.msg).state es (handles-good net valid s st e.msg good).good
-
-  -- the replay of a log is a good state of its station
-  pub replay-good : ReplayIsGood net
-  replay-good s log = good_from s (setup net s).state log (opens_good net valid s)
-
   -- at a station of the network it is a state of that station
   pub replay-suits : ReplaySuits net
-  replay-suits s log low high =
-      let good = replay-good s log in
-      let site = site_at-within net s low high in
+  replay-suits s log is_station =
+      let good : IsGood net s (replay_from net s (setup net s).state log) =
+      replay_is_good (lawful-stations net valid) s log in
+      let site = site_at-within net s is_station in
       let is = site_is net s site.0 site.1 in
       record {
         site = site.0;
@@ -103,13 +90,13 @@ module _ (net : Net) (valid : IsNet net) where
       → AllByRecursion (λ e. e.msg.key.time < ALL_TIMES) log → FitsState (replay_from net s st log)
   fits_from s st [] fits suits early = fits
   fits_from s st (e ∷ es) fits suits early =
-      let well = handles-well net st e.msg valid fits suits early.0 in
+      let well = handles-fitting net st e.msg valid fits suits early.0 in
       fits_from s (handle net st e.msg).state es well.fits well.suits early.1
 
   -- and it keeps what every state keeps, where the times of the log are early
   pub replay-fits : ReplayFits net
-  replay-fits s log low high early =
-      let site = site_at-within net s low high in
+  replay-fits s log is_station early =
+      let site = site_at-within net s is_station in
       let well = setup-well net s site.0 valid site.1 in
       fits_from s (setup net s).state log well.0 well.1 early
 

@@ -8,12 +8,12 @@ use Rattle.sim_base.specs.declared.message.Payload.{Payload}
 use Rattle.sim_base.specs.declared.message.Payload.TheVariants.{Tick, Job, Done, Set}
 use Rattle.sim_base.proofs.ListLaws.{all_set}
 use Rattle.sim_draw.specs.Drawing.{AreWeights}
-use Rattle.net_model.specs.Net.{Net, Site, routes_by_turn}
+use Rattle.net_model.specs.Net.{Net, Site, HasStation, is_router, routes_by_turn}
 use Rattle.net_model.specs.Rules.{IsLink, IsWeight}
 use Rattle.net_model.specs.declared.limits.TheConstants.{MOST_WEIGHT}
 use Rattle.stations.specs.declared.kind_state.RouterState.{RouterState}
 use Rattle.stations.specs.Changes.{is_accepted}
-use Rattle.stations.specs.Fits.{FitsRouter, is_router}
+use Rattle.stations.specs.Fits.{FitsRouter}
 use Rattle.stations.specs.Sending.{Outgoing, send_over, route_by}
 use Rattle.stations.specs.Routers.{router_job, router_set, router_on}
 use Rattle.stations.proofs.Accepting.{is_accepted-router}
@@ -22,7 +22,7 @@ use Rattle.stations.specs.declared.sender.TheConstants.{MOST_SENDS}
 
 module _ (net : Net) (site : Site) (now : ℕ) (links : AllByRecursion (IsLink net) site.links)
     (ahead : 1 ≤ net.lookahead)
-    (a : Outgoing) (first : 1 ≤ a.sender.station) (last : a.sender.station ≤ length net.sites) where
+    (a : Outgoing) (is_station : HasStation net a.sender.station) where
   -- ---- router_set
 
   -- a router that stays as it is fits one message more
@@ -47,6 +47,7 @@ module _ (net : Net) (site : Site) (now : ℕ) (links : AllByRecursion (IsLink n
       × (length (router_set site c s).weights.items ≡ length site.links)
   router_set-fits handled c s is count f = by (is_accepted site c) refl
     where
+      -- by whether it takes the change
       by : (t : Bool) → is_accepted site c ≡ t → let r =
           (if t then record s { weights = record { items = slice_set s.weights.items (c.a - 1) c.b } } else s) in
           FitsRouter (handled + 1) r × (length r.weights.items ≡ length site.links)
@@ -66,6 +67,7 @@ module _ (net : Net) (site : Site) (now : ℕ) (links : AllByRecursion (IsLink n
   router_job-grown : (j : JobOf) (s : RouterState) → Grown net now MOST_SENDS a (router_job site now j s a)
   router_job-grown j s = by (routes_by_turn site.kind)
     where
+      -- by whether it routes by turn
       by : (b : Bool) → Grown net now MOST_SENDS a
           (if b then send_over (slice_get site.links (s.passed % length site.links)) now j a else route_by site.links
           s.weights.items now j a)

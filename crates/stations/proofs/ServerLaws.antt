@@ -11,7 +11,7 @@ use Rattle.sim_base.specs.declared.message.Param.{Param}
 use Rattle.sim_base.specs.declared.message.Param.TheVariants.{Every, Service, Hold, Servers, Room, Weight}
 use Rattle.sim_base.specs.declared.message.Payload.{Payload}
 use Rattle.sim_base.specs.declared.message.Payload.TheVariants.{Tick, Job, Done, Set}
-use Rattle.net_model.specs.Net.{Net, Site}
+use Rattle.net_model.specs.Net.{Net, Site, HasStation}
 use Rattle.net_model.specs.Rules.{IsLink, IsServer}
 use Rattle.net_model.specs.declared.limits.TheConstants.{MOST_ROOM, MOST_SERVERS}
 use Rattle.stations.specs.declared.kind_state.ServerState.{ServerState}
@@ -68,7 +68,7 @@ module _ (net : Net) (site : Site) (now : ℕ) (links : AllByRecursion (IsLink n
 
   -- ---- start_at and start_next
 
-  module _ (a : Outgoing) (first : 1 ≤ a.sender.station) (last : a.sender.station ≤ length net.sites) where
+  module _ (a : Outgoing) (is_station : HasStation net a.sender.station) where
     -- where nobody waits, nobody is started
     start_at-None : (n handled : ℕ) (s : ServerState) → length s.waiting ≡ 0 → IsBusyBut (suc n) handled s
         → Holds (IsBusyBut n handled) 1 a (reaction s a)
@@ -97,7 +97,7 @@ module _ (net : Net) (site : Site) (now : ℕ) (links : AllByRecursion (IsLink n
         done = b.done;
         lost = b.lost;
       };
-      grown = grown-later net now a first last s.lo s.hi (Done job) (λ job. job) b.rules.service.above;
+      grown = grown-later net now a is_station s.lo s.hi (Done job) (λ job. job) b.rules.service.above;
     }
 
     -- so it is with what stands at a place, which is in the line where somebody waits
@@ -124,6 +124,7 @@ module _ (net : Net) (site : Site) (now : ℕ) (links : AllByRecursion (IsLink n
         → Holds (IsBusyBut n handled) 1 a (start_next net site now s a)
     start_next-good n handled s b = by (nat_lt s.busy s.servers) refl
       where
+        -- by whether a server is free
         by : (t : Bool) → nat_lt s.busy s.servers ≡ t
             → Holds (IsBusyBut n handled) 1 a
             (if t then start_at now (next_place net site s.waiting)
@@ -147,23 +148,18 @@ module _ (net : Net) (site : Site) (now : ℕ) (links : AllByRecursion (IsLink n
   -- ---- start_times
 
   -- a sender that has grown is a station where the one before is
-  first_along : (n : ℕ) (a b : Outgoing) → Grown net now n a b → 1 ≤ a.sender.station → 1 ≤ b.sender.station
-  first_along n a b g first = rw g.station first
+  station_along : (n : ℕ) (a b : Outgoing) → Grown net now n a b → HasStation net a.sender.station
+      → HasStation net b.sender.station
+  station_along n a b g is = rw g.station is
 
-  -- and its number is no more than that of the last
-  last_along : (n : ℕ) (a b : Outgoing) → Grown net now n a b → a.sender.station ≤ length net.sites
-      → b.sender.station ≤ length net.sites
-  last_along n a b g last = rw g.station last
-
-  module _ (a : Outgoing) (first : 1 ≤ a.sender.station) (last : a.sender.station ≤ length net.sites) where
+  module _ (a : Outgoing) (is_station : HasStation net a.sender.station) where
     -- a server that could take n waiting jobs more can take none after n starts, of a message each at most
     start_times-good : (n m handled : ℕ) (r : Reaction ServerState) → IsBusyBut n handled r.state
         → Grown net now m a r.out → Holds (IsBusyBut 0 handled) (m + n) a (start_times n net site now r)
     start_times-good zero m handled r b g =
         record { holds = b; grown = grown-more net now m (m + 0) a r.out g (omega arith) }
     start_times-good (suc n) m handled r b g =
-        let one = start_next-good r.out (first_along m a r.out g first) (last_along m a r.out g last) n handled
-        r.state b in
+        let one = start_next-good r.out (station_along m a r.out g is_station) n handled r.state b in
         let rest = start_times-good n (m + 1) handled (start_next net site now r.state r.out) one.holds
         (grown-trans net now m 1 a r.out (start_next net site now r.state r.out).out g one.grown) in
         record {
@@ -179,6 +175,7 @@ module _ (net : Net) (site : Site) (now : ℕ) (links : AllByRecursion (IsLink n
         → Holds (FitsServer (handled + 1)) MOST_SENDS a (server_job now job s a)
     server_job-good handled job s f = by (nat_lt s.busy s.servers) (nat_lt (length s.waiting) s.room) refl refl
       where
+        -- by whether a server is free, and whether the waiting line has room
         by : (free space : Bool) → nat_lt s.busy s.servers ≡ free → nat_lt (length s.waiting) s.room ≡ space
             → Holds (FitsServer (handled + 1)) MOST_SENDS a
             (if free then start now job s a else if space then reaction
@@ -195,7 +192,7 @@ module _ (net : Net) (site : Site) (now : ℕ) (links : AllByRecursion (IsLink n
                 lost = omega (arith, f.lost);
               };
               grown = grown-more net now 1 MOST_SENDS a (start now job s a).out
-                  (grown-later net now a first last s.lo s.hi (Done job) (λ job. job) f.rules.service.above)
+                  (grown-later net now a is_station s.lo s.hi (Done job) (λ job. job) f.rules.service.above)
                   (omega arith);
             }
         by false true full space =
@@ -231,6 +228,7 @@ module _ (net : Net) (site : Site) (now : ℕ) (links : AllByRecursion (IsLink n
         → Holds (FitsServer (handled + 1)) MOST_SENDS a (server_done net site now job s a)
     server_done-good handled job s f = by (nat_lt 0 s.busy) refl
       where
+        -- by whether a job is in service
         by : (some : Bool) → nat_lt 0 s.busy ≡ some
             → Holds (FitsServer (handled + 1)) MOST_SENDS a
             (if some then start_next net site now (record s { busy = s.busy - 1; done = s.done + 1 })
@@ -247,8 +245,8 @@ module _ (net : Net) (site : Site) (now : ℕ) (links : AllByRecursion (IsLink n
               done = omega (arith, f.done);
               lost = omega (arith, f.lost);
             } in
-            let one = start_next-good after (first_along 1 a after routed first) (last_along 1 a after routed last) 0
-            (handled + 1) (record s { busy = s.busy - 1; done = s.done + 1 }) one_less in
+            let one = start_next-good after (station_along 1 a after routed is_station) 0 (handled + 1)
+            (record s { busy = s.busy - 1; done = s.done + 1 }) one_less in
             let r = start_next net site now (record s { busy = s.busy - 1; done = s.done + 1 }) after in
             record {
               holds = busy_fits (handled + 1) r.state one.holds;
@@ -320,6 +318,7 @@ module _ (net : Net) (site : Site) (now : ℕ) (links : AllByRecursion (IsLink n
         → Holds (FitsServer (handled + 1)) MOST_SENDS a (server_set net site now c s a)
     server_set-good handled c s f = by (is_accepted site c) refl
       where
+        -- by whether it takes the change
         by : (t : Bool) → is_accepted site c ≡ t
             → Holds (FitsServer (handled + 1)) MOST_SENDS a
             (if t then server_change net site now c.param c.a c.b s a else reaction s a)

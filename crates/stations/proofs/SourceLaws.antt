@@ -1,12 +1,12 @@
 -- What a source keeps, and what it sends.
-use Rattle.std.proofs.Common.{◌≡◌, ℕ, ◌+◌, ◌≤◌, length, Bool, true, false, nat_lt, if◌then◌else◌, refl, arith}
+use Rattle.std.proofs.Common.{◌≡◌, ℕ, ◌+◌, ◌≤◌, Bool, true, false, nat_lt, if◌then◌else◌, refl, arith}
 use Rattle.std.specs.List.{AllByRecursion}
 use Rattle.sim_base.specs.declared.message.Job.{Job as JobOf}
 use Rattle.sim_base.specs.declared.message.Change.{Change}
 use Rattle.sim_base.specs.declared.message.Payload.{Payload}
 use Rattle.sim_base.specs.declared.message.Payload.TheVariants.{Tick, Job, Done, Set}
 use Rattle.net_model.specs.declared.station.Kind.TheVariants as kind
-use Rattle.net_model.specs.Net.{Net, Site}
+use Rattle.net_model.specs.Net.{Net, Site, HasStation}
 use Rattle.net_model.specs.Rules.{IsLink, IsRange}
 use Rattle.stations.specs.declared.kind_state.SourceState.{SourceState}
 use Rattle.stations.specs.Changes.{is_accepted}
@@ -21,17 +21,18 @@ use Rattle.stations.specs.declared.sender.TheConstants.{MOST_SENDS}
 
 module _ (net : Net) (now : ℕ) where
   -- the next tick is at most one message and takes at most one word drawn
-  pub next_tick-grown : (s : SourceState) (o : Outgoing) → IsRange 1 s.lo s.hi → 1 ≤ o.sender.station
-      → o.sender.station ≤ length net.sites → Grown net now 1 o (next_tick now s o)
-  next_tick-grown s o range low high = by (nat_lt s.sent s.jobs)
+  pub next_tick-grown : (s : SourceState) (o : Outgoing) → IsRange 1 s.lo s.hi
+      → HasStation net o.sender.station → Grown net now 1 o (next_tick now s o)
+  next_tick-grown s o range is_station = by (nat_lt s.sent s.jobs)
     where
+      -- by whether a job is left
       by : (b : Bool) → Grown net now 1 o (if b then send_later now s.lo s.hi Tick o else o)
-      by true = grown-later net now o low high s.lo s.hi Tick (λ job. job) range.above
+      by true = grown-later net now o is_station s.lo s.hi Tick (λ job. job) range.above
       by false = grown-same net now 1 o
 
 module _ (net : Net) (site : Site) (now : ℕ) (links : AllByRecursion (IsLink net) site.links)
     (ahead : 1 ≤ net.lookahead)
-    (a : Outgoing) (first : 1 ≤ a.sender.station) (last : a.sender.station ≤ length net.sites) where
+    (a : Outgoing) (is_station : HasStation net a.sender.station) where
   -- ---- source_set
 
   -- after a change a source fits one message more
@@ -39,6 +40,7 @@ module _ (net : Net) (site : Site) (now : ℕ) (links : AllByRecursion (IsLink n
       → site.kind ≡ kind.Source lo hi jobs class → FitsSource handled s → FitsSource (handled + 1) (source_set site c s)
   source_set-fits lo hi jobs class handled c s is f = by (is_accepted site c) refl
     where
+      -- by whether it takes the change
       by : (t : Bool) → is_accepted site c ≡ t
           → FitsSource (handled + 1) (if t then record s { lo = c.a; hi = c.b } else s)
       by true accepted = record {
@@ -58,7 +60,7 @@ module _ (net : Net) (site : Site) (now : ℕ) (links : AllByRecursion (IsLink n
       let t : SourceState = record s { sent = s.sent + 1 } in
       let routed = grown-route net now site.links (weights_of site.links) job a links ahead in
       let after = route site.links now job a in
-      let ticked = next_tick-grown net now t after range (rw routed.station first) (rw routed.station last) in
+      let ticked = next_tick-grown net now t after range (rw routed.station is_station) in
       grown-more net now 2 MOST_SENDS a (next_tick now t after)
       (grown-trans net now 1 1 a after (next_tick now t after) routed ticked) (omega arith)
 

@@ -35,6 +35,7 @@ pub start_next-one : (net : Net) (site : Site) (now : ℕ) (s : ServerState) (o 
     → IsOneMore (reaction s o) (start_next net site now s o)
 start_next-one net site now s o = by (nat_lt s.busy s.servers)
   where
+    -- by whether a server is free
     by : (b : Bool) → IsOneMore (reaction s o)
         (if b then start_at now (next_place net site s.waiting) (slice_get s.waiting (next_place net site s.waiting))
         s o else reaction s o)

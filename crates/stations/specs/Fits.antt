@@ -1,5 +1,5 @@
 -- What every state of a station keeps, and when it is one of a station of the network.
-use Rattle.std.specs.Prelude.{◌≡◌, ℕ, ◌+◌, ◌*◌, ◌≤◌, ◌⊎◌, List, length, Some, Bool, true, false}
+use Rattle.std.specs.Prelude.{◌≡◌, ℕ, ◌+◌, ◌*◌, ◌≤◌, ◌⊎◌, List, length, Some}
 use Rattle.std.specs.List.{AllByRecursion}
 use Rattle.sim_draw.specs.Drawing.{AreWeights}
 use Rattle.net_model.specs.declared.station.Kind.{Kind}
@@ -85,11 +85,6 @@ pub record FitsSender (handled : ℕ) (s : Sender) : Type 0 where
 pub record FitsState (st : StateView) : Type 0 where
   pub sender : FitsSender st.handled st.sender
   pub kind : FitsKind st.handled st.kind
-
--- whether a kind is that of a router
-abbrev pub is_router : Kind → Bool
-is_router (kind.Router turn) = true
-is_router _ = false
 
 -- a state is of a station's kind; a router has a weight for each link
 abbrev pub IsOfKind : Site → Kind → KindState → Type 0

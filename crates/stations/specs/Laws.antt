@@ -11,31 +11,28 @@ use Rattle.run_laws.specs.Queue.{In}
 use Rattle.run_laws.specs.Runs.{run_of}
 use Rattle.run_laws.specs.Handlers.{AreForStations}
 use Rattle.run_laws.specs.Laws.{IsMessageOf}
-use Rattle.net_model.specs.Net.{Net}
+use Rattle.run_laws.specs.Sharing.{IsWithinLimit}
+use Rattle.net_model.specs.Net.{Net, HasStation}
 use Rattle.stations.specs.Fits.{FitsState, SuitsNet}
 use Rattle.stations.specs.Good.{IsGood}
 use Rattle.stations.specs.Handling.{StateView, handle}
 use Rattle.stations.specs.Opening.{setup}
-use Rattle.stations.specs.Runs.{simulation, replay, log_at, IsBeyond}
+use Rattle.stations.specs.Runs.{simulation, replay, log_at}
 use Rattle.stations.specs.Sends.{AreSends, IsJob}
 use Rattle.stations.specs.declared.sender.TheConstants.{ALL_TIMES, MOST_SENDS}
 
 module _ (net : Net) where
-  -- the state that a log leads to is a good one of its station
-  abbrev pub ReplayIsGood : Type 0
-  ReplayIsGood = (s : ℕ) (log : List (Entry Msg Line)) → IsGood net s (replay net s log)
-
-  -- it has handled as many messages as the log has entries
+  -- the state that a log leads to has handled as many messages as the log has entries
   abbrev pub ReplayCounts : Type 0
   ReplayCounts = (s : ℕ) (log : List (Entry Msg Line)) → (replay net s log).handled ≡ length log
 
   -- at a station of the network it is a state of that station
   abbrev pub ReplaySuits : Type 0
-  ReplaySuits = (s : ℕ) (log : List (Entry Msg Line)) → 1 ≤ s → s ≤ length net.sites → SuitsNet net (replay net s log)
+  ReplaySuits = (s : ℕ) (log : List (Entry Msg Line)) → HasStation net s → SuitsNet net (replay net s log)
 
   -- and it keeps what every state keeps, where the times are early
   abbrev pub ReplayFits : Type 0
-  ReplayFits = (s : ℕ) (log : List (Entry Msg Line)) → 1 ≤ s → s ≤ length net.sites →
+  ReplayFits = (s : ℕ) (log : List (Entry Msg Line)) → HasStation net s →
       AllByRecursion (λ e. e.msg.key.time < ALL_TIMES) log → FitsState (replay net s log)
 
   -- the replay of one entry more is what its message leads to from the replay
@@ -69,17 +66,17 @@ module _ (net : Net) where
     pub number : k.number < WORD_NUMBERS
 
   -- at a front no station's log is beyond the limit, and the list has decisions for stations alone, whose numbers fit
-  pub record IsCounted (c : Clone) (front : ℕ) : Type 0 where
+  pub record HasFewNumbers (c : Clone) (front : ℕ) : Type 0 where
     pub there : AreForStations (simulation net) c.plans
     pub short : length c.plans ≤ WORD_NUMBERS
-    pub within : (s : ℕ) → 1 ≤ s → s ≤ length net.sites → ¬ (IsBeyond net s front c)
+    pub within : IsWithinLimit (simulation net) front c
 
   -- then each message of the clone's run, handled or pending there, has such a key
   abbrev pub KeysAreSmall : Type 0
-  KeysAreSmall = (c : Clone) (front : ℕ) (m : Msg) → IsCounted c front →
+  KeysAreSmall = (c : Clone) (front : ℕ) (m : Msg) → HasFewNumbers c front →
       IsMessageOf (run_of (simulation net) c front) m → HasSmallKey m.key
 
   -- so has the message of each entry of a log, which comes before the front
   abbrev pub LogKeysAreSmall : Type 0
-  LogKeysAreSmall = (c : Clone) (s front : ℕ) (e : Entry Msg Line) → IsCounted c front →
+  LogKeysAreSmall = (c : Clone) (s front : ℕ) (e : Entry Msg Line) → HasFewNumbers c front →
       In e (log_at net c s front) → (e.msg.key.time < front) × HasSmallKey e.msg.key

@@ -10,7 +10,7 @@ use Rattle.sim_base.specs.declared.entry.Line.{Line}
 use Rattle.sim_base.specs.declared.decision.Planned.{Planned}
 use Rattle.run_laws.specs.Simulation.{Simulation}
 use Rattle.run_laws.specs.Machine.{Config}
-use Rattle.run_laws.specs.Window.{Part}
+use Rattle.run_laws.specs.Window.{LocalStation}
 use Rattle.run_laws.specs.World as world
 use Rattle.run_laws.specs.Runs as runs
 use Rattle.run_laws.specs.Laws as laws
@@ -60,7 +60,7 @@ abbrev pub state_at : Net → Clone → ℕ → ℕ → StateView
 state_at net c s front = runs.state_at (simulation net) c s front
 
 -- one station's window by itself, from what it is in a clone at a front, to a bound
-abbrev pub window_of : Net → Clone → ℕ → ℕ → ℕ → Config (Part StateView Msg Line) Msg
+abbrev pub window_of : Net → Clone → ℕ → ℕ → ℕ → Config (LocalStation StateView Msg Line) Msg
 window_of net c s front bound = laws.window (simulation net) c s front bound
 
 -- the next front of the clones

@@ -4,7 +4,7 @@ use Rattle.sim_base.specs.declared.message.Msg.{Msg}
 use Rattle.sim_base.specs.declared.message.Job.{Job as JobOf}
 use Rattle.sim_base.specs.declared.message.Payload.{Payload}
 use Rattle.sim_base.specs.declared.message.Payload.TheVariants.{Job}
-use Rattle.sim_draw.specs.Drawing.{drawn_one, range_of, pick_of, drawn_by}
+use Rattle.sim_draw.specs.Drawing.{after_draw, range_of, pick_of, after_pick_by}
 use Rattle.net_model.specs.declared.station.Link.{Link}
 use Rattle.stations.specs.declared.sender.Sender.{Sender}
 use Rattle.stations.specs.declared.sender.TheConstants.{ALL_COUNTS, ALL_TIMES, MOST_SENDS}
@@ -39,7 +39,7 @@ send time to payload o = record {
 
 -- one word was drawn
 abbrev pub draw : Outgoing → Outgoing
-draw o = record o { sender = record o.sender { draws = drawn_one o.sender.draws } }
+draw o = record o { sender = record o.sender { draws = after_draw o.sender.draws } }
 
 -- a message to the station itself, after a time drawn from lo to hi
 abbrev pub send_later : ℕ → ℕ → ℕ → Payload → Outgoing → Outgoing
@@ -52,7 +52,7 @@ send_over (Some link) time job o = send (time + link.delay) link.to (Job job) o
 
 -- a link was picked by these weights
 abbrev pub after_pick : List ℕ → Outgoing → Outgoing
-after_pick weights o = record o { sender = record o.sender { draws = drawn_by weights o.sender.draws } }
+after_pick weights o = record o { sender = record o.sender { draws = after_pick_by weights o.sender.draws } }
 
 -- the link that is picked by these weights
 abbrev pub link_by : List Link → List ℕ → Outgoing → Option Link

@@ -1,9 +1,9 @@
 -- What holds of the messages that a station sends.
-use Rattle.std.specs.Prelude.{◌≡◌, ◌≢◌, ℕ, suc, ◌+◌, ◌<◌, ◌≤◌, List, [], ◌∷◌, length}
+use Rattle.std.specs.Prelude.{◌≡◌, ◌≢◌, ℕ, suc, ◌+◌, ◌<◌, ◌≤◌, List, [], ◌∷◌}
 use Rattle.sim_base.specs.declared.message.Msg.{Msg}
 use Rattle.sim_base.specs.declared.message.Payload.{Payload}
 use Rattle.sim_base.specs.declared.message.Payload.TheVariants.{Job}
-use Rattle.net_model.specs.Net.{Net}
+use Rattle.net_model.specs.Net.{Net, HasStation}
 
 -- jobs alone go over links: ticks and service completions are a station's own
 abbrev pub IsJob : Payload → Type 0
@@ -18,8 +18,7 @@ pub record IsSend (net : Net) (now s k : ℕ) (m : Msg) : Type 0 where
   pub later : now < m.key.time
   pub far : m.to ≢ s → now + net.lookahead ≤ m.key.time
   pub on_link : IsJob m.payload → now + net.lookahead ≤ m.key.time
-  pub first : 1 ≤ m.to
-  pub last : m.to ≤ length net.sites
+  pub is_station : HasStation net m.to
 
 -- messages that station s sends at `now`, with the numbers from k on
 abbrev pub AreSends : Net → ℕ → ℕ → ℕ → List Msg → Type 0

@@ -1,8 +1,8 @@
 //! Whether a station takes a change.
-ghost use Rattle.std.specs.Prelude.{◌≡◌, ◌≤◌, length};
-ghost use Rattle.net_model.specs.Net.{site_of};
+ghost use Rattle.std.specs.Prelude.{◌≡◌};
+ghost use Rattle.net_model.specs.Net.{HasStation, site_of};
 ghost use Rattle.net_model.specs.Sites.{as_site};
-ghost use Rattle.stations.specs.Changes.{accepts as accepts_at, is_accepted, has_parameter, is_in_range};
+ghost use Rattle.stations.specs.Changes.{accepts as accepts', is_accepted, has_parameter, is_in_range};
 
 use net_model::limits::{MOST_ROOM, MOST_SERVERS, MOST_WEIGHT, is_range};
 use net_model::{Kind, Model, Station};
@@ -22,15 +22,14 @@ pub enum ChangeFault {
 /// `WrongParameter` comes exactly where its kind does not have the parameter, `OutOfRange` exactly where
 /// it does and a value is out of range.
 pub fn accepts(model: &Model, station: u32, change: &Change) -> Result<(), ChangeFault>
-    requires low { 1 ≤ station }
-    requires high { station ≤ length model.now.sites }
-    ensures { result ≡ accepts_at (site_of model.now station) change.now }
+    requires is_station { HasStation model.now station }
+    ensures { result ≡ accepts' (site_of model.now station) change.now }
 {
     station_accepts(model.station(station), change)
 }
 
 pub(crate) fn station_accepts(station: &Station, change: &Change) -> Result<(), ChangeFault>
-    ensures { result ≡ accepts_at (as_site station.now) change.now }
+    ensures { result ≡ accepts' (as_site station.now) change.now }
 {
     if !kind_has(&station.kind, change.param) {
         return Err(ChangeFault::WrongParameter);

@@ -1,6 +1,10 @@
-//! The lesser of two due times, the time stamps of next events.
+//! The lesser of two due times, the time stamps of next events, and where the window of the least one ends.
 ghost use Rattle.std.specs.Prelude.{◌≡◌};
-ghost use Rattle.run_laws.specs.Fronts.{earlier as earlier'};
+ghost use Rattle.net_model.specs.Rules.{IsNet};
+ghost use Rattle.run_laws.specs.Fronts.{earlier as earlier', window_end as window_end'};
+ghost use Rattle.stations.specs.Runs.{simulation};
+
+use net_model::Model;
 
 /// The lesser of two times, where there is one.
 pub fn earlier(a: Option<u64>, b: Option<u64>) -> Option<u64>
@@ -12,5 +16,17 @@ pub fn earlier(a: Option<u64>, b: Option<u64>) -> Option<u64>
             None => Some(first),
         },
         None => b,
+    }
+}
+
+/// Where a window ends whose least message has this time: the lookahead later, and no later than the horizon.
+pub fn window_end(model: &Model, least: Option<u64>) -> u64
+    ensures value { result ≡ window_end' (simulation model.now) least }
+    ensures valid { IsNet model.now }
+{
+    let horizon = model.horizon();
+    match least {
+        None => horizon,
+        Some(time) => horizon.min(time.saturating_add(model.lookahead())),
     }
 }

@@ -3,9 +3,9 @@
 ghost use Rattle.net_model.specs.Net.{Net};
 ghost use Rattle.net_model.specs.Rules.{IsNet};
 ghost use Rattle.run_laws.specs.Handlers.{HandlesLawfully, SendsToStations, HandlesFreshly};
-ghost use Rattle.run_laws.specs.Laws.{TraceRises, StateIsReplay, EqualLogsEqualStates};
+ghost use Rattle.run_laws.specs.Laws.{TraceRises, StateIsReplay, ReplayIsGood, EqualLogsEqualStates};
 ghost use Rattle.stations.specs.Good.{IsGood, sender_of, number_of, next_number};
-ghost use Rattle.stations.specs.Laws.{ReplayIsGood, ReplayCounts, ReplaySuits, ReplayFits};
+ghost use Rattle.stations.specs.Laws.{ReplayCounts, ReplaySuits, ReplayFits};
 ghost use Rattle.stations.specs.Laws.{ReplayGoesOn, SendsNextNumbers, NumbersAreSmall, KeysAreSmall};
 ghost use Rattle.stations.specs.Laws.{LogKeysAreSmall, JobsTakeTheLookahead};
 ghost use Rattle.stations.specs.Runs.{simulation};
@@ -33,7 +33,7 @@ pub fn states_are_replays()
 /// What a log leads to from the opening of its station: a good state of that station, which has handled as many
 /// messages as the log has entries; one entry more is one message more.
 pub fn logs_are_replayed()
-    ensures good { (net : Net) → IsNet net → ReplayIsGood net }
+    ensures good { (net : Net) → IsNet net → ReplayIsGood (simulation net) (IsGood net) }
     ensures counted { (net : Net) → ReplayCounts net }
     ensures suits { (net : Net) → IsNet net → ReplaySuits net }
     ensures fits { (net : Net) → IsNet net → ReplayFits net }

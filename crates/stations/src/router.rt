@@ -2,9 +2,10 @@
 ghost use Rattle.std.specs.Prelude.{◌≡◌, length, true};
 ghost use Rattle.arrayvec.specs.ArrayVec.{array_vec_len};
 ghost use Rattle.sim_draw.specs.Drawing.{AreWeights};
+ghost use Rattle.net_model.specs.Net.{is_router};
 ghost use Rattle.net_model.specs.Sites.{as_site};
 ghost use Rattle.net_model.specs.declared.limits.TheConstants.{MOST_LIMIT};
-ghost use Rattle.stations.specs.Fits.{AreLinks, FitsRouter, is_router};
+ghost use Rattle.stations.specs.Fits.{AreLinks, FitsRouter};
 ghost use Rattle.stations.specs.Routers.{router_job, router_set, router_on};
 ghost use Rattle.stations.specs.Sending.{MaySend, outgoing, reaction};
 ghost use Rattle.stations.specs.declared.sender.TheConstants.{MOST_SENDS};

@@ -1,7 +1,7 @@
 //! What a station sends by, and how it sends.
 ghost use Rattle.std.specs.Prelude.{◌≡◌, ◌<◌, ◌≤◌, ◌*◌, length, slice_get, Some};
 ghost use Rattle.arrayvec.specs.ArrayVec.{array_vec_len};
-ghost use Rattle.sim_draw.specs.Drawing.{AreWeights, pick_of, drawn_by};
+ghost use Rattle.sim_draw.specs.Drawing.{AreWeights, pick_of, after_pick_by};
 ghost use Rattle.net_model.specs.Rules.{IsRange};
 ghost use Rattle.net_model.specs.declared.limits.TheConstants.{MOST_LINKS, MOST_TIME};
 ghost use Rattle.stations.specs.Fits.{AreLinks};
@@ -10,18 +10,19 @@ ghost use Rattle.stations.specs.declared.sender.TheConstants.{ALL_COUNTS, ALL_TI
 
 use arrayvec::ArrayVec;
 use net_model::Link;
-use net_model::limits::MOST_LINKS;
+use net_model::limits::{MOST_LINKS, MOST_SERVERS};
 use sim_base::{Job, Key, Msg, Payload};
-use sim_draw::Draws;
+use sim_draw::{Draws, MOST_DRAWS};
 
-/// The most messages that a station sends for one that it handles.
-pub const MOST_SENDS: usize = 16;
+/// The most messages that a station sends for one that it handles: as many as there may be servers, all of which may
+/// be added by one change and take a job that waits.
+pub const MOST_SENDS: usize = MOST_SERVERS as usize;
 
 /// How many times there are at which a station may handle a message: 31 bits, more than the greatest horizon.
 pub const ALL_TIMES: u64 = 2_147_483_648;
 
 /// How many numbers there are for the messages of a station, for its draws, and for each of its counts: 32 bits.
-pub const ALL_COUNTS: u64 = 4_294_967_296;
+pub const ALL_COUNTS: u64 = MOST_DRAWS;
 
 /// A station's number, the count of the messages that it has sent, and its draws.
 #[derive(Drop)]
@@ -97,7 +98,7 @@ pub(crate) fn pick_link(sender: &mut Sender, links: &[Link], weights: &[u32]) ->
     requires same { length weights.now ≡ length links.now }
     requires draws { sender.old.draws.count < ALL_COUNTS }
     ensures link { slice_get links.now (pick_of weights.now sender.old.draws) ≡ Some result }
-    ensures drawn { sender.new ≡ record sender.old { draws = drawn_by weights.now sender.old.draws } }
+    ensures drawn { sender.new ≡ record sender.old { draws = after_pick_by weights.now sender.old.draws } }
 {
     let place = sender.draws.pick(weights);
     link_at(links, place)
@@ -127,7 +128,7 @@ pub(crate) fn pick_by_model(sender: &mut Sender, links: &[Link]) -> Link
     requires valid { AreLinks links.now }
     requires draws { sender.old.draws.count < ALL_COUNTS }
     ensures link { slice_get links.now (pick_of (weights_of links.now) sender.old.draws) ≡ Some result }
-    ensures drawn { sender.new ≡ record sender.old { draws = drawn_by (weights_of links.now) sender.old.draws } }
+    ensures drawn { sender.new ≡ record sender.old { draws = after_pick_by (weights_of links.now) sender.old.draws } }
     ensures near { result.delay ≤ MOST_TIME }
 {
     if links.len() == 1 {

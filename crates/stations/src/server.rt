@@ -6,7 +6,7 @@ ghost use Rattle.net_model.specs.declared.limits.TheConstants.{MOST_LIMIT, MOST_
 ghost use Rattle.net_model.specs.Sites.{as_site};
 ghost use Rattle.stations.specs.Fits.{AreLinks, FitsServer};
 ghost use Rattle.stations.specs.Sending.{MaySend, outgoing, reaction};
-ghost use Rattle.stations.specs.Servers.{least_in, place_of_class, next_place, start, start_next as next_started};
+ghost use Rattle.stations.specs.Servers.{least_in, place_of_class, next_place, start, start_next as start_next'};
 ghost use Rattle.stations.specs.Servers.{start_times, server_job, server_done, server_change, server_set, server_on};
 ghost use Rattle.stations.specs.declared.sender.TheConstants.{ALL_COUNTS, MOST_SENDS};
 ghost use Rattle.sim_base.specs.declared.message.Param.TheVariants.{Servers};
@@ -82,7 +82,7 @@ fn start_next(
 )
     requires may_send { MaySend 1 now sender.old (array_vec_len out.old) }
     requires range { IsRange 1 server.old.lo server.old.hi }
-    ensures { next_started model.now (as_site station.now) now server.old (outgoing sender.old out.old.items)
+    ensures { start_next' model.now (as_site station.now) now server.old (outgoing sender.old out.old.items)
         ≡ reaction server.new (outgoing sender.new out.new.items) }
 {
     if server.busy < u64::from(server.servers) {

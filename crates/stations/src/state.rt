@@ -1,11 +1,12 @@
 //! The state of a station (a logical process), and how it handles a message (event execution).
 ghost use Rattle.std.specs.Prelude.{◌≡◌, ◌+◌, ◌<◌, ◌≤◌, [], length, IfOk, OnErr, OnOk};
 ghost use Rattle.arrayvec.specs.ArrayVec.{array_vec_len};
+ghost use Rattle.net_model.specs.Net.{HasStation};
 ghost use Rattle.net_model.specs.Sites.{as_site};
 ghost use Rattle.net_model.specs.declared.limits.TheConstants.{MOST_LIMIT, MOST_LINKS};
 ghost use Rattle.stations.specs.Fits.{FitsState, FitsKind, SuitsNet, IsOfKind, HasLinks};
-ghost use Rattle.stations.specs.Handling.{handle as handled_by, kind_on, line_of};
-ghost use Rattle.stations.specs.Opening.{setup as opened_by, opening_kind, first_tick};
+ghost use Rattle.stations.specs.Handling.{handle as handle', kind_on, line_of};
+ghost use Rattle.stations.specs.Opening.{setup as setup', opening_kind, first_tick};
 ghost use Rattle.stations.specs.Sending.{MaySend, outgoing, reaction};
 ghost use Rattle.stations.specs.Sends.{AreSends};
 ghost use Rattle.stations.specs.declared.sender.TheConstants.{ALL_TIMES, MOST_SENDS};
@@ -130,7 +131,7 @@ pub fn handle<L: Ledger>(
     requires early { msg.now.key.time < ALL_TIMES }
     // what it gives: the state, the sends and the line of the definition; each send is later than the message, and
     // they have the sender's next numbers
-    ensures ok { IfOk result (λ line. handled_by model.now state.old msg.now
+    ensures ok { IfOk result (λ line. handle' model.now state.old msg.now
         ≡ record { state = state.new; sends = out.new.items; line = line }) }
     ensures sends { OnOk result (AreSends model.now msg.now.key.time state.old.sender.station state.old.sender.next
         out.new.items) }
@@ -212,10 +213,9 @@ fn send_first(kind: &KindState, sender: &mut Sender, out: &mut ArrayVec<Msg, MOS
 /// A station opens: its state, and a source's first tick.
 pub fn setup(alloc: Global, model: &Model, station: u32) -> Result<(State, Option<Msg>), NoMemory>
     // what it asks: the number of a station of the model
-    requires low { 1 ≤ station }
-    requires high { station ≤ length model.now.sites }
+    requires is_station { HasStation model.now station }
     // what it gives: the state and the first tick of the definition
-    ensures opened { IfOk result (λ p. opened_by model.now station ≡ record { state = p.0; first = p.1 }) }
+    ensures opened { IfOk result (λ p. setup' model.now station ≡ record { state = p.0; first = p.1 }) }
     // what holds of the state: it is one of this station of the network, within its bounds, and has handled nothing
     ensures suits { IfOk result (λ p. SuitsNet model.now p.0) }
     ensures fits { IfOk result (λ p. FitsState p.0) }

@@ -9,11 +9,11 @@ use Rattle.decision_book.specs.Journal.{Event, Situation, after, NewCall, calls_
 use Rattle.decision_book.specs.Journal.{clones_after, fronts_of, NewFront, with_reply}
 use Rattle.decision_book.specs.Replies.{reply}
 use Rattle.decision_book.specs.Right.{EachAfter, IsRightCall, MayFollow, journal_with}
-use Rattle.decision_book.specs.Scripts.{next}
+use Rattle.decision_book.specs.Scripts.{after_decision}
 use Rattle.decision_book.specs.declared.call.Call.{Call}
 use Rattle.decision_book.specs.declared.call.Reply.TheVariants.{Accepted}
 use Rattle.decision_book.proofs.Growing.{calls_of-push_call}
-use Rattle.decision_book.proofs.Scripts.{asking_is_next, situation_of_journal, next_accepted}
+use Rattle.decision_book.proofs.Scripts.{asking_is_after_decision, situation_of_journal, after_decision-accepted}
 use Rattle.world_core.specs.Taking.{AreAccepted, IsAccepted, clones_after_calls}
 use Rattle.world_core.proofs.Accepted.{accepted_at}
 use Rattle.study_run.specs.Accepted.{AcceptedIsTaken, IsAcceptedJournal, EachAccepted}
@@ -42,7 +42,7 @@ none_asked net events e = subst (IsAcceptedJournal net) (sym e) (record { front 
 -- one decision more that is accepted
 pub asked_more : (net : Net) (events more : List Event) (caller : ℕ) (d : Decision)
     → reply (after net events) d ≡ Accepted → more ≡ journal_with net events caller d
-    → after net more ≡ next (after net events) d → IsAcceptedJournal net events → IsAcceptedJournal net more
+    → after net more ≡ after_decision (after net events) d → IsAcceptedJournal net events → IsAcceptedJournal net more
 asked_more net events more caller d is same on all =
     let s : Situation = after net events in
     let call : Call = record { caller = caller; fronts = length (fronts_of events); decision = d; reply = Accepted } in
@@ -50,7 +50,7 @@ asked_more net events more caller d is same on all =
     let calls : calls_of more ≡ calls_of events ++ call ∷ [] = ap calls_of whole ∙ calls_of-push_call events call in
     let of_net : s.net ≡ net = ap (λ (t : Situation). t.net) (situation_of_journal net events) in
     let now : after net more ≡ record s { clones = clones_after s.net s.clones d; calls = s.calls + 1 } =
-    on ∙ next_accepted s d is in
+    on ∙ after_decision-accepted s d is in
     let one : IsAccepted net (clones_after_calls net (base ∷ []) (calls_of events)) 0 d =
     subst (λ cs. IsAccepted net cs 0 d) (sym all.clones)
     (subst (λ f. IsAccepted net s.clones f d) all.front
@@ -90,7 +90,7 @@ accepted_on net before (NewFront f ∷ es) h none each all = absurd (cc)
 accepted_on net before (NewCall call ∷ es) h none each all =
     let same = asked_as net before call h.0 each.0 in
     let is : reply (after net before) call.decision ≡ Accepted = sym h.0.answer ∙ each.0 in
-    let on = ap (after net) same ∙ asking_is_next net before call.caller call.decision in
+    let on = ap (after net) same ∙ asking_is_after_decision net before call.caller call.decision in
     let more = asked_more net before (before ++ NewCall call ∷ []) call.caller call.decision is same on all in
     subst (IsAcceptedJournal net) (append_assoc before (NewCall call ∷ []) es)
     (accepted_on net (before ++ NewCall call ∷ []) es h.1 none each.1 more)

@@ -8,7 +8,7 @@ use Rattle.sim_base.specs.Clones.{Clone}
 use Rattle.sim_base.specs.declared.message.Msg.{Msg}
 use Rattle.sim_base.specs.declared.entry.Entry.{Entry}
 use Rattle.sim_base.specs.declared.entry.Line.{Line}
-use Rattle.net_model.specs.Net.{Net}
+use Rattle.net_model.specs.Net.{Net, HasStation}
 use Rattle.run_laws.specs.World.{log_of}
 use Rattle.run_laws.proofs.Worlds.{log_here, log_there}
 use Rattle.stations.specs.Runs.{trace_of}
@@ -21,10 +21,10 @@ use Rattle.study_run.specs.Laws.{FullIsFound, FullIsLonger, FullIsOne, NotWithin
 
 module _ (limit : ℕ) where
   -- the logs stay within the limit with an entry whose log was not full
-  grown : (seen : List (Entry Msg Line)) (e : Entry Msg Line) → ((s : ℕ) → length (log_of receiver s seen) ≤ limit)
-      → length (log_of receiver e.msg.to seen) < limit
+  log_of-push : (seen : List (Entry Msg Line)) (e : Entry Msg Line)
+      → ((s : ℕ) → length (log_of receiver s seen) ≤ limit) → length (log_of receiver e.msg.to seen) < limit
       → (s : ℕ) → length (log_of receiver s (seen ++ e ∷ [])) ≤ limit
-  grown seen e h below s = elim (cases_eq e.msg.to s) [
+  log_of-push seen e h below s = elim (cases_eq e.msg.to s) [
     | inl same ↦
         let more = length-append (log_of receiver s seen) (e ∷ []) in
         let is = ap length (log_here receiver s seen e same) in
@@ -35,21 +35,22 @@ module _ (limit : ℕ) where
   ]
 
   -- where the walk finds none, no log is longer
-  within : (seen es : List (Entry Msg Line)) → ((s : ℕ) → length (log_of receiver s seen) ≤ limit)
+  first_beyond-None : (seen es : List (Entry Msg Line)) → ((s : ℕ) → length (log_of receiver s seen) ≤ limit)
       → first_beyond limit seen es ≡ None
       → (s : ℕ) → length (log_of receiver s (seen ++ es)) ≤ limit
-  within seen [] h none s = subst (λ t. length (log_of receiver s t) ≤ limit) (sym (append-nil seen)) (h s)
-  within seen (e ∷ es) h none s = elim (cases_lt (length (log_of receiver e.msg.to seen)) limit) [
+  first_beyond-None seen [] h none s = subst (λ t. length (log_of receiver s t) ≤ limit) (sym (append-nil seen)) (h s)
+  first_beyond-None seen (e ∷ es) h none s = elim (cases_lt (length (log_of receiver e.msg.to seen)) limit) [
     | inr full ↦ absurd (let k = sym (beyond_here limit seen e es full) ∙ none in cc)
     | inl below ↦ subst (λ t. length (log_of receiver s t) ≤ limit) (append_assoc seen (e ∷ []) es)
-        (within (seen ++ e ∷ []) es (grown seen e h below) (sym (beyond_later limit seen e es below) ∙ none) s)
+        (first_beyond-None (seen ++ e ∷ []) es (log_of-push seen e h below)
+        (sym (beyond_later limit seen e es below) ∙ none) s)
   ]
 
   -- the log that it finds is longer in the end
-  longer : (seen es : List (Entry Msg Line)) (s : ℕ) → first_beyond limit seen es ≡ Some s
+  first_beyond-Some : (seen es : List (Entry Msg Line)) (s : ℕ) → first_beyond limit seen es ≡ Some s
       → limit < length (log_of receiver s (seen ++ es))
-  longer seen [] s some = absurd (cc)
-  longer seen (e ∷ es) s some = elim (cases_lt (length (log_of receiver e.msg.to seen)) limit) [
+  first_beyond-Some seen [] s some = absurd (cc)
+  first_beyond-Some seen (e ∷ es) s some = elim (cases_lt (length (log_of receiver e.msg.to seen)) limit) [
     | inr full ↦
         let at : Some e.msg.to ≡ Some s = sym (beyond_here limit seen e es full) ∙ some in
         let same : e.msg.to ≡ s = cc in
@@ -62,7 +63,7 @@ module _ (limit : ℕ) where
         subst (λ k. limit ≤ length (log_of receiver k seen)) same full in
         omega (arith, whole, parts, lengths, here, more, is_full)
     | inl below ↦ subst (λ t. limit < length (log_of receiver s t)) (append_assoc seen (e ∷ []) es)
-        (longer (seen ++ e ∷ []) es s (sym (beyond_later limit seen e es below) ∙ some))
+        (first_beyond-Some (seen ++ e ∷ []) es s (sym (beyond_later limit seen e es below) ∙ some))
   ]
 
   -- the entry at which the walk ends is the first whose log is full
@@ -86,14 +87,15 @@ module _ (limit : ℕ) where
           within = h;
         }
     | inl below ↦ subst (λ t. IsFirstFull limit t s) (append_assoc seen (e ∷ []) es)
-        (full_at (seen ++ e ∷ []) es s (grown seen e h below) (sym (beyond_later limit seen e es below) ∙ some))
+        (full_at (seen ++ e ∷ []) es s (log_of-push seen e h below) (sym (beyond_later limit seen e es below) ∙ some))
   ]
 
   -- where no log is longer, the walk finds none
   none_found : (es : List (Entry Msg Line)) (o : Option ℕ) → first_beyond limit [] es ≡ o
       → ((s : ℕ) → length (log_of receiver s es) ≤ limit) → o ≡ None
   none_found es None e h = refl
-  none_found es (Some s) e h = let long = longer [] es s e in let short = h s in absurd (omega (arith, long, short))
+  none_found es (Some s) e h =
+      let long = first_beyond-Some [] es s e in let short = h s in absurd (omega (arith, long, short))
 
   -- the first entry whose log is full is found
   found_at : (es : List (Entry Msg Line)) (s : ℕ) → IsFirstFull limit es s → first_beyond limit [] es ≡ Some s
@@ -123,30 +125,30 @@ full_is_one limit es s t a b =
 
 -- and in the end it is longer than the limit
 pub full_is_longer : FullIsLonger
-full_is_longer limit es s f = longer limit [] es s (found_at limit es s f)
+full_is_longer limit es s f = first_beyond-Some limit [] es s (found_at limit es s f)
 
 -- the walk finds nothing exactly where all logs are within the limit
 pub within_is_not_full : WithinIsNotFull
 within_is_not_full limit es = (
   λ h. none_found limit es (first_beyond limit [] es) refl h,
-  λ none. within limit [] es (λ s. omega arith) none,
+  λ none. first_beyond-None limit [] es (λ s. omega arith) none,
 )
 
 -- where the limit is met in a clone's run, not all of its logs are within it
 pub not_both_alone : NotWithinAndMetAlone
 not_both_alone net c s h m =
-    let long = longer net.limit [] (trace_of net c) s (found_at net.limit (trace_of net c) s m.first) in
-    let short = h s m.low m.high in
+    let long = first_beyond-Some net.limit [] (trace_of net c) s (found_at net.limit (trace_of net c) s m.first) in
+    let short = h s m.is_station in
     absurd (omega (arith, long, short))
 
 -- ---- a clone's run
 
 -- the logs of a clone's run are within the limit where the walk over its trace finds none
 pub within_alone : (net : Net) (c : Clone) → first_beyond net.limit [] (trace_of net c) ≡ None → IsWithin net c
-within_alone net c none s low high = within net.limit [] (trace_of net c) (λ t. omega arith) none s
+within_alone net c none s is = first_beyond-None net.limit [] (trace_of net c) (λ t. omega arith) none s
 
 -- the limit is met where it finds one
-pub met_alone : (net : Net) (c : Clone) (s : ℕ) → 1 ≤ s → s ≤ length net.sites
+pub met_alone : (net : Net) (c : Clone) (s : ℕ) → HasStation net s
     → first_beyond net.limit [] (trace_of net c) ≡ Some s → MeetsLimitAlone net c s
-met_alone net c s low high some =
-    record { low = low; high = high; first = full_at net.limit [] (trace_of net c) s (λ t. omega arith) some }
+met_alone net c s is some =
+    record { is_station = is; first = full_at net.limit [] (trace_of net c) s (λ t. omega arith) some }

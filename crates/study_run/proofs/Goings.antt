@@ -14,11 +14,11 @@ use Rattle.study_run.proofs.Worlds.{none_handled}
 
 -- ---- HasGoneOn
 -- it went on to a world of the same clones
-pub gone : (net : Net) (old new : WorldView) (s t : ℕ) → new.net ≡ net → new.clones ≡ old.clones
+pub HasGoneOn-world : (net : Net) (old new : WorldView) (s t : ℕ) → new.net ≡ net → new.clones ≡ old.clones
     → HasCome net old.clones new.front
     → t + total_handled net old.clones old.front ≡ s + total_handled net old.clones new.front
     → HasGoneOn net old new s t
-gone net old new s t same clones come steps = record {
+HasGoneOn-world net old new s t same clones come steps = record {
   under_way = record { net_is = same; come = subst (λ cs. HasCome net cs new.front) (sym clones) come };
   clones = clones;
   steps = steps;

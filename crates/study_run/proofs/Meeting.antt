@@ -16,15 +16,16 @@ use Rattle.world_core.specs.Overs.{IsFirstBeyond, NoneBeyond}
 use Rattle.study_run.specs.Limits.{AreWithin, MeetsLimit}
 use Rattle.study_run.specs.Laws.{MeetingIsFound, MeetingIsOne, NotWithinAndMet, WithinIsNotFound, WithinOrMet}
 use Rattle.study_run.specs.Overs.{first_overrun, first_overrun_of, overrun_at}
-use Rattle.study_run.proofs.OverLaws.{ended, is_first, no_windows, none_beyond, rises, window_more, within_horizon}
+use Rattle.study_run.proofs.OverLaws.{first_overrun-ended, is_first, no_windows, none_beyond, rises, window_more}
+use Rattle.study_run.proofs.OverLaws.{within_horizon}
 
 -- ---- AreWithin
 
 -- no log is longer where none is beyond the limit at the horizon
 pub none_within : (net : Net) (cs : List Clone) → NoneBeyond net cs net.horizon → AreWithin net cs
-none_within net cs h c there s low high =
+none_within net cs h c there s is =
     elim (cases_lt net.limit (length (log_at net (clone_at cs c) s net.horizon))) [
-      | inl long ↦ absurd (h s c low high there long)
+      | inl long ↦ absurd (h s c is there long)
       | inr short ↦ short
     ]
 
@@ -32,13 +33,14 @@ none_within net cs h c there s low high =
 
 module _ (net : Net) (valid : IsNet net) (cs : List Clone) where
   -- the fronts after a front are later
-  later : (front : ℕ) (fs : List ℕ) → AreFronts net cs front fs → (g : ℕ) → In g fs → front < g
-  later front [] h g i = absurd i
-  later front (f ∷ fs) h g (inl e) = let is = h.1 in let up = rises net cs valid front h.0 in omega (arith, is, up, e)
-  later front (f ∷ fs) h g (inr i) =
+  AreFronts-later : (front : ℕ) (fs : List ℕ) → AreFronts net cs front fs → (g : ℕ) → In g fs → front < g
+  AreFronts-later front [] h g i = absurd i
+  AreFronts-later front (f ∷ fs) h g (inl e) =
+      let is = h.1 in let up = rises net cs valid front h.0 in omega (arith, is, up, e)
+  AreFronts-later front (f ∷ fs) h g (inr i) =
       let is = h.1 in
       let up = rises net cs valid front h.0 in
-      let more = later f fs h.2 g i in
+      let more = AreFronts-later f fs h.2 g i in
       omega (arith, is, up, more)
 
   -- none is past the horizon
@@ -87,7 +89,8 @@ module _ (net : Net) (valid : IsNet net) (cs : List Clone) where
       none_before : (fs : List ℕ) → AreFronts net cs (next_front net cs front) fs → (g : ℕ)
           → In g (next_front net cs front ∷ fs) → g < next_front net cs front → NoneBeyond net cs g
       none_before fs are g (inl is) less = absurd (omega (arith, is, less))
-      none_before fs are g (inr i) less = let after = later net valid cs (next_front net cs front) fs are g i in
+      none_before fs are g (inr i) less =
+          let after = AreFronts-later net valid cs (next_front net cs front) fs are g i in
           absurd (omega (arith, after, less))
   meets_next n front s c below None e h on =
       let m = on h in
@@ -113,7 +116,7 @@ module _ (net : Net) (valid : IsNet net) (cs : List Clone) where
     | inl below ↦ meets_next n front s c below (overrun_at net cs (next_front net cs front)) refl
         (sym (window_more net cs n front below) ∙ h)
         (λ rest. meets_from n (next_front net cs front) s c rest)
-    | inr past ↦ absurd (let k = sym (ended net cs (suc n) front past) ∙ h in cc)
+    | inr past ↦ absurd (let k = sym (first_overrun-ended net cs (suc n) front past) ∙ h in cc)
   ]
 
   -- where the search finds it, the limit is met
@@ -136,7 +139,7 @@ module _ (net : Net) (valid : IsNet net) (cs : List Clone) where
       let first = m.first in
       let early = in_horizon net valid cs 0 e.fronts e.are_fronts m.bound e.is_one in
       let short = shorter_before (lawful-stations net valid) (clone_at cs c) s m.bound net.horizon net.limit early
-      (h c first.clone s first.low first.high) in
+      (h c first.clone s first.is_station) in
       let long = first.beyond in
       absurd (omega (arith, short, long))
 
@@ -144,9 +147,9 @@ module _ (net : Net) (valid : IsNet net) (cs : List Clone) where
 first_is_one : (net : Net) (cs : List Clone) (bound s c t d : ℕ) → IsFirstBeyond net cs bound s c
     → IsFirstBeyond net cs bound t d → (s ≡ t) × (c ≡ d)
 first_is_one net cs bound s c t d a b = elim (cases_lt s t) [
-  | inl less ↦ absurd (b.least_station s a.low less c a.clone a.beyond)
+  | inl less ↦ absurd (b.least_station s a.is_station.low less c a.clone a.beyond)
   | inr most ↦ elim (cases_lt t s) [
-    | inl less ↦ absurd (a.least_station t b.low less d b.clone b.beyond)
+    | inl less ↦ absurd (a.least_station t b.is_station.low less d b.clone b.beyond)
     | inr least ↦
         let same : t ≡ s = omega (arith, most, least) in
         let b' : IsFirstBeyond net cs bound s d = subst (λ k. IsFirstBeyond net cs bound k d) same b in (
@@ -168,10 +171,10 @@ first_is_one net cs bound s c t d a b = elim (cases_lt s t) [
 pub meeting_is_one : MeetingIsOne
 meeting_is_one net cs s c t d m k = elim (cases_lt m.bound k.bound) [
   | inl less ↦ let first = m.first in
-      absurd (k.before m.bound m.is_end less s c first.low first.high first.clone first.beyond)
+      absurd (k.before m.bound m.is_end less s c first.is_station first.clone first.beyond)
   | inr most ↦ elim (cases_lt k.bound m.bound) [
     | inl less ↦ let first = k.first in
-        absurd (m.before k.bound k.is_end less t d first.low first.high first.clone first.beyond)
+        absurd (m.before k.bound k.is_end less t d first.is_station first.clone first.beyond)
     | inr least ↦
         let same : k.bound ≡ m.bound = omega (arith, most, least) in
         first_is_one net cs m.bound s c t d m.first (subst (λ b. IsFirstBeyond net cs b t d) same k.first)

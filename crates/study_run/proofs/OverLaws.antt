@@ -47,7 +47,7 @@ module _ (net : Net) (cs : List Clone) (front : ℕ) where
   none_over : NoneBeyond net cs front → overrun_at net cs front ≡ None
   none_over h = below_none (λ i. overrun_in net cs front (i + 1)) (length net.sites)
       (λ i l. below_none (overrun_of net cs front (i + 1)) (length cs)
-      (λ c k. short_is (i + 1) c (h (i + 1) c (omega arith) (omega (arith, l)) k)))
+      (λ c k. short_is (i + 1) c (h (i + 1) c (record { low = omega arith; high = omega (arith, l) }) k)))
 
   -- where none is found at a station, no clone's log there is beyond the limit
   none_here : (s c : ℕ) → overrun_in net cs front s ≡ None → c < length cs → ¬ (IsBeyond net s front (clone_at cs c))
@@ -58,7 +58,9 @@ module _ (net : Net) (cs : List Clone) (front : ℕ) where
 
   -- and the other way round
   pub none_beyond : overrun_at net cs front ≡ None → NoneBeyond net cs front
-  none_beyond h s c low high there long =
+  none_beyond h s c is there long =
+      let low = is.low in
+      let high = is.high in
       let e : s - 1 + 1 ≡ s = omega (arith, low) in
       let here = none_below (λ i. overrun_in net cs front (i + 1)) (length net.sites) (s - 1) h
       (omega (arith, low, high)) in
@@ -66,10 +68,10 @@ module _ (net : Net) (cs : List Clone) (front : ℕ) where
 
   -- the least station with a log beyond the limit, and the least clone there, are found
   first_is : (s c : ℕ) → IsFirstBeyond net cs front s c → overrun_at net cs front ≡ Some (s, c)
-  first_is zero c h = absurd (let l = h.low in omega (arith, l))
+  first_is zero c h = absurd (let l = h.is_station.low in omega (arith, l))
   first_is (suc i) c h =
       let e : i + 1 ≡ suc i = omega arith in
-      let high = h.high in
+      let high = h.is_station.high in
       let here : overrun_in net cs front (suc i) ≡ Some (suc i, c) =
       below_some (overrun_of net cs front (suc i)) (length cs) c (suc i, c) h.clone (long_is (suc i) c h.beyond)
       (λ j l. short_is (suc i) j (h.least_clone j l)) in
@@ -88,8 +90,7 @@ module _ (net : Net) (cs : List Clone) (front : ℕ) where
       let same_c : c ≡ of.place = ap (λ p. p.1) here.1 in
       let below = at.below in
       let first : IsFirstBeyond net cs front (at.place + 1) of.place = record {
-        low = omega arith;
-        high = omega (arith, below);
+        is_station = record { low = omega arith; high = omega (arith, below) };
         clone = of.below;
         beyond = here.0;
         least_station = λ t low less k there long.
@@ -117,10 +118,10 @@ module _ (net : Net) (cs : List Clone) where
       (first_overrun net cs n (next_front net cs front)) else None) (lt-ltb front net.horizon l)
 
   -- none more
-  pub ended : (n front : ℕ) → net.horizon ≤ front → first_overrun net cs n front ≡ None
+  pub first_overrun-ended : (n front : ℕ) → net.horizon ≤ front → first_overrun net cs n front ≡ None
   unfolding first_overrun
-  ended zero front h = refl
-  ended (suc n) front h =
+  first_overrun-ended zero front h = refl
+  first_overrun-ended (suc n) front h =
       ap (λ (b : Bool). if b then option_or (overrun_at net cs (next_front net cs front))
       (first_overrun net cs n (next_front net cs front)) else None) (le-ltb front net.horizon h)
 
@@ -190,4 +191,4 @@ module _ (net : Net) (cs : List Clone) (front : ℕ) (below : front < net.horizo
 -- at the horizon
 pub comes_last : (net : Net) (cs : List Clone) (front : ℕ) → net.horizon ≤ front → HasCome net cs front
     → first_overrun_of net cs ≡ None
-comes_last net cs front h come = sym come.same ∙ ended net cs come.left front h
+comes_last net cs front h come = sym come.same ∙ first_overrun-ended net cs come.left front h

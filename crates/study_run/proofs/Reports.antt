@@ -13,6 +13,7 @@ use Rattle.run_laws.specs.CountLaws.{AreFew}
 use Rattle.run_laws.specs.SharedTexts.{station_sum}
 use Rattle.run_laws.proofs.FewGains.{counts_are_few}
 use Rattle.stations.specs.Runs.{handled_alone, copies, handled_once, simulation}
+use Rattle.world_core.specs.Overs.{most_handled}
 use Rattle.trace_report.specs.ReportText.{report_text}
 use Rattle.study_run.specs.Laws.{TotalIsFew, TotalIsOfReport}
 use Rattle.study_run.specs.Limits.{AreWithin}
@@ -20,7 +21,7 @@ use Rattle.trace_report.specs.Outputs.{figures_of, figures_to, report}
 
 -- a clone at a station handles no more than the limit, and all clones at all stations no more than a number holds
 small : (net : Net) (cs : List Clone) → IsNet net → length cs ≤ MOST_CLONES
-    → length net.sites * (length cs * net.limit) < 2 ^ 64
+    → most_handled net (length cs) < 2 ^ 64
 small net cs valid few =
     let a : length cs * net.limit ≤ 16777216 = mul-le-mul few valid.short in
     let b : length net.sites * (length cs * net.limit) ≤ 1073741824 = mul-le-mul valid.few a in
@@ -73,7 +74,8 @@ module _ (net : Net) (cs : List Clone) where
   -- where no log is longer than the limit, the counts are few
   pub few_at : AreWithin net cs → (s : ℕ) → 1 ≤ s → s ≤ length net.sites
       → AreFew (simulation net) same_entry cs s net.horizon
-  few_at h s low high = counts_are_few (simulation net) same_entry cs s net.horizon (λ c there. h c there s low high)
+  few_at h s low high = counts_are_few (simulation net) same_entry cs s net.horizon
+      (λ c there. h c there s (record { low = low; high = high }))
 
   -- ---- the total
 

@@ -19,6 +19,8 @@ use Rattle.study_run.specs.Limits.{IsWithin, MeetsLimitAlone}
 use Rattle.study_run.specs.Work.{IsFew}
 use Rattle.study_run.proofs.Fulls.{met_alone, within_alone}
 
+-- ---- trace_of
+
 -- a clone's run goes to its end, or else to the horizon
 module _ (net : Net) (c : Clone) (plans : List Planned) (end : Option ℕ) (front : ℕ) (v : SoloView)
     (same_plans : plans ≡ c.plans) (same_end : end ≡ c.end)
@@ -33,6 +35,8 @@ module _ (net : Net) (c : Clone) (plans : List Planned) (end : Option ℕ) (fron
   -- at first nothing was handled
   none_yet : length v.trace ≡ 0
   none_yet = ap (λ k. length k.at.trace) begins
+
+  -- ---- trace_of, IsWithin, IsFew, at the end
 
   module _ (s : SoloView) (old new : ℕ) (ends : config_of net s ≡ run_from net v front) (solo : IsSolo net s)
       (steps : new + length v.trace ≡ old + length s.trace) where
@@ -55,6 +59,8 @@ module _ (net : Net) (c : Clone) (plans : List Planned) (end : Option ℕ) (fron
         let none = none_yet in
         omega (arith, short, none, steps)
 
+  -- ---- StopsAlone
+
   -- where the run to the front stops at the limit, the run of the clone at its place ends so
   pub stops_alone : (cs : List Clone) (place old new station kept : ℕ) → clone_at cs place ≡ c
       → Stops net v front old new (Limit station kept)
@@ -66,7 +72,7 @@ module _ (net : Net) (c : Clone) (plans : List Planned) (end : Option ℕ) (fron
       let some = ap (first_beyond net.limit []) (sym trace_from) ∙ h.first in
       record {
         meets = subst (λ k. MeetsLimitAlone net k station) (sym is)
-            (met_alone net c station h.is_station.0 h.is_station.1 some);
+            (met_alone net c station h.is_station some);
         is_it = refl;
         few = omega (arith, none, steps, bounded);
       }

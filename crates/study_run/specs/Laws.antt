@@ -8,11 +8,11 @@ use Rattle.net_model.specs.Net.{Net}
 use Rattle.net_model.specs.Rules.{IsNet}
 use Rattle.run_laws.specs.World.{log_of}
 use Rattle.solo_run.specs.Limit.{receiver, first_beyond}
+use Rattle.world_core.specs.Overs.{most_handled}
 use Rattle.world_core.specs.Worlds.{total_handled}
 use Rattle.study_run.specs.Limits.{AreWithin, IsWithin, MeetsLimit, IsFirstFull, MeetsLimitAlone}
 use Rattle.study_run.specs.Overs.{first_overrun_of}
 use Rattle.trace_report.specs.Outputs.{figures_to}
-use Rattle.study_run.specs.Work.{most_handled}
 
 -- there is one station and one clone at which the limit is met
 abbrev pub MeetingIsOne : Type 0

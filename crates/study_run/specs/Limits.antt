@@ -4,7 +4,7 @@ use Rattle.sim_base.specs.Clones.{Clone, clone_at}
 use Rattle.sim_base.specs.declared.message.Msg.{Msg}
 use Rattle.sim_base.specs.declared.entry.Entry.{Entry}
 use Rattle.sim_base.specs.declared.entry.Line.{Line}
-use Rattle.net_model.specs.Net.{Net}
+use Rattle.net_model.specs.Net.{Net, HasStation}
 use Rattle.run_laws.specs.Queue.{In}
 use Rattle.run_laws.specs.World.{log_of}
 use Rattle.stations.specs.Runs.{AreFronts, log_at, trace_of}
@@ -13,7 +13,7 @@ use Rattle.world_core.specs.Overs.{IsFirstBeyond, NoneBeyond}
 
 -- no station's log of the clone's whole run is longer than the limit
 abbrev pub IsWithin : Net → Clone → Type 0
-IsWithin net c = (s : ℕ) → 1 ≤ s → s ≤ length net.sites → length (log_at net c s net.horizon) ≤ net.limit
+IsWithin net c = (s : ℕ) → HasStation net s → length (log_at net c s net.horizon) ≤ net.limit
 
 -- nor of any of the clones
 abbrev pub AreWithin : Net → List Clone → Type 0
@@ -46,6 +46,5 @@ pub record IsFirstFull (limit : ℕ) (trace : List (Entry Msg Line)) (station : 
 -- the limit is met in the run of one clone: its trace goes on where the log of this station is full, and no log is
 -- longer before
 pub record MeetsLimitAlone (net : Net) (c : Clone) (station : ℕ) : Type 0 where
-  pub low : 1 ≤ station
-  pub high : station ≤ length net.sites
+  pub is_station : HasStation net station
   pub first : IsFirstFull net.limit (trace_of net c) station

@@ -34,7 +34,7 @@ fn open_world(alloc: Global, model: &Arc<Model>, calls: &[Call]) -> Result<World
 }
 
 // Goes on window by window, up to the horizon, or before where a team pays and is asked for.
-fn go_on<C: Crew, G: Gate, L: Ledger, R: Threads + Wait + Sync>(
+fn run_windows<C: Crew, G: Gate, L: Ledger, R: Threads + Wait + Sync>(
     rt: &R,
     alloc: Global,
     crew: &C,
@@ -83,7 +83,7 @@ fn finish_beside<C: Crew, G: Gate, L: Ledger, R: Threads + Wait + Sync>(
     let Some(world) = world.take() else {
         unreachable!()
     };
-    let done = go_on(rt, alloc, crew, gate, model, world, false, steps);
+    let done = run_windows(rt, alloc, crew, gate, model, world, false, steps);
     bell.end();
     done
 }
@@ -144,7 +144,7 @@ fn go_on_with_team<C: Crew, G: Gate, L: Ledger, R: Threads + Wait + Sync>(
         let world = world.with_team(team);
         return go_on_beside(rt, alloc, crew, gate, model, world, members, &bell, steps);
     }
-    go_on(rt, alloc, crew, gate, model, world, false, steps)
+    run_windows(rt, alloc, crew, gate, model, world, false, steps)
 }
 
 // Goes on to the horizon: alone until a window is large, and then with a team.
@@ -160,7 +160,7 @@ fn go_to_horizon<C: Crew, G: Gate, L: Ledger, R: Threads + Wait + Sync>(
     requires under_way { IsUnderWay model.now world }
     ensures goes { GoesToHorizon model.now world steps.old steps.new result }
 {
-    let large = match go_on(rt, alloc, crew, gate, model, world, true, steps) {
+    let large = match run_windows(rt, alloc, crew, gate, model, world, true, steps) {
         Ok(large) => large,
         Err(fault) => return Err(fault),
     };

@@ -1,15 +1,10 @@
 -- The top of a tournament is the least of its words.
-use Rattle.std.proofs.Common.{◌≡◌, ◌⊎◌, ℕ, zero, suc, ◌+◌, ◌*◌, ◌-◌, ◌/◌, ◌%◌, ◌<◌, ◌≤◌, min, List, inl, inr, sym}
+use Rattle.std.proofs.Common.{◌≡◌, ℕ, zero, suc, ◌+◌, ◌*◌, ◌-◌, ◌/◌, ◌%◌, ◌<◌, ◌≤◌, List, inl, inr, sym}
 use Rattle.std.proofs.Common.{ap, ◌∙◌, arith, length, get_or, drop, length-drop}
 use Rattle.std.proofs.lemmas.Bool.{cases_lt, cases_eq}
 use Rattle.std.proofs.lemmas.List.{get_or-drop}
-use Rattle.trace_cursor.specs.Tournament.{IsNode, IsTree, IsLeast}
-
--- ---- min
-
--- of two, the lesser is one
-min_cases : (a b : ℕ) → (min a b ≡ a) ⊎ (min a b ≡ b)
-min_cases a b = grind arith
+use Rattle.sim_base.proofs.Elements.{min_cases}
+use Rattle.trace_cursor.specs.Tournament.{IsNode, IsTree, IsLeastWord}
 
 -- ---- IsTree
 
@@ -53,7 +48,7 @@ module _ (nodes : List ℕ) (count : ℕ) (t : IsTree nodes count) where
   ]
 
   -- the word at the top is the least of the words
-  pub least_word : (word : ℕ) → get_or nodes 1 0 ≡ word → IsLeast word (drop count nodes)
+  pub least_word : (word : ℕ) → get_or nodes 1 0 ≡ word → IsLeastWord word (drop count nodes)
   least_word word e =
       let some : 1 ≤ count = t.some in
       let h = word_of_node (2 * count) 1 (omega arith) (omega arith) (omega arith) in

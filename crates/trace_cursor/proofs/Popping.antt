@@ -12,13 +12,13 @@ use Rattle.sim_base.proofs.KeyWords.{words-ordered}
 use Rattle.sim_base.specs.declared.message.TheConstants.{WORD_PLACES}
 use Rattle.sim_base.specs.declared.entry.Line.{Line}
 use Rattle.sim_base.proofs.ListLaws.{all_set}
+use Rattle.sim_base.proofs.OrderLaws.{entry_total}
 use Rattle.log_chain.specs.Packing.{FitWords}
-use Rattle.trace_cursor.specs.Tournament.{IsLeast}
+use Rattle.trace_cursor.specs.Tournament.{IsLeastWord}
 use Rattle.trace_cursor.specs.Words.{by_key, word_of, merge_all, AllFitWords}
 use Rattle.trace_cursor.specs.Cursors.{IsCursor}
 use Rattle.trace_cursor.specs.declared.tree.TheConstants.{NO_WORD}
 use Rattle.trace_cursor.proofs.Merged.{E, first_of_all, none_of_all}
-use Rattle.run_laws.proofs.Rising.{entry_total}
 
 -- ---- by_key
 
@@ -57,13 +57,13 @@ fit_first : (ls : List (List E)) (i : ℕ) (e : E) (es : List E) → AllFitWords
     → FitsWord e.msg.key
 fit_first ls i e es h is = let all : FitWords (e ∷ es) = subst FitWords is (fit_at ls i h) in all.0
 
--- ---- IsLeast
+-- ---- IsLeastWord
 
 module _ (w : ℕ) (words : List ℕ) (ls : List (List E)) (reserved most : ℕ) (c : IsCursor ls words reserved most)
-    (h : IsLeast w words) where
+    (h : IsLeastWord w words) where
   -- the words are few
-  few : length words ≤ WORD_PLACES
-  few = c.few
+  length-words : length words ≤ WORD_PLACES
+  length-words = c.few
 
   -- and there is one for each list
   place : length ls ≤ length words
@@ -78,13 +78,13 @@ module _ (w : ℕ) (words : List ℕ) (ls : List (List E)) (reserved most : ℕ)
   at_place = sym (c.words_are h.place h.there) ∙ h.is
 
   -- the least word is that of the list whose place it tells
-  here_of : (l : List E) → get_or ls h.place [] ≡ l → word_of h.place l ≡ w → w % WORD_PLACES < length ls →
+  word_of-list : (l : List E) → get_or ls h.place [] ≡ l → word_of h.place l ≡ w → w % WORD_PLACES < length ls →
       word_of (w % WORD_PLACES) (get_or ls (w % WORD_PLACES) []) ≡ w
-  here_of (x ∷ xs) is e there =
+  word_of-list (x ∷ xs) is e there =
       let p = h.there in
-      let same : w % WORD_PLACES ≡ h.place = omega (arith, e, p, few) in
+      let same : w % WORD_PLACES ≡ h.place = omega (arith, e, p, length-words) in
       ap (λ i. word_of i (get_or ls i [])) same ∙ at_place
-  here_of [] is e there =
+  word_of-list [] is e there =
       let last : w % WORD_PLACES ≡ WORD_PLACES - 1 = omega (arith, e) in
       let le = not_less (w % WORD_PLACES) (omega (arith, there, place)) in
       greatest (get_or ls (w % WORD_PLACES) []) (fit_at ls (w % WORD_PLACES) c.fit) le
@@ -97,28 +97,28 @@ module _ (w : ℕ) (words : List ℕ) (ls : List (List E)) (reserved most : ℕ)
           omega (arith, a, b, d, le, e)
 
   -- it is there, where there is such a list
-  here : w % WORD_PLACES < length ls → word_of (w % WORD_PLACES) (get_or ls (w % WORD_PLACES) []) ≡ w
-  here = here_of (get_or ls h.place []) refl at_place
+  word_of-place : w % WORD_PLACES < length ls → word_of (w % WORD_PLACES) (get_or ls (w % WORD_PLACES) []) ≡ w
+  word_of-place = word_of-list (get_or ls h.place []) refl at_place
 
   -- so that list's first entry is the first of all
   pub merge_all-first : (e : E) (es : List E) → w % WORD_PLACES < length ls →
       get_or ls (w % WORD_PLACES) [] ≡ e ∷ es → merge_all ls ≡ e ∷ merge_all (set ls (w % WORD_PLACES) es)
   merge_all-first e es there is =
       let i : ℕ = w % WORD_PLACES in
-      let word : key_word i e.msg.key ≡ w = sym (ap (word_of i) is) ∙ here there in
+      let word : key_word i e.msg.key ≡ w = sym (ap (word_of i) is) ∙ word_of-place there in
       let fe : FitsWord e.msg.key = fit_first ls i e es c.fit is in
       first_of_all [] i ls e es there is (λ f fs q. let a : ⊥ = cc in absurd a)
       (λ j before f fs q.
       let le = not_less j (omega (arith, before, there, place)) in
       let wf = ap (word_of j) q in
-      greater_word i j e f fe (fit_first ls j f fs c.fit q) (omega (arith, there, place, few)) before
-      (omega (arith, word, le, wf, before, there, place, few)))
+      greater_word i j e f fe (fit_first ls j f fs c.fit q) (omega (arith, there, place, length-words)) before
+      (omega (arith, word, le, wf, before, there, place, length-words)))
       (λ j behind lj f fs q.
       let le = not_less j (omega (arith, lj, place)) in
       let wf = ap (word_of j) q in
-      less_word i j e f fe (fit_first ls j f fs c.fit q) (omega (arith, there, place, few))
-      (omega (arith, lj, place, few))
-      (omega (arith, word, le, wf, behind, lj, place, few)))
+      less_word i j e f fe (fit_first ls j f fs c.fit q) (omega (arith, there, place, length-words))
+      (omega (arith, lj, place, length-words))
+      (omega (arith, word, le, wf, behind, lj, place, length-words)))
 
   -- where that list has nothing left, the word is the greatest
   greatest_of : (l : List E) → get_or ls h.place [] ≡ l → word_of h.place l ≡ w → get_or ls (w % WORD_PLACES) [] ≡ []
@@ -126,7 +126,7 @@ module _ (w : ℕ) (words : List ℕ) (ls : List (List E)) (reserved most : ℕ)
   greatest_of [] is e none = sym e
   greatest_of (x ∷ xs) is e none =
       let p = h.there in
-      let same : w % WORD_PLACES ≡ h.place = omega (arith, e, p, few) in
+      let same : w % WORD_PLACES ≡ h.place = omega (arith, e, p, length-words) in
       let q : get_or ls h.place [] ≡ [] = subst (λ i. get_or ls i [] ≡ []) same none in
       let a : ⊥ = cc in absurd a
 
@@ -139,7 +139,7 @@ module _ (w : ℕ) (words : List ℕ) (ls : List (List E)) (reserved most : ℕ)
       let wf = ap (word_of j) is in
       let ff = fit_first ls j f fs c.fit is in
       let a = ff.time in let b = ff.sender in let d = ff.number in
-      let same : w % WORD_PLACES ≡ j = omega (arith, top, le, wf, a, b, d, lj, place, few) in
+      let same : w % WORD_PLACES ≡ j = omega (arith, top, le, wf, a, b, d, lj, place, length-words) in
       let q : get_or ls j [] ≡ [] = subst (λ i. get_or ls i [] ≡ []) same none in
       let x : ⊥ = cc in absurd x
 

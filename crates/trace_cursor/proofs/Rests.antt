@@ -8,7 +8,7 @@ use Rattle.run_laws.specs.Simulation.{Simulation}
 use Rattle.run_laws.specs.Runs.{trace_of, log_at}
 use Rattle.run_laws.specs.Handlers.{AreForStations, HandlesLawfully, SendsToStations, HandlesFreshly}
 use Rattle.run_laws.specs.Merges.{entry_order}
-use Rattle.run_laws.specs.SharedTexts.{from_on, log_from}
+use Rattle.run_laws.specs.SharedTexts.{entries_from, log_from}
 use Rattle.run_laws.proofs.Lists.{in_filter, sorted_filter}
 use Rattle.run_laws.proofs.Traces.{log_rises, merged_in_lists, in_lists_merged, merged_rises}
 use Rattle.run_laws.proofs.SharedTextsWeighing.{rest_of_logs}
@@ -37,7 +37,7 @@ module _ {S M N : Type 0} {sim : Simulation S M N} {Good : ℕ → S → Type 0}
   in_log s e i = (in_filter is_late (log_at sim c s sim.horizon) e i).0
 
   -- the rests of all stations merged are the rest of the trace
-  pub rest_is_merge : merge_of_rests sim sender number c t sim.stations ≡ from_on sim t (trace_of sim c)
+  pub rest_is_merge : merge_of_rests sim sender number c t sim.stations ≡ entries_from sim t (trace_of sim c)
   rest_is_merge = rest_of_logs law stations fresh c t (merge_of_rests sim sender number c t sim.stations) there
       (merged_rises law stations fresh c sim.horizon there (log_from sim c t) rest_rises in_log)
       (merged_in_lists law stations fresh c sim.horizon there (log_from sim c t) rest_rises in_log)

@@ -5,8 +5,8 @@ use Rattle.std.specs.declared.cmp.Ordering.TheVariants.{Less}
 use Rattle.sim_base.specs.declared.entry.Entry.{Entry}
 use Rattle.sim_base.specs.declared.entry.Line.{Line}
 use Rattle.sim_base.specs.declared.message.Msg.{Msg}
+use Rattle.sim_base.proofs.OrderEqual.{ordering_then-le}
 use Rattle.run_laws.specs.Queue.{Sorted}
-use Rattle.run_laws.proofs.Rising.{ordering_then-le}
 use Rattle.log_chain.specs.Packing.{FitWords}
 use Rattle.log_chain.specs.Times.{times_of, RiseByTime, from_time}
 use Rattle.trace_cursor.specs.Words.{by_key}

@@ -6,7 +6,7 @@ use Rattle.std.proofs.lemmas.List.{get_or-set_same, get_or_default, set-get_or, 
 use Rattle.sim_base.specs.declared.message.TheConstants.{WORD_PLACES}
 use Rattle.run_laws.specs.Merges.{merge}
 use Rattle.log_chain.specs.Packing.{FitWords}
-use Rattle.trace_cursor.specs.Tournament.{IsLeast}
+use Rattle.trace_cursor.specs.Tournament.{IsLeastWord}
 use Rattle.trace_cursor.specs.Words.{by_key, word_of, merge_all}
 use Rattle.trace_cursor.specs.Cursors.{CursorView, IsCursor}
 use Rattle.trace_cursor.proofs.Merged.{E, merge_more}
@@ -30,7 +30,7 @@ cursor_view-same a b m n p q x y z =
 -- ---- a step, by what the next walk gave
 
 module _ (ls : List (List E)) (words : List ℕ) (reserved most : ℕ) (c : IsCursor ls words reserved most)
-    (w : ℕ) (h : IsLeast w words)
+    (w : ℕ) (h : IsLeastWord w words)
     (there : w % WORD_PLACES < length ls) (old new : List E) (at : old ≡ get_or ls (w % WORD_PLACES) old) (r : Option E)
     (some : IfSome r (λ e. old ≡ e ∷ new)) (none : IfNone r ((old ≡ []) × (new ≡ []))) where
   -- the place that the least word tells
@@ -88,7 +88,7 @@ module _ (ls : List (List E)) (words : List ℕ) (reserved most : ℕ) (c : IsCu
 -- ---- a cursor that has an entry
 
 module _ (ls : List (List E)) (words : List ℕ) (reserved most : ℕ) (c : IsCursor ls words reserved most)
-    (w : ℕ) (h : IsLeast w words) (v : CursorView) (is : view_of ls most ≡ v) (some : 1 ≤ length v.left) where
+    (w : ℕ) (h : IsLeastWord w words) (v : CursorView) (is : view_of ls most ≡ v) (some : 1 ≤ length v.left) where
   -- some list has an entry left
   some_left : 1 ≤ length (merge_all ls)
   some_left = let e = ap (λ (u : CursorView). length u.left) is in omega (arith, e, some)

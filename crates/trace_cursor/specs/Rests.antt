@@ -7,7 +7,7 @@ use Rattle.run_laws.specs.Simulation.{Simulation}
 use Rattle.run_laws.specs.Runs.{trace_of, log_at}
 use Rattle.run_laws.specs.Handlers.{AreForStations}
 use Rattle.run_laws.specs.Merges.{entry_order, merge_of_lists}
-use Rattle.run_laws.specs.SharedTexts.{from_on, log_from}
+use Rattle.run_laws.specs.SharedTexts.{entries_from, log_from}
 
 module _ {S M N : Type 0} (sim : Simulation S M N) (sender number : M → ℕ) where
   -- what the logs of the stations 1 to n have from a time on, merged
@@ -17,7 +17,7 @@ module _ {S M N : Type 0} (sim : Simulation S M N) (sender number : M → ℕ) w
   -- for all stations it is what the trace has from there on
   abbrev pub RestIsMerge : Type 0
   RestIsMerge = (c : Clone) (t : ℕ) → AreForStations sim c.plans →
-      merge_of_rests c t sim.stations ≡ from_on sim t (trace_of sim c)
+      merge_of_rests c t sim.stations ≡ entries_from sim t (trace_of sim c)
 
   -- each log rises by key
   abbrev pub LogRises : Type 0

@@ -4,8 +4,8 @@ use Rattle.std.specs.Prelude.{◌≤◌, ◌==◌, if◌then◌else◌, List, le
 use Rattle.trace_cursor.specs.declared.tree.TheConstants.{MOST_WORDS}
 
 -- the other node below the same one
-abbrev pub beside : ℕ → ℕ
-beside node = if node % 2 == 0 then node + 1 else node - 1
+abbrev pub sibling : ℕ → ℕ
+sibling node = if node % 2 == 0 then node + 1 else node - 1
 
 -- a node has the lesser word of the two below it
 abbrev pub IsNode : List ℕ → ℕ → Type 0
@@ -23,7 +23,7 @@ pub record IsTree (nodes : List ℕ) (count : ℕ) : Type 0 where
   pub right : AreNodesBut nodes count 0
 
 -- the least of a list's words, and its place
-pub record IsLeast (word : ℕ) (words : List ℕ) : Type 0 where
+pub record IsLeastWord (word : ℕ) (words : List ℕ) : Type 0 where
   pub place : ℕ
   pub there : place < length words
   pub is : get_or words place 0 ≡ word

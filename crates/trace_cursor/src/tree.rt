@@ -1,6 +1,6 @@
 //! Tournaments of words.
 ghost use Rattle.std.specs.Prelude.{◌≡◌, ◌+◌, ◌-◌, ◌*◌, ◌<◌, ◌≤◌, length, replicate, slice_set, IfOk};
-ghost use Rattle.trace_cursor.specs.Tournament.{beside, IsLeast};
+ghost use Rattle.trace_cursor.specs.Tournament.{sibling, IsLeastWord};
 ghost use Rattle.trace_cursor.specs.declared.tree.TheConstants.{MOST_WORDS, NO_WORD};
 
 use sim_base::NoMemory;
@@ -60,7 +60,7 @@ impl Tree {
         let mut least = word;
         self.nodes[node] = word;
         while node > 1 {
-            least = least.min(self.nodes[beside(node)]);
+            least = least.min(self.nodes[sibling(node)]);
             node /= 2;
             self.nodes[node] = least;
         }
@@ -80,17 +80,17 @@ impl Tree {
     /// The least word.
     #[inline(always)]
     pub fn least(&self) -> u64
-        ensures value { IsLeast result self.now }
+        ensures value { IsLeastWord result self.now }
     {
         self.nodes[1]
     }
 }
 
 // The other node below the same one.
-fn beside(node: usize) -> usize
+fn sibling(node: usize) -> usize
     requires below { 1 < node }
     requires small { node < 2 * MOST_WORDS }
-    ensures value { result ≡ beside node }
+    ensures value { result ≡ sibling node }
 {
     if node % 2 == 0 { node + 1 } else { node - 1 }
 }

@@ -1,4 +1,4 @@
--- What stands for a number that is no station's.
+-- The slot of a number that is no station's.
 use Rattle.std.proofs.Common.{◌≡◌, ℕ, zero, suc, ◌<◌, ap, arith, length, unwrap_or, None}
 use Rattle.std.proofs.lemmas.Option.{slice_get_past}
 use Rattle.net_model.specs.Net.{Net, no_site, site_at, class_of_kind}

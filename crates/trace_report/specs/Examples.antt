@@ -1,6 +1,7 @@
 -- Worked examples: a trace as people read it, and a report.
 use Rattle.std.specs.Prelude.{ℕ, List, [], ◌∷◌, ◌++◌, codes}
 use Rattle.sim_base.specs.declared.figures.Figures.{Figures}
+use Rattle.net_model.specs.declared.limits.TheConstants.{USUAL_LIMIT}
 use Rattle.net_model.specs.declared.station.Kind.TheVariants.{Source, Sink}
 use Rattle.net_model.specs.Net.{Net}
 use Rattle.stations.specs.Examples.{link}
@@ -58,7 +59,7 @@ two_classes = record {
   lookahead = 2;
   horizon = 20;
   seed = 0;
-  limit = 16384;
+  limit = USUAL_LIMIT;
   sites =
       record { name = codes "low"; kind = Source 3 3 2 2; stream = 1; links = link 2 2 ∷ [] }
       ∷ record { name = codes "out"; kind = Sink; stream = 2; links = [] } ∷ [];

@@ -1,5 +1,5 @@
 -- The text of a report: what the clones had in common, station by station and in all.
-use Rattle.std.specs.Prelude.{ℕ, ◌++◌, List, codes, decimal, sum_by}
+use Rattle.std.specs.Prelude.{ℕ, ◌<◌, ◌^◌, ◌++◌, List, codes, decimal, sum_by}
 use Rattle.std.specs.List.{flat_map, zip}
 use Rattle.sim_base.specs.declared.figures.Figures.{Figures}
 use Rattle.net_model.specs.Net.{Net, Site}
@@ -17,6 +17,11 @@ abbrev pub total_line : List Figures → List ℕ
 total_line figures =
     codes "total handled=" ++ decimal (sum_by (λ f. f.handled) figures)
     ++ codes " alone=" ++ decimal (sum_by (λ f. f.alone) figures) ++ codes "\n"
+
+-- figures whose sums fit 64 bits
+pub record HaveSmallSums (figures : List Figures) : Type 0 where
+  pub handled : sum_by (λ f. f.handled) figures < 2 ^ 64
+  pub alone : sum_by (λ f. f.alone) figures < 2 ^ 64
 
 -- the report text of a network's stations, each beside its figures
 abbrev pub report_text : Net → List Figures → List ℕ

@@ -35,6 +35,7 @@ mod pieces;
 mod report;
 mod trace;
 
+pub use digits::LONGEST_NUMBER;
 pub use lengths::line_len;
 pub use line::{MOST_LINE, write_line, write_stored};
 pub use names::Names;

@@ -1,7 +1,7 @@
 //! Report texts.
-ghost use Rattle.std.specs.Prelude.{◌≡◌, ◌+◌, ◌*◌, ◌<◌, ◌≤◌, ◌^◌, length, sum_by, IfOk};
+ghost use Rattle.std.specs.Prelude.{◌≡◌, ◌+◌, ◌*◌, ◌≤◌, length, sum_by, IfOk};
 ghost use Rattle.std.specs.List.{flat_map, zip};
-ghost use Rattle.trace_report.specs.ReportText.{report_text as report_of, station_line, total_line};
+ghost use Rattle.trace_report.specs.ReportText.{HaveSmallSums, report_text as report_of, station_line, total_line};
 ghost use Rattle.trace_report.specs.Writers.{WritesPiece};
 ghost use Rattle.trace_report.specs.declared.report.TheConstants.{MOST_REPORT_LINE};
 ghost use Rattle.net_model.specs.Sites.{as_site};
@@ -44,7 +44,7 @@ fn write_stations(bytes: &mut [u8], start: usize, model: &Model, figures: &[Figu
 
 // How many messages all copies handled.
 fn handled_in_all(figures: &[Figures]) -> u64
-    requires small { sum_by (λ f. f.handled) figures.now < 2 ^ 64 }
+    requires sums { HaveSmallSums figures.now }
     ensures value { result ≡ sum_by (λ f. f.handled) figures.now }
 {
     figures.iter().map(|f| f.handled).sum()
@@ -52,7 +52,7 @@ fn handled_in_all(figures: &[Figures]) -> u64
 
 // How many messages the clones would have handled alone.
 fn alone_in_all(figures: &[Figures]) -> u64
-    requires small { sum_by (λ f. f.alone) figures.now < 2 ^ 64 }
+    requires sums { HaveSmallSums figures.now }
     ensures value { result ≡ sum_by (λ f. f.alone) figures.now }
 {
     figures.iter().map(|f| f.alone).sum()
@@ -60,8 +60,7 @@ fn alone_in_all(figures: &[Figures]) -> u64
 
 // The line of the sums.
 fn write_total(bytes: &mut [u8], at: usize, figures: &[Figures]) -> usize
-    requires handled { sum_by (λ f. f.handled) figures.now < 2 ^ 64 }
-    requires alone { sum_by (λ f. f.alone) figures.now < 2 ^ 64 }
+    requires sums { HaveSmallSums figures.now }
     requires free { at + MOST_REPORT_LINE ≤ length bytes.old }
     ensures written { WritesPiece (total_line figures.now) MOST_REPORT_LINE at result bytes.old bytes.new }
 {
@@ -73,8 +72,7 @@ fn write_total(bytes: &mut [u8], at: usize, figures: &[Figures]) -> usize
 /// The report text: for each station its figures, and then the sums.
 pub fn report_text(alloc: Global, model: &Model, figures: &[Figures]) -> Result<Vec<u8>, NoMemory>
     requires all { length figures.now ≡ length model.now.sites }
-    requires handled { sum_by (λ f. f.handled) figures.now < 2 ^ 64 }
-    requires alone { sum_by (λ f. f.alone) figures.now < 2 ^ 64 }
+    requires sums { HaveSmallSums figures.now }
     ensures { IfOk result (λ text. text.items ≡ report_of model.now figures.now) }
 {
     let mut text = vec![in alloc; 0u8; MOST_REPORT_LINE * (model.len() as usize + 2)]?;

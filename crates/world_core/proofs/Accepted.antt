@@ -2,6 +2,7 @@
 use Rattle.std.proofs.Common.{◌≡◌, ℕ, ◌==◌, ◌<◌, ◌≤◌, List}
 use Rattle.std.proofs.Common.{◌∷◌, refl, sym, ap, ◌∙◌, length, Option, Some, None}
 use Rattle.std.proofs.Common.{is_none, option_map, nat_le}
+use Rattle.std.proofs.lemmas.Bool.{leb-false}
 use Rattle.sim_base.specs.Clones.{Clone, clone_at, place_of}
 use Rattle.sim_base.specs.Decisions.{subject}
 use Rattle.sim_base.specs.declared.decision.Decision.{Decision}
@@ -16,7 +17,7 @@ use Rattle.decision_book.specs.declared.call.Reply.TheVariants.{UnknownStation, 
 use Rattle.decision_book.specs.declared.call.TheConstants.{MOST_CALLS}
 use Rattle.decision_book.specs.Replies.{row, first_row, reply, rows, clone_rows, time_rows, change_row, fault_row}
 use Rattle.decision_book.proofs.Planned.{station_named-low}
-use Rattle.decision_book.proofs.Rows.{above, first_row-Accepted, first_row-fault, first_row-times}
+use Rattle.decision_book.proofs.Rows.{first_row-Accepted, first_row-fault, first_row-times}
 use Rattle.world_core.specs.Taking.{situation, IsAccepted}
 
 -- ---- MaySet
@@ -52,7 +53,7 @@ may_set net cs front c at who station change h = by (station_named station net) 
           low = station_named-low station net s e;
           late = t.0;
           early = t.1;
-          short = above MOST_DECISIONS (length (clone_at cs c).plans) b.0;
+          short = leb-false MOST_DECISIONS (length (clone_at cs c).plans) b.0;
         }
 
     by : (o : Option ℕ) → station_named station net ≡ o

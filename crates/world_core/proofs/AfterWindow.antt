@@ -29,7 +29,7 @@ use Rattle.run_laws.specs.Copies.{IsDelivered}
 use Rattle.run_laws.proofs.Queue.{all_in, all_from}
 use Rattle.run_laws.proofs.Lists.{in_append, append_old, append_new}
 use Rattle.run_laws.proofs.Parts.{part_yes, part_no, part-append}
-use Rattle.run_laws.proofs.Delivery.{given_none, given_more, delivered}
+use Rattle.run_laws.proofs.Delivery.{given_none, given_more, IsDelivered-SoFarGiven}
 use Rattle.run_laws.proofs.Stands.{stands_after_window}
 use Rattle.run_laws.proofs.Gaining.{over_is_beyond, handled_grows, handled_is_few}
 use Rattle.run_laws.proofs.MessageOrder.{messages_ordered}
@@ -38,6 +38,7 @@ use Rattle.phys_proc.specs.Procs.{ProcView}
 use Rattle.world_core.specs.declared.flow.Flow.{Flow}
 use Rattle.phys_proc.proofs.ComesFrom.{sets_join}
 use Rattle.phys_proc.proofs.Delivery.{all_given}
+use Rattle.world_core.specs.Overs.{most_handled}
 use Rattle.world_core.specs.Worlds.{StandsAt, copies_at, total_handled}
 use Rattle.world_core.specs.Windows.{AllFlow, IsFlow, NoneOver, with_mail, sent_to}
 use Rattle.world_core.specs.Windows.{all_sent, done_at, sent_at, after_window, all_handled}
@@ -57,7 +58,7 @@ module _ (net : Net) (ends : ℕ → ℕ) where
       subst (λ l. SoFarGiven (simulation net) has ends l new (with_mail (x ∷ ms) done)) (append_assoc msgs (x ∷ []) ms)
       (given_so_far ms (msgs ++ x ∷ []) new (map (with_message x.0 x.1) done)
       (given_more (simulation net) has ends messages_ordered msgs new done (map (with_message x.0 x.1) done) x.0 x.1 f
-      (all_given net ends x.0 x.1 done (all_from (λ a. SortedMarked msg_cmp a.pending) done f.sorted))))
+      (all_given net ends x.0 x.1 done (all_from (λ a. SortedMarked msg_cmp a.pending) done f.clones.sorted))))
 
   -- what a clone takes of the messages to a station
   taken_to : (i c : ℕ) (ms : MarkedMessages) (z : Msg)
@@ -268,7 +269,7 @@ module _ (net : Net) (cs : List Clone) (front bound : ℕ) (procs : List ProcVie
       omega (arith, a, b, c, d)
 
   -- and so all stations together
-  pub few_handled : total_handled net cs front + all_handled flows ≤ length net.sites * (length cs * net.limit)
+  pub few_handled : total_handled net cs front + all_handled flows ≤ most_handled net (length cs)
   few_handled =
       let h = few_to (length net.sites) (omega arith) in
       let e = all_handled-sum flows ∙ ap (station_sum (by_number 0 (handled_at flows))) world.all_flows in
@@ -328,13 +329,14 @@ module _ (net : Net) (cs : List Clone) (front bound : ℕ) (procs : List ProcVie
     is_delivered i l =
         let ends = ends_of (simulation net) cs in
         let st = step_at i l in
-        delivered (simulation net) has cs (i + 1) (by_number [] (sent_at flows)) (sent_to i (all_sent flows))
+        IsDelivered-SoFarGiven (simulation net) has cs (i + 1) (by_number [] (sent_at flows))
+        (sent_to i (all_sent flows))
         (done_at flows i) (after_window flows i)
         (λ c z h. let t = taken_to net ends i c (all_sent flows) z h in let r = from_all net ends c z flows t.0 in
         (suc r.0, r.1, t.1))
         (λ c r z h e. to_all c r z h e)
         (given_so_far net ends (sent_to i (all_sent flows)) [] (done_at flows i) (done_at flows i)
-        (given_none (simulation net) has ends (done_at flows i) st.disjoint (sorted_at i l)))
+        (given_none (simulation net) has ends (done_at flows i) st.split.disjoint (sorted_at i l)))
       where
         to_all : (c r : ℕ) (z : Msg) → In z
             (messages_taken (simulation net) has (ends_of (simulation net) cs) c (by_number [] (sent_at flows) r))

@@ -9,7 +9,7 @@ use Rattle.clone_sets.specs.declared.set.CloneSet.{CloneSet}
 use Rattle.net_model.specs.Net.{Net}
 use Rattle.phys_proc.specs.Own.{StationCopy, MarkedMessages, with_message}
 use Rattle.phys_proc.specs.Procs.{ProcView, IsProc}
-use Rattle.world_core.specs.Windows.{AllDelivered, AreNumbered, IsDeliveredTo, sent_to, with_mail}
+use Rattle.world_core.specs.Windows.{AllDelivered, AreStationsInOrder, IsDeliveredTo, sent_to, with_mail}
 use Rattle.world_core.proofs.Places.{got_at, one_got}
 use Rattle.run_laws.proofs.Lists.{slice_get-set_same, slice_get-set_other}
 
@@ -73,9 +73,9 @@ AllDelivered-one m k procs j old new l to is copies station living once proc = r
 }
 
 -- the stations stand in the order of their numbers as before
-pub AreNumbered-delivered : (ms : MarkedMessages) (olds news : List ProcView) → AreNumbered olds
-    → AllDelivered ms olds news → AreNumbered news
-AreNumbered-delivered ms olds news h d = λ i q got.
+pub AreStationsInOrder-delivered : (ms : MarkedMessages) (olds news : List ProcView) → AreStationsInOrder olds
+    → AllDelivered ms olds news → AreStationsInOrder news
+AreStationsInOrder-delivered ms olds news h d = λ i q got.
     let l = slice_get_within news i q got in
     let p = slice_get-get_or olds i q (let k = d.count in omega (arith, l, k)) in
     (d.each i (get_or olds i q) q p got).station ∙ h i (get_or olds i q) p

@@ -1,6 +1,6 @@
 -- Due times and figures, by the copies.
 use Rattle.std.proofs.Common.{◌≡◌, ◌⊎◌, ℕ, zero, suc, ◌+◌, ◌-◌, ◌*◌, ◌++◌, take, ◌<◌}
-use Rattle.std.proofs.Common.{◌≤◌, List, [], ◌∷◌, inl, inr, Option, Some, None, refl, sym}
+use Rattle.std.proofs.Common.{◌≤◌, List, [], ◌∷◌, inl, inr, Option, Some, refl, sym}
 use Rattle.std.proofs.Common.{ap, ◌∙◌, subst, arith, length, slice_get, get_or, unwrap_or, option_map, sum_by}
 use Rattle.std.specs.List.{AllByRecursion}
 use Rattle.std.proofs.Math.Nat.{add-mul, mul-le-mul_left}
@@ -24,7 +24,7 @@ use Rattle.run_laws.specs.Queue.{In}
 use Rattle.run_laws.specs.Handlers.{IsStation}
 use Rattle.run_laws.specs.Copies.{Stands, ends_of, Carries}
 use Rattle.run_laws.specs.Fronts.{earlier, least_time, least_of, least}
-use Rattle.run_laws.specs.FrontLaws.{IsTaken, least_to, IsLeastTime as IsLeastBy}
+use Rattle.run_laws.specs.FrontLaws.{IsTaken, least_to}
 use Rattle.run_laws.specs.Runs.{due_at}
 use Rattle.run_laws.proofs.Leasts.{least-unique, least_time-is}
 use Rattle.run_laws.proofs.DueTimes.{least_of-stations, least-copies}
@@ -34,31 +34,14 @@ use Rattle.phys_proc.specs.Ends.{ends_in}
 use Rattle.phys_proc.specs.Own.{StationCopy, IsCopy, handled_alone_by, all_sizes, taken_at}
 use Rattle.phys_proc.specs.Procs.{ProcView, IsTakenBy, IsLeastTime, IsLeastOf}
 use Rattle.phys_proc.proofs.ComesFrom.{sets_join}
+use Rattle.phys_proc.proofs.LeastTimes.{least_as}
 use Rattle.world_core.specs.Worlds.{StandsAt, WorldStands, copies_at}
 use Rattle.world_core.proofs.Flows.{copies_at-got}
 use Rattle.world_core.proofs.Places.{by_number}
 
--- ---- IsLeastTime
-
 -- the time of a message
-abbrev pub time_of : Msg → ℕ
+abbrev time_of : Msg → ℕ
 time_of m = m.key.time
-
--- a least time as copies have it is one as the laws have it
-pub by_law : (P : Msg → Type 0) (t : Option ℕ) → IsLeastTime P t → IsLeastBy time_of P t
-by_law P None h = h
-by_law P (Some t) h = h
-
--- and one as the laws have it is one as copies have it
-pub by_words : (P : Msg → Type 0) (t : Option ℕ) → IsLeastBy time_of P t → IsLeastTime P t
-by_words P None h = h
-by_words P (Some t) h = h
-
--- the least of a class of messages is that of the same class in other words
-least_as : (P Q : Msg → Type 0) (t : Option ℕ) → ((m : Msg) → P m → Q m) → ((m : Msg) → Q m → P m)
-    → IsLeastBy time_of P t → IsLeastBy time_of Q t
-least_as P Q None f g h = λ m q. h m (g m q)
-least_as P Q (Some t) f g h = ((h.0.0, f h.0.0 h.0.1, h.0.2), λ m q. h.1 m (g m q))
 
 -- ---- TakenTo
 
@@ -73,7 +56,7 @@ pub record TakenTo (ends : ℕ → ℕ) (procs : List ProcView) (n : ℕ) (m : M
 
 -- the least time of those
 abbrev pub IsLeastTo : (ℕ → ℕ) → List ProcView → ℕ → Option ℕ → Type 0
-IsLeastTo ends procs n t = IsLeastBy time_of (TakenTo ends procs n) t
+IsLeastTo ends procs n t = IsLeastTime (TakenTo ends procs n) t
 
 module _ (net : Net) (cs : List Clone) (ended : List (ℕ × ℕ)) (front : ℕ) (procs : List ProcView)
     (world : WorldStands net cs ended front procs) where
@@ -95,8 +78,7 @@ module _ (net : Net) (cs : List Clone) (ended : List (ℕ × ℕ)) (front : ℕ)
       (λ m x. subst (In m) (st.due x.copy c x.is_copy x.is_in) x.is_taken)
       (λ m d. let a = st.carried c l in
       record { copy = a.0; is_copy = a.1; is_in = a.2; is_taken = subst (In m) (sym (st.due a.0 c a.1 a.2)) d })
-      (by_law (IsTakenBy (ends_of (simulation net) cs) p.copies c) t h2)
-      (least_time-is time_of (due_at (simulation net) (clone_at cs c) (i + 1) front)))
+      h2 (least_time-is time_of (due_at (simulation net) (clone_at cs c) (i + 1) front)))
 
   -- the clone's least due time up to a station, with its least of the next station's copies, is that up to the next
   pub least_of_next : (i c : ℕ) (p : ProcView) (before here : Option ℕ) → slice_get procs i ≡ Some p → c < length cs →
@@ -122,10 +104,9 @@ module _ (net : Net) (cs : List Clone) (ended : List (ℕ × ℕ)) (front : ℕ)
   -- the least of what is taken before a place and at it is the least up to the next place
   pub least_next : (i : ℕ) (p : ProcView) (after : Option ℕ) → slice_get procs i ≡ Some p →
       IsLeastTime (λ m. TakenTo ends procs i m ⊎ ((c : ℕ) × IsTakenBy ends p.copies c m)) after →
-      IsLeastBy time_of (TakenTo ends procs (i + 1)) after
+      IsLeastTime (TakenTo ends procs (i + 1)) after
   least_next i p after got h = least_as (λ m. TakenTo ends procs i m ⊎ ((c : ℕ) × IsTakenBy ends p.copies c m))
-      (TakenTo ends procs (i + 1)) after to from
-      (by_law (λ m. TakenTo ends procs i m ⊎ ((c : ℕ) × IsTakenBy ends p.copies c m)) after h)
+      (TakenTo ends procs (i + 1)) after to from h
     where
       to : (m : Msg) → TakenTo ends procs i m ⊎ ((c : ℕ) × IsTakenBy ends p.copies c m) → TakenTo ends procs (i + 1) m
       to m (inl x) = let l = x.before in
@@ -177,7 +158,7 @@ module _ (net : Net) (cs : List Clone) (ended : List (ℕ × ℕ)) (front : ℕ)
   ]
 
   -- and up to the last place it is the least due time of all clones
-  pub least_all : (n : ℕ) (t : Option ℕ) → length procs ≤ n → IsLeastBy time_of (TakenTo ends procs n) t
+  pub least_all : (n : ℕ) (t : Option ℕ) → length procs ≤ n → IsLeastTime (TakenTo ends procs n) t
       → t ≡ least (simulation net) cs front
   least_all n t many h = sym (least-copies (lawful-stations net world.valid) (stations-to_stations net world.valid)
       has cs front copies_of world.for_stations stand_there t

@@ -9,10 +9,10 @@ use Rattle.std.proofs.lemmas.Option.{same_Some, slice_get_within}
 use Rattle.clone_sets.specs.Sets.{empty, IsFirst}
 use Rattle.clone_sets.specs.declared.set.CloneSet.{CloneSet}
 use Rattle.net_model.specs.Net.{Net}
-use Rattle.phys_proc.specs.Own.{MarkedMessages, AreLate}
+use Rattle.phys_proc.specs.Own.{MarkedMessages, IsLowerBoundOfAll}
 use Rattle.phys_proc.specs.Procs.{ProcView, AreShared}
 use Rattle.world_core.specs.declared.flow.Flow.{Flow}
-use Rattle.phys_proc.proofs.AllCopies.{idle, all_stepped, all_over, all_gained}
+use Rattle.phys_proc.proofs.AllCopies.{IsStepResult-idle, all_stepped, all_over, all_gained}
 use Rattle.world_core.specs.Windows.{IsFlow, IsNumbered, NoneOver}
 use Rattle.world_core.specs.Overs.{IsFirstOver}
 use Rattle.world_core.specs.Stepping.{FirstOver, SteppedAt, SteppedTo, AllStepped}
@@ -23,11 +23,11 @@ use Rattle.run_laws.proofs.Lists.{slice_get-push}
 
 -- a station with nothing due answers with what it is
 IsFlow-idle : (net : Net) (ends : ℕ → ℕ) (bound i : ℕ) (p : ProcView) (flow : Flow) → IsNumbered net i p
-    → AreLate bound p.copies →
+    → IsLowerBoundOfAll bound p.copies →
     AreShared p.living p.copies → flow.done ≡ p → flow.sent.items ≡ [] → flow.over ≡ empty → flow.handled ≡ 0 →
     IsFlow net ends bound i p flow
 IsFlow-idle net ends bound i p flow h late shared done sent over handled =
-    let far = idle net h.proc.valid p.station ends bound p.copies 0 h.proc.copies late shared.disjoint in
+    let far = IsStepResult-idle net h.proc.valid p.station ends bound p.copies 0 h.proc.copies late shared.disjoint in
     is_flow net ends bound i p flow h.number (record {
       windows = λ e. rw (done, sent) (all_stepped net h.proc.valid p.station ends bound p.copies p.copies [] empty 0 0
           h.proc.copies far refl);
@@ -181,7 +181,7 @@ module _ (net : Net) (ends : ℕ → ℕ) (bound : ℕ) (olds : List ProcView) w
   -- a station with nothing due has answered where it stands
   pub SteppedTo-idle : (n : ℕ) (news : List ProcView) (sent : MarkedMessages) (over : Option (ℕ × ℕ)) (steps0 steps : ℕ)
       (p : ProcView) (flow : Flow) → n < length olds → SteppedTo net ends bound n olds news sent over steps0 steps
-      → slice_get news n ≡ Some p → IsNumbered net n p → AreLate bound p.copies → AreShared p.living p.copies
+      → slice_get news n ≡ Some p → IsNumbered net n p → IsLowerBoundOfAll bound p.copies → AreShared p.living p.copies
       → flow.done ≡ p → flow.sent.items ≡ [] → flow.over ≡ empty → flow.handled ≡ 0
       → SteppedTo net ends bound (n + 1) olds news sent over steps0 steps
   SteppedTo-idle n news sent over steps0 steps p flow less far got numbered late shared done none free silent =

@@ -10,7 +10,7 @@ use Rattle.sim_base.specs.declared.message.Msg.{Msg}
 use Rattle.clone_sets.specs.declared.set.CloneSet.{CloneSet}
 use Rattle.phys_proc.specs.Own.{MarkedMessages}
 use Rattle.phys_proc.specs.Procs.{ProcView}
-use Rattle.world_core.specs.Windows.{AllDelivered, AreNumbered, IsDeliveredTo, sent_to, with_mail}
+use Rattle.world_core.specs.Windows.{AllDelivered, AreStationsInOrder, IsDeliveredTo, sent_to, with_mail}
 use Rattle.world_core.specs.Posts.{PostView, AreFor, IsPostAt, ArePosts, no_mail}
 use Rattle.world_core.proofs.Places.{got_at, map_got}
 use Rattle.run_laws.proofs.Lists.{slice_get-set_same, slice_get-set_other}
@@ -31,13 +31,13 @@ AreFor-post i sent p post number h = subst (λ s. AreFor s post.mail)
     (subst (AreFor (i + 1)) (sym h.mail) (AreFor-sent_to i sent))
 
 -- and that of each post of stations in the order of their numbers
-pub AreFor-posts : (sent : MarkedMessages) (procs : List ProcView) (posts : List PostView) → AreNumbered procs
+pub AreFor-posts : (sent : MarkedMessages) (procs : List ProcView) (posts : List PostView) → AreStationsInOrder procs
     → ArePosts sent procs posts → (i : ℕ) (q : PostView) → slice_get posts i ≡ Some q
     → AreFor q.proc.station q.mail
-AreFor-posts sent procs posts numbered h i q got =
+AreFor-posts sent procs posts order h i q got =
     let l = slice_get_within posts i q got in
     let p = slice_get-get_or procs i q.proc (let c = h.count in omega (arith, l, c)) in
-    AreFor-post i sent (get_or procs i q.proc) q (numbered i (get_or procs i q.proc) p)
+    AreFor-post i sent (get_or procs i q.proc) q (order i (get_or procs i q.proc) p)
     (h.each i (get_or procs i q.proc) q p got)
 
 -- ---- ArePosts

@@ -1,6 +1,6 @@
 -- The world before anything was handled.
-use Rattle.std.proofs.Common.{◌≡◌, ◌↔◌, ◌==◌, true, ℕ, zero, suc, ◌+◌, List, [], ◌∷◌, ◌++◌}
-use Rattle.std.proofs.Common.{inl, inr, refl, sym, ap, ◌∙◌, subst, arith, length, eqb-true, eq-eqb, nat_lt}
+use Rattle.std.proofs.Common.{◌≡◌, ◌==◌, ℕ, zero, suc, ◌+◌, List, [], ◌∷◌, ◌++◌}
+use Rattle.std.proofs.Common.{inl, inr, refl, sym, ap, ◌∙◌, subst, arith, length, nat_lt}
 use Rattle.std.proofs.Math.Path.{fun_ext}
 use Rattle.std.proofs.lemmas.Bool.Decides.{nat_tests}
 use Rattle.std.proofs.lemmas.Option.{slice_get_within}
@@ -34,11 +34,7 @@ first_push net procs new n count f first = λ i p got. elim (slice_get-push proc
 
 -- ---- one
 
--- the set of the first clone has no other
-only_first : (c : ℕ) → (has (one 0) c ≡ true) ↔ (c ≡ 0)
-only_first c = ((λ e. sym (eqb-true 0 c (sym (has-one 0 c) ∙ e))), (λ e. has-one 0 c ∙ eq-eqb 0 c (sym e)))
-
--- and has just the numbers below 1
+-- the set of the first clone has just the numbers below 1
 first_lives : (c : ℕ) → has (one 0) c ≡ nat_lt c 1
 first_lives c = has-one 0 c ∙ same c
   where
@@ -78,7 +74,7 @@ world_begins net procs valid count first = record {
         living = λ c. ap (λ k. has k c) f.living ∙ first_lives c;
         once = f.once ∙ sym (handled-0 (simulation net) same_entry (base ∷ []) (i + 1));
         copies = subst (Stands (simulation net) has (base ∷ []) 0 (i + 1)) (sym f.copies)
-            (stands_first (lawful-stations net valid) (stations-to_stations net valid) has (one 0) only_first (i + 1)
+            (stands_first (lawful-stations net valid) (stations-to_stations net valid) has (one 0) (has-one 0) (i + 1)
             (omega arith, omega (arith, l, count)));
       };
 }

@@ -21,6 +21,8 @@ module _ (net : Net) (cs : List Clone) (front bound : ℕ) (procs : List ProcVie
       (has flow.over c ≡ true) ↔ ((c < length cs) × IsBeyond net (i + 1) bound (clone_at cs c))
   over_at = over_of net cs front bound procs flows world
 
+  -- ---- IsFirstBeyond
+
   -- the first station and clone over the limit are the first whose log is beyond it at the bound
   pub first_beyond : (i who : ℕ) → IsFirstOver flows i who → IsFirstBeyond net cs bound (i + 1) who
   first_beyond i who h =
@@ -29,8 +31,7 @@ module _ (net : Net) (cs : List Clone) (front bound : ℕ) (procs : List ProcVie
       let is = (over_at i l h.flow h.is_there who).0 h.first.in_set in
       let there = is.0 in
       record {
-        low = omega arith;
-        high = omega (arith, l);
+        is_station = record { low = omega arith; high = omega (arith, l) };
         clone = is.0;
         beyond = is.1;
         least_station = λ s one less c k long. before s one less c k long;
@@ -52,10 +53,13 @@ module _ (net : Net) (cs : List Clone) (front bound : ℕ) (procs : List ProcVie
             omega (arith, p, q, less))
       ]
 
+  -- ---- NoneBeyond
+
   -- where no clone went over the limit, no log is beyond it
   pub none_beyond : NoneOver flows → NoneBeyond net cs bound
-  none_beyond none zero c low high there long = absurd (omega (arith, low))
-  none_beyond none (suc i) c low high there long =
+  none_beyond none zero c is there long = absurd (let low = is.low in omega (arith, low))
+  none_beyond none (suc i) c is there long =
+      let high = is.high in
       let l : i < length net.sites = omega (arith, high) in
       let e : suc i ≡ i + 1 = omega arith in
       let f = flow_of net cs front bound procs flows world i l in

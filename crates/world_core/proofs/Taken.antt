@@ -19,12 +19,12 @@ use Rattle.sim_base.proofs.SameEntry.{same_entry-Decides}
 use Rattle.clone_sets.specs.Sets.{has, one, with}
 use Rattle.clone_sets.specs.declared.set.CloneSet.{CloneSet}
 use Rattle.clone_sets.proofs.SetLaws.{has-one, has-with}
-use Rattle.net_model.specs.Net.{Net}
+use Rattle.net_model.specs.Net.{Net, HasStation}
 use Rattle.stations.specs.Runs.{simulation, set_message}
 use Rattle.stations.proofs.GoodLaws.{lawful-stations}
 use Rattle.run_laws.specs.Handlers.{IsStation, AreForStations}
 use Rattle.run_laws.specs.Copies.{Stands, ends_of}
-use Rattle.run_laws.specs.Runs.{end_of}
+use Rattle.run_laws.specs.Runs.{end_of, IsTimelyPlan, IsTimelyEnd, MayFork}
 use Rattle.run_laws.proofs.Queue.{all_from}
 use Rattle.run_laws.proofs.Places.{set_cases, clone_push_same, clone_push_other}
 use Rattle.run_laws.proofs.Deciding.{stands_after_decision, stands_after_other_decision, stands_end, stands_fork}
@@ -40,14 +40,14 @@ use Rattle.world_core.specs.Forking.{AllForked, LivesAtAll, LivesNowhere}
 -- ---- LivesAtAll, LivesNowhere
 
 -- a clone lives at every station
-pub lives : (net : Net) (cs : List Clone) (ended : List (ℕ × ℕ)) (front : ℕ) (procs : List ProcView)
+pub LivesAtAll-stands : (net : Net) (cs : List Clone) (ended : List (ℕ × ℕ)) (front : ℕ) (procs : List ProcView)
     → WorldStands net cs ended front procs → (c : ℕ) → c < length cs → LivesAtAll c procs
-lives net cs ended front procs world c l = λ i p got. (world.each i p got).living c ∙ lt-ltb c (length cs) l
+LivesAtAll-stands net cs ended front procs world c l = λ i p got. (world.each i p got).living c ∙ lt-ltb c (length cs) l
 
 -- and the number that the next clone would get lives at none
-pub lives_not : (net : Net) (cs : List Clone) (ended : List (ℕ × ℕ)) (front : ℕ) (procs : List ProcView)
+pub LivesNowhere-stands : (net : Net) (cs : List Clone) (ended : List (ℕ × ℕ)) (front : ℕ) (procs : List ProcView)
     → WorldStands net cs ended front procs → LivesNowhere (length cs) procs
-lives_not net cs ended front procs world = λ i p got. (world.each i p got).living (length cs) ∙ not_below
+LivesNowhere-stands net cs ended front procs world = λ i p got. (world.each i p got).living (length cs) ∙ not_below
   where
     not_below : nat_lt (length cs) (length cs) ≡ false
     not_below = grind (arith, nat_tests)
@@ -59,6 +59,10 @@ module _ (net : Net) (cs : List Clone) (name : List ℕ) (old : ℕ) (there : ol
   -- the new clone
   abbrev new_clone : Clone
   new_clone = fork_of (clone_at cs old) name
+
+  -- its old one may be forked
+  may_fork : MayFork cs old
+  may_fork = record { there = there; going = open_end }
 
   -- no clone has another end
   ends_forked : (c : ℕ) → ends_of (simulation net) cs c ≡ ends_of (simulation net) (clones_with_fork cs name old) c
@@ -125,9 +129,9 @@ module _ (net : Net) (cs : List Clone) (name : List ℕ) (old : ℕ) (there : ol
             number = d.station ∙ w.number;
             living = λ c. ap (λ k. has k c) d.living ∙ living_forked (get_or procs i q).living c w.living;
             once = d.once ∙ w.once ∙ sym (handled-forked (simulation net) same_entry same_entry-Decides cs name old
-                (i + 1) front there open_end);
+                (i + 1) front may_fork);
             copies = stands_fork (simulation net) has cs old name front (i + 1)
-                (get_or procs i q).copies q.copies there open_end (d.copies net (ends_of (simulation net) cs) w.proc)
+                (get_or procs i q).copies q.copies may_fork (d.copies net (ends_of (simulation net) cs) w.proc)
                 w.copies;
           }
 
@@ -142,20 +146,12 @@ module _ (net : Net) (cs : List Clone) (who : ℕ) (plan : Planned) (there : who
   abbrev tells : Msg
   tells = set_message (length (clone_at cs who).plans) plan
 
-  -- the message is for that clone
-  for_it : has (one who) who ≡ true
-  for_it = has-one who who ∙ eq-eqb who who refl
-
-  -- and for no other
-  for_no_other : (c : ℕ) → (c ≡ who → ⊥) → has (one who) c ≡ false
-  for_no_other c n = has-one who c ∙ ne_eqb who c (λ e. n (sym e))
-
   -- where the message of the set is given to the copies, the world stands for the clones with the set
-  pub world_added : (ended : List (ℕ × ℕ)) (front : ℕ) (procs news : List ProcView) → 1 ≤ plan.station
-      → plan.station ≤ length net.sites → front ≤ plan.at → WorldStands net cs ended front procs
+  pub world_added : (ended : List (ℕ × ℕ)) (front : ℕ) (procs news : List ProcView) → HasStation net plan.station
+      → front ≤ plan.at → WorldStands net cs ended front procs
       → AllDelivered ((tells, one who) ∷ []) procs news → WorldStands net
       (clones_with_plan cs who plan) ended front news
-  world_added ended front procs news low high late world done = record {
+  world_added ended front procs news is late world done = record {
     valid = world.valid;
     early = world.early;
     count = done.count ∙ world.count;
@@ -166,7 +162,7 @@ module _ (net : Net) (cs : List Clone) (who : ℕ) (plan : Planned) (there : who
     for_stations = λ c l. set_cases (λ c k. c < length cs → AreForStations (simulation net) k.plans) cs who with_set
         there
         (λ l. all_push (λ p. IsStation (simulation net) p.station) (clone_at cs who).plans plan
-        (world.for_stations who there) (low, high))
+        (world.for_stations who there) (is.low, is.high))
         (λ c n l. world.for_stations c l) c (let many = length-set cs who with_set in omega (arith, many, l));
     each = each_added;
   }
@@ -183,22 +179,25 @@ module _ (net : Net) (cs : List Clone) (who : ℕ) (plan : Planned) (there : who
             number = d.station ∙ w.number;
             living = λ c. ap (λ k. has k c) d.living ∙ w.living c ∙ ap (nat_lt c) (sym (length-set cs who with_set));
             once = d.once ∙ w.once ∙ sym (handled-added (lawful-stations net world.valid) same_entry cs front
-                (i + 1) who plan there late);
+                (i + 1) who plan tells timely);
             copies = subst (Stands (simulation net) has (clones_with_plan cs who plan) front (i + 1)) (sym d.copies)
                 (by (plan.station == i + 1) refl (get_or procs i q).copies w.copies);
           }
         where
+          timely : IsTimelyPlan (simulation net) cs front who plan tells
+          timely = record { there = there; is = refl; late = late }
+
           by : (b : Bool) → (plan.station == i + 1) ≡ b → (olds : List StationCopy)
               → Stands (simulation net) has cs front (i + 1) olds →
               Stands (simulation net) has (clones_with_plan cs who plan) front (i + 1)
               (with_mail (cond b ((tells, one who) ∷ []) []) olds)
           by true e olds st = stands_after_decision (lawful-stations net world.valid) has cs front
-              (i + 1) who plan tells (one who) olds (map (with_message tells (one who)) olds) there refl late
-              (eqb-true plan.station (i + 1) e) for_it for_no_other
+              (i + 1) who plan tells (one who) olds (map (with_message tells (one who)) olds) timely
+              (eqb-true plan.station (i + 1) e) (has-one who)
               (all_given net (ends_of (simulation net) cs) tells (one who) olds
               (all_from (λ (a : StationCopy). SortedMarked msg_cmp a.pending) olds st.sorted)) st
           by false e olds st = stands_after_other_decision (lawful-stations net world.valid) has cs front
-              (i + 1) who plan tells olds there refl late
+              (i + 1) who plan tells olds timely
               (λ same. false≢true (sym e ∙ eq-eqb plan.station (i + 1) same)) st
 
 -- ---- an end
@@ -233,14 +232,16 @@ module _ (net : Net) (cs : List Clone) (who at : ℕ) (there : who < length cs)
       number = w.number;
       living = λ c. w.living c ∙ ap (nat_lt c) (sym (length-set cs who with_end));
       once = w.once ∙ sym (handled-ended (lawful-stations net world.valid) same_entry cs front
-          (i + 1) who at there late within);
-      copies = stands_end (lawful-stations net world.valid) has cs front (i + 1) who there p.copies at late within
-          w.copies;
+          (i + 1) who at there timely);
+      copies = stands_end (lawful-stations net world.valid) has cs front (i + 1) who there p.copies at timely w.copies;
     };
   }
     where
       within : at ≤ end_of (simulation net) (clone_at cs who)
       within = rw at_horizon early
+
+      timely : IsTimelyEnd (simulation net) (clone_at cs who) front at
+      timely = record { late = late; within = within }
 
       was : (c : ℕ) → ends_in net.horizon olds c ≡ ends_of (simulation net) cs c
       was c = ap (λ f. f c) world.ends

@@ -2,43 +2,37 @@
 use Rattle.std.proofs.Common.{◌⊎◌, ℕ, ◌≤◌, List}
 use Rattle.std.proofs.Common.{inl, inr, Option, Some, sym, ◌∙◌, subst, arith}
 use Rattle.sim_base.specs.declared.message.Msg.{Msg}
-use Rattle.run_laws.specs.Fronts.{earlier}
 use Rattle.run_laws.proofs.Queue.{all_in}
 use Rattle.run_laws.proofs.Parts.{all_part_of}
 use Rattle.run_laws.proofs.Leasts.{least-either}
-use Rattle.phys_proc.specs.Own.{StationCopy, IsLate, AreLate, taken_at, takes_at}
+use Rattle.phys_proc.specs.Own.{StationCopy, IsLowerBound, IsLowerBoundOfAll, taken_at, takes_at}
 use Rattle.phys_proc.specs.Procs.{IsTakenBy, IsLeastTime, IsWithLeast}
-use Rattle.world_core.proofs.DueTimes.{time_of, by_law, by_words}
 
--- ---- AreLate
+-- ---- IsLowerBoundOfAll
 
 -- what a clone takes of copies of which nothing is pending before a time comes at that time or later
-taken_late : (ends : ℕ → ℕ) (t : ℕ) (copies : List StationCopy) (c : ℕ) (m : Msg) → AreLate t copies
+IsLowerBoundOfAll-taken : (ends : ℕ → ℕ) (t : ℕ) (copies : List StationCopy) (c : ℕ) (m : Msg)
+    → IsLowerBoundOfAll t copies
     → IsTakenBy ends copies c m → t ≤ m.key.time
-taken_late ends t copies c m late x =
-    let a = all_in (IsLate t) copies x.copy late x.is_copy in
+IsLowerBoundOfAll-taken ends t copies c m late x =
+    let a = all_in (IsLowerBound t) copies x.copy late x.is_copy in
     all_in (λ (m : Msg). t ≤ m.key.time) (taken_at ends c x.copy.pending) m
     (all_part_of (takes_at ends) c (λ (m : Msg). t ≤ m.key.time) x.copy.pending a) x.is_taken
 
 -- ---- IsLeastTime
 
 -- so where the least so far is no later, it stays
-pub least_stays : (ends : ℕ → ℕ) (time least : ℕ) (copies : List StationCopy) → time ≤ least → AreLate least copies
+pub least_stays : (ends : ℕ → ℕ) (time least : ℕ) (copies : List StationCopy) → time ≤ least
+    → IsLowerBoundOfAll least copies
     → (P : Msg → Type 0) → IsLeastTime P (Some time) →
     IsLeastTime (λ m. P m ⊎ ((c : ℕ) × IsTakenBy ends copies c m)) (Some time)
 least_stays ends time least copies soon late P h = ((h.0.0, inl h.0.1, h.0.2), λ m x. of m x)
   where
     of : (m : Msg) → P m ⊎ ((c : ℕ) × IsTakenBy ends copies c m) → time ≤ m.key.time
     of m (inl p) = h.1 m p
-    of m (inr x) = let l = taken_late ends least copies x.0 m late x.1 in omega (arith, l, soon)
+    of m (inr x) = let l = IsLowerBoundOfAll-taken ends least copies x.0 m late x.1 in omega (arith, l, soon)
 
--- else it is the lesser of the two
-least_both : (P Q : Msg → Type 0) (a b : Option ℕ) → IsLeastTime P a → IsLeastTime Q b
-    → IsLeastTime (λ m. P m ⊎ Q m) (earlier a b)
-least_both P Q a b h k = by_words (λ m. P m ⊎ Q m) (earlier a b)
-    (least-either time_of P Q a b (by_law P a h) (by_law Q b k))
-
--- the least of what was looked at before and of these copies
+-- the least of what was looked at before and of these copies, the lesser of the two
 pub least_with : (ends : ℕ → ℕ) (copies : List StationCopy) (before t : Option ℕ) → IsWithLeast ends copies before t
     → (P : Msg → Type 0) → IsLeastTime P before →
     IsLeastTime (λ m. P m ⊎ ((c : ℕ) × IsTakenBy ends copies c m)) t
@@ -47,4 +41,4 @@ least_with ends copies before t (inl x) P h =
     (least_stays ends x.0 x.0 copies (omega arith) x.2 P (subst (IsLeastTime P) x.1 h))
 least_with ends copies before t (inr x) P h =
     subst (IsLeastTime (λ m. P m ⊎ ((c : ℕ) × IsTakenBy ends copies c m))) (sym x.2)
-    (least_both P (λ m. (c : ℕ) × IsTakenBy ends copies c m) before x.0 h x.1)
+    (least-either (λ (m : Msg). m.key.time) P (λ (m : Msg). (c : ℕ) × IsTakenBy ends copies c m) before x.0 h x.1)

@@ -11,7 +11,7 @@ use Rattle.world_core.specs.declared.flow.Flow.{Flow}
 use Rattle.crew_pool.specs.Tasks.{AnswersTo, EachAnswers, EachReady}
 use Rattle.world_core.specs.Jobs.{IsJobAnswer, IsJob}
 use Rattle.world_core.specs.Posts.{ArePosts, PostView}
-use Rattle.world_core.specs.Windows.{AllDelivered, AllFlow, AllNumbered, AreNumbered}
+use Rattle.world_core.specs.Windows.{AllDelivered, AllFlow, AreProcsInOrder, AreStationsInOrder}
 use Rattle.world_core.specs.declared.jobs.Job.{Job}
 use Rattle.world_core.specs.declared.jobs.Job.TheVariants.{Step, Give}
 use Rattle.world_core.specs.declared.jobs.JobAnswer.{JobAnswer}
@@ -32,7 +32,7 @@ mapped_at f (x ∷ xs) (suc i) d l = mapped_at f xs i d (omega (arith, l))
 
 -- stations that are numbered may be stepped
 pub steps_ready : (net : Net) (procs : List ProcView) (jobs : List Job) → jobs ≡ map (λ p. Step p) procs
-    → AllNumbered net procs → EachReady (IsJob net) jobs
+    → AreProcsInOrder net procs → EachReady (IsJob net) jobs
 steps_ready net procs jobs is all = subst (EachReady (IsJob net)) (sym is) ready
   where
     ready : EachReady (IsJob net) (map (λ p. Step p) procs)
@@ -40,12 +40,12 @@ steps_ready net procs jobs is all = subst (EachReady (IsJob net)) (sym is) ready
 
 -- their mail is for them
 pub mail_ready : (net : Net) (sent : MarkedMessages) (procs : List ProcView) (posts : List PostView) (jobs : List Job)
-    → jobs ≡ map (λ q. Give q) posts → AreNumbered procs → ArePosts sent procs posts → EachReady (IsJob net) jobs
-mail_ready net sent procs posts jobs is numbered all = subst (EachReady (IsJob net)) (sym is) ready
+    → jobs ≡ map (λ q. Give q) posts → AreStationsInOrder procs → ArePosts sent procs posts → EachReady (IsJob net) jobs
+mail_ready net sent procs posts jobs is order all = subst (EachReady (IsJob net)) (sym is) ready
   where
     ready : EachReady (IsJob net) (map (λ q. Give q) posts)
     ready i d l = let at = mapped_at (λ q. Give q) posts i d l in
-        subst (IsJob net i) (sym at.1) (AreFor-posts sent procs posts numbered all i at.0 at.2)
+        subst (IsJob net i) (sym at.1) (AreFor-posts sent procs posts order all i at.0 at.2)
 
 -- ---- EachAnswers
 

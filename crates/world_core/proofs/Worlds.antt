@@ -1,5 +1,5 @@
 -- The world after a window.
-use Rattle.std.proofs.Common.{◌≡◌, ℕ, ◌+◌, ◌*◌, ◌<◌, ◌≤◌, List, sym, ap, ◌∙◌}
+use Rattle.std.proofs.Common.{◌≡◌, ℕ, ◌+◌, ◌<◌, ◌≤◌, List, sym, ap, ◌∙◌}
 use Rattle.std.proofs.Common.{subst, arith, length, map, slice_get, Some}
 use Rattle.std.proofs.lemmas.List.{length-map}
 use Rattle.std.proofs.lemmas.Option.{slice_get_within}
@@ -14,15 +14,12 @@ use Rattle.phys_proc.specs.Ends.{ends_in}
 use Rattle.phys_proc.specs.Procs.{ProcView}
 use Rattle.world_core.specs.declared.flow.Flow.{Flow}
 use Rattle.phys_proc.proofs.Ends.{ends_in-bound}
-use Rattle.world_core.specs.Worlds.{AreInNet, StandsAt, WorldStands, total_handled}
-use Rattle.world_core.specs.Windows.{AllNumbered, AllFlow, AllDelivered, AreNumbered, NoneOver}
-use Rattle.world_core.specs.Windows.{done_at, all_sent, all_handled, after_window, with_mail, sent_to}
-use Rattle.world_core.specs.Overs.{IsFirstOver, IsFirstBeyond, NoneBeyond}
+use Rattle.world_core.specs.Worlds.{AreInNet, StandsAt, WorldStands}
+use Rattle.world_core.specs.Windows.{AreStations, AllFlow, AllDelivered, AreStationsInOrder, MayGiveAll, NoneOver}
+use Rattle.world_core.specs.Windows.{done_at, all_sent, after_window, with_mail, sent_to}
 use Rattle.world_core.proofs.Flows.{done_at-got}
 use Rattle.world_core.proofs.Places.{got_map, map_got}
-use Rattle.world_core.proofs.AfterWindow.{WorldStepped, proc_of, flow_of, few_handled, stand_after}
-use Rattle.world_core.proofs.AfterWindow.{total_grows, grown_at}
-use Rattle.world_core.proofs.Overs.{first_beyond, none_beyond}
+use Rattle.world_core.proofs.AfterWindow.{WorldStepped, proc_of, flow_of, grown_at, stand_after}
 
 -- ---- a world at its front
 
@@ -36,10 +33,12 @@ stands_for_reader net shown_net cs shown front i p e f at =
     (subst (λ s. Stands (simulation net) has cs front s p.copies) (sym at.number) at.copies))
 
 -- the stations of a world may step, each its own copies
-pub all_numbered : (net : Net) (cs : List Clone) (ended : List (ℕ × ℕ)) (front : ℕ) (procs : List ProcView)
-    → WorldStands net cs ended front procs → AllNumbered net procs
-all_numbered net cs ended front procs world = λ i p got. let h = world.each i p got in
-    record { proc = h.proc; number = h.number }
+pub are_stations : (net : Net) (cs : List Clone) (ended : List (ℕ × ℕ)) (front : ℕ) (procs : List ProcView)
+    → WorldStands net cs ended front procs → AreStations net procs
+are_stations net cs ended front procs world = record {
+  few = let n = world.count in let k = world.valid.few in omega (arith, n, k);
+  procs_in_order = λ i p got. let h = world.each i p got in record { proc = h.proc; number = h.number };
+}
 
 -- the clones of a world are in its network
 pub clones_in_net : (net : Net) (cs : List Clone) (ended : List (ℕ × ℕ)) (front : ℕ) (procs : List ProcView)
@@ -58,13 +57,14 @@ module _ (net : Net) (cs : List Clone) (ended : List (ℕ × ℕ)) (front bound 
     (world : WorldStands net cs ended front procs) (later : front < bound)
     (within : bound ≤ next_front (simulation net) cs front) where
   -- the bound is not past the horizon
-  early : bound ≤ net.horizon
-  early = let h = window_end-within (simulation net) (least (simulation net) cs front) in omega (arith, within, h)
+  bound-within : bound ≤ net.horizon
+  bound-within =
+      let h = window_end-within (simulation net) (least (simulation net) cs front) in omega (arith, within, h)
 
   module _ (flows : List Flow) (count : length flows ≡ length procs)
       (stepped : AllFlow net (ends_in net.horizon ended) bound procs flows) where
     -- the stations as they stood, and their answers
-    world_stepped : WorldStepped net cs front bound procs flows
+    pub world_stepped : WorldStepped net cs front bound procs flows
     world_stepped = record {
       valid = world.valid;
       all_procs = world.count;
@@ -74,38 +74,30 @@ module _ (net : Net) (cs : List Clone) (ended : List (ℕ × ℕ)) (front bound 
       stepped = subst (λ e. AllFlow net e bound procs flows) world.ends stepped;
     }
 
-    -- the first station and clone over the limit are the first whose log is beyond it at the bound
-    pub first_beyond_is : (i who : ℕ) → IsFirstOver flows i who → IsFirstBeyond net cs bound (i + 1) who
-    first_beyond_is = first_beyond net cs front bound procs flows world_stepped
-
-    -- what was handled, and what is handled now, is no more than the limit allows each clone at each station
-    pub few_are : total_handled net cs front + all_handled flows ≤ length net.sites * (length cs * net.limit)
-    few_are = few_handled net cs front bound procs flows world_stepped
-
     -- the stations as their tasks answer them are in the order of their numbers
-    pub done_numbered : AreNumbered (map (λ (f : Flow). f.done) flows)
-    done_numbered = λ i p got.
+    done_in_order : AreStationsInOrder (map (λ (f : Flow). f.done) flows)
+    done_in_order = λ i p got.
         let f = got_map (λ (f : Flow). f.done) flows i p got in
         let l : i < length net.sites = let k = slice_get_within flows i f.0 f.1 in
         omega (arith, k, world_stepped.all_flows) in
         let q = proc_of net cs front bound procs flows world_stepped i l in
         ap (λ (p : ProcView). p.station) (sym f.2) ∙ (world_stepped.stepped i q.0 f.0 q.1 f.1).number
 
+    -- and may be given what the others sent to them
+    pub done_stations : MayGiveAll (map (λ (f : Flow). f.done) flows)
+    done_stations = record {
+      few = let e = length-map flows (λ (f : Flow). f.done) in let n = world_stepped.all_flows in let k =
+          world.valid.few in omega (arith, e, n, k);
+      in_order = done_in_order;
+    }
+
     module _ (none : NoneOver flows) where
-      -- where no clone went over the limit, no log is beyond it at the bound
-      pub none_are_beyond : NoneBeyond net cs bound
-      none_are_beyond = none_beyond net cs front bound procs flows world_stepped none
-
-      -- what was handled up to the bound is what was handled before and what is handled in the window
-      pub steps_sum : total_handled net cs bound ≡ total_handled net cs front + all_handled flows
-      steps_sum = total_grows net cs front bound procs flows world_stepped world.for_stations none
-
-      -- and with what was sent delivered, the world stands at the bound
+      -- where no clone went over the limit, and with what was sent delivered, the world stands at the bound
       pub world_after : (news : List ProcView) → AllDelivered (all_sent flows) (map (λ (f : Flow). f.done) flows) news
           → WorldStands net cs ended bound news
       world_after news given = record {
         valid = world.valid;
-        early = early;
+        early = bound-within;
         count = given.count ∙ length-map flows (λ (f : Flow). f.done) ∙ world_stepped.all_flows;
         few = world.few;
         ends = world.ends;

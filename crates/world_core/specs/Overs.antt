@@ -2,7 +2,7 @@
 use Rattle.std.specs.Prelude.{◌≡◌, ℕ, ◌+◌, ◌*◌, ◌<◌, ◌≤◌, List, length, slice_get, Some}
 use Rattle.sim_base.specs.Clones.{Clone, clone_at}
 use Rattle.clone_sets.specs.Sets.{empty, IsFirst}
-use Rattle.net_model.specs.Net.{Net}
+use Rattle.net_model.specs.Net.{Net, HasStation}
 use Rattle.stations.specs.Runs.{IsBeyond}
 use Rattle.world_core.specs.declared.flow.Flow.{Flow}
 use Rattle.world_core.specs.declared.world.WorldFault.{WorldFault}
@@ -11,8 +11,7 @@ use Rattle.world_core.specs.Worlds.{total_handled}
 
 -- at a bound, the station is the least with a clone whose log is beyond the limit, and there the clone is the least
 pub record IsFirstBeyond (net : Net) (cs : List Clone) (bound station who : ℕ) : Type 0 where
-  pub low : 1 ≤ station
-  pub high : station ≤ length net.sites
+  pub is_station : HasStation net station
   pub clone : who < length cs
   pub beyond : IsBeyond net station bound (clone_at cs who)
   pub least_station : (s : ℕ) → 1 ≤ s → s < station → (c : ℕ) → c < length cs → ¬ (IsBeyond net s bound (clone_at cs c))
@@ -20,8 +19,11 @@ pub record IsFirstBeyond (net : Net) (cs : List Clone) (bound station who : ℕ)
 
 -- no log is beyond the limit
 abbrev pub NoneBeyond : Net → List Clone → ℕ → Type 0
-NoneBeyond net cs bound = (s c : ℕ) → 1 ≤ s → s ≤ length net.sites → c < length cs
-    → ¬ (IsBeyond net s bound (clone_at cs c))
+NoneBeyond net cs bound = (s c : ℕ) → HasStation net s → c < length cs → ¬ (IsBeyond net s bound (clone_at cs c))
+
+-- the most messages that the stations may handle for so many clones
+abbrev pub most_handled : Net → ℕ → ℕ
+most_handled net clones = length net.sites * (clones * net.limit)
 
 -- out of memory needs no cause; a limit names the first log beyond it, and then the messages that were handled are no
 -- more than the limit allows each clone at each station
@@ -29,7 +31,7 @@ abbrev pub IsFault : Net → List Clone → ℕ → ℕ → ℕ → ℕ → Worl
 IsFault net cs front bound old_steps new_steps NoMemory = Unit {0}
 IsFault net cs front bound old_steps new_steps (EventLimit station who kept) =
     IsFirstBeyond net cs bound station who × (kept ≡ net.limit)
-    × (new_steps + total_handled net cs front ≤ old_steps + length net.sites * (length cs * net.limit))
+    × (new_steps + total_handled net cs front ≤ old_steps + most_handled net (length cs))
 
 -- the answer at place i is the first with a clone over the limit, and there this clone is the first
 pub record IsFirstOver (flows : List Flow) (i who : ℕ) : Type 0 where

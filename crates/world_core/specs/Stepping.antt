@@ -1,7 +1,9 @@
 -- The result of a window at its stations, whoever steps them.
 use Rattle.std.specs.Prelude.{◌≡◌, ◌≢◌, ℕ, ◌+◌, ◌<◌, ◌≤◌, ◌++◌, List, length, map, slice_get, Option, Some, None}
+use Rattle.std.specs.Prelude.{IfSome}
 use Rattle.clone_sets.specs.declared.set.CloneSet.{CloneSet}
 use Rattle.net_model.specs.Net.{Net}
+use Rattle.net_model.specs.declared.limits.TheConstants.{MOST_STATIONS}
 use Rattle.phys_proc.specs.Own.{MarkedMessages}
 use Rattle.phys_proc.specs.Procs.{ProcView}
 use Rattle.world_core.specs.declared.flow.Flow.{Flow}
@@ -12,6 +14,10 @@ use Rattle.world_core.specs.Overs.{IsFirstOver}
 abbrev pub FirstOver : List Flow → Option (ℕ × ℕ) → Type 0
 FirstOver flows None = NoneOver flows
 FirstOver flows (Some p) = IsFirstOver flows p.0 p.1
+
+-- the place, if there is one, is one that a station may have
+abbrev pub IsPlaceOfOver : Option (ℕ × ℕ) → Type 0
+IsPlaceOfOver over = IfSome over (λ p. p.0 < MOST_STATIONS)
 
 -- the station at place i has answered, what it sent stands behind what the others sent before, and the others stand as
 -- they did

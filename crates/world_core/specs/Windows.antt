@@ -6,6 +6,7 @@ use Rattle.clone_sets.specs.Sets.{has, empty}
 use Rattle.clone_sets.specs.declared.set.CloneSet.{CloneSet}
 use Rattle.net_model.specs.Net.{Net}
 use Rattle.net_model.specs.Rules.{IsNet}
+use Rattle.net_model.specs.declared.limits.TheConstants.{MOST_STATIONS}
 use Rattle.stations.specs.Runs.{simulation}
 use Rattle.run_laws.specs.Copies.{IsStepped, AreOver, GainTogether}
 use Rattle.phys_proc.specs.Own.{StationCopy, MarkedMessages, with_message}
@@ -29,8 +30,13 @@ pub record IsNumbered (net : Net) (i : ℕ) (p : ProcView) : Type 0 where
   pub number : p.station ≡ i + 1
 
 -- and so at every place
-abbrev pub AllNumbered : Net → List ProcView → Type 0
-AllNumbered net procs = (i : ℕ) (p : ProcView) → slice_get procs i ≡ Some p → IsNumbered net i p
+abbrev pub AreProcsInOrder : Net → List ProcView → Type 0
+AreProcsInOrder net procs = (i : ℕ) (p : ProcView) → slice_get procs i ≡ Some p → IsNumbered net i p
+
+-- the copies of stations of a network, no more stations than there may be, in the order of their numbers
+pub record AreStations (net : Net) (procs : List ProcView) : Type 0 where
+  pub few : length procs ≤ MOST_STATIONS
+  pub procs_in_order : AreProcsInOrder net procs
 
 -- the copies of station s have come to the bound, and so many messages were handled: for each clone what its own window
 -- gives, and where some clone goes over the limit just those clones; what was handled is what the copies gained
@@ -88,8 +94,13 @@ abbrev pub NoneOver : List Flow → Type 0
 NoneOver flows = (i : ℕ) (flow : Flow) → slice_get flows i ≡ Some flow → flow.over ≡ empty
 
 -- the stations stand in the order of their numbers
-abbrev pub AreNumbered : List ProcView → Type 0
-AreNumbered procs = (i : ℕ) (p : ProcView) → slice_get procs i ≡ Some p → p.station ≡ i + 1
+abbrev pub AreStationsInOrder : List ProcView → Type 0
+AreStationsInOrder procs = (i : ℕ) (p : ProcView) → slice_get procs i ≡ Some p → p.station ≡ i + 1
+
+-- stations may be given what the others sent to them: they are no more than there may be, in the order of their numbers
+pub record MayGiveAll (procs : List ProcView) : Type 0 where
+  pub few : length procs ≤ MOST_STATIONS
+  pub in_order : AreStationsInOrder procs
 
 -- messages were given to the copies of one station, and nothing else is new
 pub record IsDeliveredTo (msgs : MarkedMessages) (old new : ProcView) : Type 0 where

@@ -1,7 +1,6 @@
 //! After a window each station (a logical process) gets the messages that the others sent to it.
-ghost use Rattle.std.specs.Prelude.{◌≡◌, ◌∷◌, [], ◌<◌, ◌≤◌, length, IfOk, OnOk};
-ghost use Rattle.net_model.specs.declared.limits.TheConstants.{MOST_STATIONS};
-ghost use Rattle.world_core.specs.Windows.{AllDelivered, AreNumbered, MayStep};
+ghost use Rattle.std.specs.Prelude.{◌≡◌, ◌∷◌, [], ◌<◌, IfOk, OnOk};
+ghost use Rattle.world_core.specs.Windows.{AllDelivered, AreStationsInOrder, MayGiveAll, MayStep};
 
 use crate::jobs::{mail_for, procs_of};
 use crate::posts::posts_of;
@@ -24,7 +23,7 @@ pub(crate) fn deliver_to(
     msg: Msg,
     set: CloneSet,
 ) -> Result<(), NoMemory>
-    requires numbered { AreNumbered procs.old.items }
+    requires in_order { AreStationsInOrder procs.old.items }
     ensures given { OnOk result (AllDelivered ((msg, set) ∷ []) procs.old.items procs.new.items) }
 {
     if 1 <= msg.to && msg.to as usize <= procs.len() {
@@ -39,7 +38,7 @@ pub(crate) fn deliver_all(
     procs: &mut Vec<TimedProc>,
     sent: &[(Msg, CloneSet)],
 ) -> Result<(), NoMemory>
-    requires numbered { AreNumbered procs.old.items }
+    requires in_order { AreStationsInOrder procs.old.items }
     ensures given { OnOk result (AllDelivered sent.now procs.old.items procs.new.items) }
 {
     for pair in sent {
@@ -58,8 +57,7 @@ fn give_by_team<L: Ledger, R: Wait>(
     sent: &[(Msg, CloneSet)],
     blank: Blank,
 ) -> Result<(Vec<TimedProc>, Team<Window>), NoMemory>
-    requires few { length procs.items ≤ MOST_STATIONS }
-    requires numbered { AreNumbered procs.items }
+    requires stations { MayGiveAll procs.items }
     requires name { blank.name ≡ L.name }
     requires parts { blank.parts ≡ L.parts }
     requires some { 0 < L.parts }
@@ -88,8 +86,7 @@ pub(crate) fn give_all<R: Wait>(
     small: bool,
 ) -> Result<(Vec<TimedProc>, Option<Team<Window>>), NoMemory>
     requires step { MayStep model.now.value bound }
-    requires few { length procs.items ≤ MOST_STATIONS }
-    requires numbered { AreNumbered procs.items }
+    requires stations { MayGiveAll procs.items }
     ensures given { IfOk result (λ r. AllDelivered sent.now procs.items r.0.items) }
 {
     let mut procs = procs;

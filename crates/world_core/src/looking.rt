@@ -3,6 +3,7 @@ ghost use Rattle.std.specs.Prelude.{◌≡◌, ◌*◌, ◌<◌, ◌≤◌, leng
 ghost use Rattle.std.specs.List.{AllByRecursion};
 ghost use Rattle.sim_base.specs.Clones.{clone_at};
 ghost use Rattle.sim_base.specs.declared.lists.TheConstants.{MOST_CLONES};
+ghost use Rattle.net_model.specs.Net.{HasStation};
 ghost use Rattle.net_model.specs.declared.limits.TheConstants.{MOST_LIMIT};
 ghost use Rattle.stations.specs.Runs.{simulation, next_front, copies, handled_once, handled_alone};
 ghost use Rattle.run_laws.specs.Fronts.{least_of, least};
@@ -11,7 +12,7 @@ ghost use Rattle.phys_proc.specs.Own.{handled_alone_by, all_sizes};
 use crate::world::World;
 use phys_proc::PhysCopy;
 use sim_base::Figures;
-use stations::due::earlier;
+use stations::due::{earlier, window_end};
 
 // How many messages the clones of these copies would have handled each by itself.
 fn alone_in(copies: &[PhysCopy]) -> u64
@@ -57,20 +58,13 @@ impl World {
     pub fn bound(&self) -> u64
         ensures value { result ≡ next_front self.now.net self.now.clones self.now.front }
     {
-        match self.least() {
-            None => self.model.horizon(),
-            Some(time) => self
-                .model
-                .horizon()
-                .min(time.saturating_add(self.model.lookahead())),
-        }
+        window_end(&self.model, self.least())
     }
 
     /// The report's figures of a station, now: its copies, the messages handled once, and those that the clones
     /// would handle alone. It takes no memory.
     pub fn figures(&self, station: u32) -> Figures
-        requires low { 1 ≤ station }
-        requires high { station ≤ length self.now.net.sites }
+        requires is_station { HasStation self.now.net station }
         ensures copies { result.copies ≡ copies self.now.net self.now.clones station self.now.front }
         ensures handled { result.handled ≡ handled_once self.now.net self.now.clones station self.now.front }
         ensures alone { result.alone ≡ handled_alone self.now.net self.now.clones station self.now.front }

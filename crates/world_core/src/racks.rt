@@ -1,5 +1,6 @@
 //! What a world shows to readers: the copies (physical processes) of a station at the front (window boundary).
-ghost use Rattle.std.specs.Prelude.{◌≡◌, ◌≤◌, length, IfOk};
+ghost use Rattle.std.specs.Prelude.{◌≡◌, IfOk};
+ghost use Rattle.net_model.specs.Net.{HasStation};
 
 use crate::world::World;
 use net_model::Model;
@@ -20,8 +21,7 @@ impl World {
     ///
     /// The world is unchanged, also out of memory.
     pub fn rack(&mut self, alloc: Global, station: u32) -> Result<Rack, NoMemory>
-        requires low { 1 ≤ station }
-        requires high { station ≤ length self.old.net.sites }
+        requires is_station { HasStation self.old.net station }
         // what it gives: a rack of the station, at the front of this world
         ensures net { IfOk result (λ r. r.net ≡ self.old.net) }
         ensures clones { IfOk result (λ r. r.clones ≡ self.old.clones) }

@@ -1,7 +1,7 @@
 //! When clones end (their stop times), which the workers that stay from window to window share.
-ghost use Rattle.std.specs.Prelude.{◌≡◌, ℕ, ◌<◌, ◌==◌, ◌∷◌, ◌++◌, [], min, if◌then◌else◌, IfOk, OnOk, OnErr};
+ghost use Rattle.std.specs.Prelude.{◌≡◌, ◌<◌, ◌∷◌, ◌++◌, [], IfOk, OnOk, OnErr};
 ghost use Rattle.sim_base.specs.declared.lists.TheConstants.{MOST_CLONES};
-ghost use Rattle.phys_proc.specs.Ends.{AreClones, ends_in};
+ghost use Rattle.phys_proc.specs.Ends.{AreClones, EndsWith};
 
 use phys_proc::CloneEnds;
 use sim_base::NoMemory;
@@ -56,8 +56,7 @@ impl SharedEnds {
     pub fn end(&mut self, alloc: Global, clone: u32, at: u64) -> Result<(), NoMemory>
         requires clone { clone < MOST_CLONES }
         ensures ended { OnOk result (self.new ≡ self.old ++ (clone, at) ∷ []) }
-        ensures ends { OnOk result ((horizon c : ℕ) → ends_in horizon self.new c ≡
-            (if clone == c then min at (ends_in horizon self.old c) else ends_in horizon self.old c)) }
+        ensures ends { OnOk result (EndsWith clone at self.old self.new) }
         ensures err { OnErr result (self.new ≡ self.old) }
     {
         let mut made = made_of(alloc, self.listed.as_slice())?;

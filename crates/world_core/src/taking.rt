@@ -2,6 +2,7 @@
 ghost use Rattle.std.specs.Prelude.{◌≡◌, ◌<◌, ◌≤◌, None, length, IfOk, Some};
 ghost use Rattle.sim_base.specs.Clones.{clone_at, place_of, clones_with_fork, clones_with_plan, clones_with_end};
 ghost use Rattle.sim_base.specs.declared.lists.TheConstants.{MOST_CLONES};
+ghost use Rattle.net_model.specs.Net.{HasStation};
 ghost use Rattle.decision_book.specs.Journal.{clones_after};
 ghost use Rattle.world_core.specs.Taking.{IsAccepted, AreAccepted, clones_after_calls};
 ghost use Rattle.world_core.specs.Forking.{AllForked, LivesAtAll, LivesNowhere};
@@ -125,8 +126,7 @@ impl World {
     /// A decision of one clone is given to that clone at its station.
     pub(crate) fn with_set(self, who: u32, plan: Planned) -> Result<World, NoMemory>
         requires there { who < length self.clones }
-        requires low { 1 ≤ plan.station }
-        requires high { plan.station ≤ length self.net.sites }
+        requires is_station { HasStation self.net plan.station }
         requires not_late { self.front ≤ plan.at }
         // what is kept: the model and the front
         ensures net { IfOk result (λ w. w.net ≡ self.net) }

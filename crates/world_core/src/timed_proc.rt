@@ -6,7 +6,7 @@ ghost use Rattle.clone_sets.specs.Sets.{has};
 ghost use Rattle.net_model.specs.Net.{Net};
 ghost use Rattle.stations.specs.Runs.{simulation};
 ghost use Rattle.run_laws.specs.Copies.{Stands};
-ghost use Rattle.phys_proc.specs.Own.{with_message, AreLate};
+ghost use Rattle.phys_proc.specs.Own.{with_message, IsLowerBoundOfAll};
 ghost use Rattle.phys_proc.specs.Ends.{ends_in};
 ghost use Rattle.phys_proc.specs.Procs.{IsProc, IsLeastOf, IsWithLeast, AreShared};
 ghost use Rattle.phys_proc.specs.Racks.{view_of_copy};
@@ -36,14 +36,14 @@ pub struct TimedProc {
 }
 
 impl std::marker::Model for TimedProc {
-    ghost use Rattle.phys_proc.specs.Own.{AreLate};
+    ghost use Rattle.phys_proc.specs.Own.{IsLowerBoundOfAll};
     ghost use Rattle.phys_proc.specs.Procs.{ProcView};
 
     ghost Value = { ProcView };
 
     ghost view = { λ t. t.proc.value };
 
-    ghost invariant = { λ t. AreLate t.least t.proc.value.copies };
+    ghost invariant = { λ t. IsLowerBoundOfAll t.least t.proc.value.copies };
 }
 
 impl TimedProc {
@@ -78,7 +78,7 @@ impl TimedProc {
 
     /// Whether nothing is pending before the bound.
     pub fn is_idle(&self, bound: u64) -> bool
-        ensures late { IsTrue result → AreLate bound self.now.copies }
+        ensures lower { IsTrue result → IsLowerBoundOfAll bound self.now.copies }
         ensures shared { AreShared self.now.living self.now.copies }
     {
         // for its clause: the copies share out the living clones

@@ -4,6 +4,7 @@ ghost use Rattle.std.specs.List.{AllByRecursion};
 ghost use Rattle.sim_base.specs.Clones.{clone_at};
 ghost use Rattle.sim_base.specs.declared.lists.TheConstants.{MOST_CLONES};
 ghost use Rattle.clone_sets.specs.Sets.{has};
+ghost use Rattle.net_model.specs.Net.{HasStation};
 ghost use Rattle.stations.specs.Runs.{simulation};
 ghost use Rattle.run_laws.specs.Merges.{merge};
 ghost use Rattle.run_laws.specs.Runs.{run_of, log_at};
@@ -75,8 +76,7 @@ impl World {
     /// no memory.
     pub fn log(&self, who: u32, station: u32) -> &Log
         requires there { who < length self.now.clones }
-        requires low { 1 ≤ station }
-        requires high { station ≤ length self.now.net.sites }
+        requires is_station { HasStation self.now.net station }
         ensures value { result.now ≡ log_at (simulation self.now.net) (clone_at self.now.clones who) station
             self.now.front }
         ensures short { length result.now ≤ self.now.net.limit }

@@ -2,13 +2,13 @@
 //! due, they run in the caller's thread, else on the workers of a team that stay between windows, or on those of a
 //! crew.
 ghost use Rattle.std.specs.Prelude.{◌≡◌, ◌+◌, ◌<◌, ◌≤◌, ◌++◌, ◌∷◌, []};
-ghost use Rattle.std.specs.Prelude.{Some, None, List, length, map, slice_get, IfOk, OnOk, IfSome};
+ghost use Rattle.std.specs.Prelude.{Some, None, List, length, map, slice_get, IfOk, OnOk};
 ghost use Rattle.net_model.specs.declared.limits.TheConstants.{MOST_STATIONS};
 ghost use Rattle.phys_proc.specs.Ends.{ends_in};
 ghost use Rattle.phys_proc.specs.Procs.{ProcView};
 ghost use Rattle.world_core.specs.declared.flow.Flow.{Flow as Flow'};
-ghost use Rattle.world_core.specs.Windows.{AllFlow, AllNumbered, IsFlow, MayStep, IsNumbered, all_handled, all_sent};
-ghost use Rattle.world_core.specs.Stepping.{FirstOver, AllStepped, SteppedAt};
+ghost use Rattle.world_core.specs.Windows.{AllFlow, AreStations, IsFlow, MayStep, IsNumbered, all_handled, all_sent};
+ghost use Rattle.world_core.specs.Stepping.{FirstOver, IsPlaceOfOver, AllStepped, SteppedAt};
 
 use crate::flow::Flow;
 use crate::jobs::{Job, JobAnswer, flows_of, steps_for};
@@ -175,10 +175,10 @@ fn put_behind(all: &mut Vec<(Msg, CloneSet)>, more: &[(Msg, CloneSet)]) -> Resul
 // The first station over the limit so far, and there the first clone, where the station at place i comes next.
 fn first_with(before: Option<(u32, u32)>, i: u32, over: CloneSet) -> Option<(u32, u32)>
     requires few { i < MOST_STATIONS }
-    requires before { IfSome before (λ p. p.0 < MOST_STATIONS) }
+    requires before { IsPlaceOfOver before }
     ensures first { (flows : List Flow') (f : Flow') → length flows ≡ i → f.over ≡ over → FirstOver flows before →
         FirstOver (flows ++ f ∷ []) result }
-    ensures few { IfSome result (λ p. p.0 < MOST_STATIONS) }
+    ensures few { IsPlaceOfOver result }
 {
     if let Some(first) = before {
         return Some(first);
@@ -229,11 +229,10 @@ fn step_in_place<G: Gate, L: Ledger, R: Wait>(
     outbox: Outbox,
     steps: &mut Steps<L>,
 ) -> Result<WindowResult, NoMemory>
-    requires few { length olds.items ≤ MOST_STATIONS }
-    requires numbered { AllNumbered work.now.net olds.items }
+    requires stations { AreStations work.now.net olds.items }
     ensures stepped { IfOk result (λ s. AllStepped work.now.net (ends_in work.now.net.horizon work.now.ends)
         work.now.bound olds.items s.procs.items s.outbox.all.items s.over steps.old steps.new) }
-    ensures few { IfOk result (λ s. IfSome s.over (λ p. p.0 < MOST_STATIONS)) }
+    ensures few { IfOk result (λ s. IsPlaceOfOver s.over) }
 {
     let mut procs = olds;
     let mut outbox = outbox;
@@ -295,7 +294,7 @@ fn handled_in(flows: &[Flow]) -> u64 {
 fn first_over(flows: &[Flow]) -> Option<(u32, u32)>
     requires few { length flows.now ≤ MOST_STATIONS }
     ensures first { FirstOver flows.now result }
-    ensures few { IfSome result (λ p. p.0 < MOST_STATIONS) }
+    ensures few { IsPlaceOfOver result }
 {
     for i in 0..flows.len() {
         if let Some(who) = flows[i].over.first() {
@@ -311,7 +310,7 @@ fn gather_flows(alloc: Global, flows: Vec<Flow>, outbox: Outbox) -> Result<Windo
     ensures procs { IfOk result (λ s. s.procs.items ≡ map (λ f. f.done) flows.items) }
     ensures sent { IfOk result (λ s. s.outbox.all.items ≡ all_sent flows.items) }
     ensures over { IfOk result (λ s. FirstOver flows.items s.over) }
-    ensures few { IfOk result (λ s. IfSome s.over (λ p. p.0 < MOST_STATIONS)) }
+    ensures few { IfOk result (λ s. IsPlaceOfOver s.over) }
 {
     let over = first_over(flows.as_slice());
     let handled = handled_in(flows.as_slice());
@@ -326,8 +325,8 @@ fn gather_flows(alloc: Global, flows: Vec<Flow>, outbox: Outbox) -> Result<Windo
     })
 }
 
-// What the tasks of all stations answer: by the team, where there is one, else by the crew. The team comes back.
-fn answers_of<C: Crew, G: Gate, L: Ledger, R: Threads + Wait + Sync>(
+// Runs the tasks of all stations, by the team, where there is one, else by the crew, and gives the team back.
+fn run_tasks<C: Crew, G: Gate, L: Ledger, R: Threads + Wait + Sync>(
     rt: &R,
     alloc: Global,
     crew: &C,
@@ -337,8 +336,7 @@ fn answers_of<C: Crew, G: Gate, L: Ledger, R: Threads + Wait + Sync>(
     procs: Vec<TimedProc>,
     steps: &mut Steps<L>,
 ) -> Result<(Vec<Flow>, Option<Team<Window>>), NoMemory>
-    requires few { length procs.items ≤ MOST_STATIONS }
-    requires numbered { AllNumbered work.net procs.items }
+    requires stations { AreStations work.net procs.items }
     ensures count { IfOk result (λ r. length r.0.items ≡ length procs.items) }
     ensures flows { IfOk result (λ r. AllFlow work.net (ends_in work.net.horizon work.ends) work.bound procs.items
         r.0.items) }
@@ -380,18 +378,17 @@ pub(crate) fn step_all<C: Crew, G: Gate, L: Ledger, R: Threads + Wait + Sync>(
     steps: &mut Steps<L>,
 ) -> Result<(WindowResult, Option<Team<Window>>), NoMemory>
     requires step { MayStep model.now.value bound }
-    requires few { length procs.items ≤ MOST_STATIONS }
-    requires numbered { AllNumbered model.now.value procs.items }
+    requires stations { AreStations model.now.value procs.items }
     ensures stepped { IfOk result (λ r. AllStepped model.now.value (ends_in model.now.value.horizon ends.now) bound
         procs.items r.0.procs.items r.0.outbox.all.items r.0.over steps.old steps.new) }
-    ensures few { IfOk result (λ r. IfSome r.0.over (λ p. p.0 < MOST_STATIONS)) }
+    ensures few { IfOk result (λ r. IsPlaceOfOver r.0.over) }
 {
     let work = Window::new(model, ends, bound)?;
     if small {
         let stepped = step_in_place(rt, alloc, gate, &work, procs, outbox, steps)?;
         return Ok((stepped, team));
     }
-    let (flows, team) = answers_of(rt, alloc, crew, team, gate, work, procs, steps)?;
+    let (flows, team) = run_tasks(rt, alloc, crew, team, gate, work, procs, steps)?;
     let stepped = gather_flows(alloc, flows, outbox)?;
     Ok((stepped, team))
 }

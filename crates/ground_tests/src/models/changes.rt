@@ -1,6 +1,7 @@
 //! Changes to model texts, and how the changed text is refused.
 
-use super::texts::{SEVENTEEN, SMALL};
+use super::texts::SEVENTEEN;
+use sample_models::ONE_DESK;
 
 /// A text in which the first `old` becomes `new`, and its refusal.
 pub struct Refused {
@@ -18,7 +19,7 @@ pub struct Refused {
     pub key: &'static str,
 }
 
-/// Changes to the small model.
+/// Changes to the small model, [`ONE_DESK`].
 pub const SMALL_CHANGES: &[Refused] = &[
     Refused {
         shows: "no lookahead",
@@ -586,7 +587,7 @@ pub const SMALL_CHANGES: &[Refused] = &[
 pub const OTHER_TEXTS: &[Refused] = &[
     Refused {
         shows: "no text",
-        old: SMALL,
+        old: ONE_DESK,
         new: "",
         number: 3,
         place: 0,
@@ -594,7 +595,7 @@ pub const OTHER_TEXTS: &[Refused] = &[
     },
     Refused {
         shows: "no station",
-        old: SMALL,
+        old: ONE_DESK,
         new: "lookahead = 2\nhorizon = 20\n",
         number: 3,
         place: 0,
@@ -602,7 +603,7 @@ pub const OTHER_TEXTS: &[Refused] = &[
     },
     Refused {
         shows: "an empty list of stations",
-        old: SMALL,
+        old: ONE_DESK,
         new: "lookahead = 2\nhorizon = 20\nstation = []\n",
         number: 8,
         place: 0,
@@ -610,7 +611,7 @@ pub const OTHER_TEXTS: &[Refused] = &[
     },
     Refused {
         shows: "a number for the stations",
-        old: SMALL,
+        old: ONE_DESK,
         new: "lookahead = 2\nhorizon = 20\nstation = 3\n",
         number: 4,
         place: 0,
@@ -618,7 +619,7 @@ pub const OTHER_TEXTS: &[Refused] = &[
     },
     Refused {
         shows: "a number for a station",
-        old: SMALL,
+        old: ONE_DESK,
         new: "lookahead = 2\nhorizon = 20\nstation = [3]\n",
         number: 4,
         place: 0,
@@ -626,7 +627,7 @@ pub const OTHER_TEXTS: &[Refused] = &[
     },
     Refused {
         shows: "a table for the stations",
-        old: SMALL,
+        old: ONE_DESK,
         new: "lookahead = 2\nhorizon = 20\n[station]\nname = \"gate\"\n",
         number: 4,
         place: 0,
@@ -634,7 +635,7 @@ pub const OTHER_TEXTS: &[Refused] = &[
     },
     Refused {
         shows: "a station without any key",
-        old: SMALL,
+        old: ONE_DESK,
         new: "lookahead = 2\nhorizon = 20\n[[station]]\n",
         number: 3,
         place: 1,
@@ -642,7 +643,7 @@ pub const OTHER_TEXTS: &[Refused] = &[
     },
     Refused {
         shows: "a text that breaks off",
-        old: SMALL,
+        old: ONE_DESK,
         new: "lookahead = 2\nhorizon = 20\n[[station]]\nevery = [3",
         number: 2,
         place: 0,

@@ -1,28 +1,5 @@
-//! Model texts of the tests. The first three are files of the folder `examples` at the top of the
-//! repository, byte for byte; `examples/clinic.toml` stands in `sample_models`.
-
-/// `examples/small.toml`
-pub const SMALL: &str =
-    r#"# A gate lets in two jobs, a desk with one clerk serves them, and they leave; times in any one unit
-lookahead = 2
-horizon = 20
-[[station]]
-name = "gate"
-kind = "source"
-every = [3, 3]
-jobs = 2
-link = [{ to = "desk", delay = 2 }]
-[[station]]
-name = "desk"
-kind = "server"
-servers = 1
-room = 5
-service = [4, 4]
-link = [{ to = "out", delay = 2 }]
-[[station]]
-name = "out"
-kind = "sink"
-"#;
+//! Model texts of the tests. The first two are files of the folder `examples` at the top of the
+//! repository, byte for byte; the small model and `examples/clinic.toml` stand in `sample_models`.
 
 /// `examples/factory.toml`
 pub const FACTORY: &str =

@@ -16,7 +16,7 @@ use std::collections::VecDeque;
 use std::marker::Model;
 
 /// How many messages are looked through one by one before halving begins.
-const FEW: usize = 8;
+const MOST_ONE_BY_ONE: usize = 8;
 
 /// Messages with their marks, one after another in a ring, so that the first is taken out without a shift.
 #[derive(Drop)]
@@ -292,7 +292,7 @@ fn next_look(low: usize, high: usize) -> usize
     ensures below { result < high }
 {
     let count = high - low;
-    if count <= FEW {
+    if count <= MOST_ONE_BY_ONE {
         high - 1
     } else {
         low + count / 2

@@ -8,6 +8,7 @@ use Rattle.sim_base.specs.declared.entry.Line.{Line}
 use Rattle.net_model.specs.declared.station.Kind.TheVariants.{Source, Server, Sink}
 use Rattle.net_model.specs.declared.limits.TheConstants.{USUAL_LIMIT}
 use Rattle.net_model.specs.Net.{Net}
+use Rattle.net_model.specs.Examples.{small}
 use Rattle.stations.specs.declared.kind_state.KindState.TheVariants.{Server as KindServer}
 use Rattle.stations.specs.Handling.{StateView}
 use Rattle.stations.specs.Examples.{at, analyst, tick, job, done, set, source, server, sink, link, set_at, clone}
@@ -24,19 +25,9 @@ desk = 2
 abbrev pub out : ℕ
 out = 3
 
--- a job every 3, two in all; one server, which serves for 4; room for 5
+-- net_model's small model: a job every 3, two in all; one server, which serves for 4; room for 5
 abbrev pub one_desk : Net
-one_desk = record {
-  format = 1;
-  lookahead = 2;
-  horizon = 20;
-  seed = 0;
-  limit = USUAL_LIMIT;
-  sites =
-      record { name = codes "gate"; kind = Source 3 3 2 1; stream = 1; links = link desk 2 ∷ [] }
-      ∷ record { name = codes "desk"; kind = Server 1 5 4 4 false; stream = 2; links = link out 2 ∷ [] }
-      ∷ record { name = codes "out"; kind = Sink; stream = 3; links = [] } ∷ [];
-}
+one_desk = small
 
 -- one job at a time: the second waits until the first is done
 abbrev pub one_desk_trace : List (Entry Msg Line)

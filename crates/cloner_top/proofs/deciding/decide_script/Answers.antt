@@ -1,9 +1,9 @@
 use Rattle.std.proofs.Common.{arith, refl}
-use Rattle.cloner_top.proofs.Decisions.{begins, ends, goes_on, refused_here}
+use Rattle.cloner_top.proofs.Decisions.{IsAt-begin, IsAt-end, goes_on, refused_here}
 use Rattle.cloner_top.proofs.deciding.decide_script.Goals as goal
 
 pub loop-i-init : goal.loop-i-init
-loop-i-init c = begins _ _ _ c.in-Ok.ensures.value
+loop-i-init c = IsAt-begin _ _ _ c.in-Ok.ensures.value
 
 pub loop-i-preserved : goal.loop-i-preserved
 loop-i-preserved c =
@@ -15,4 +15,5 @@ returns-in-Err-clause-err c = refused_here _ _ _ _ _ c.item.ensures.value c.loop
     c.in-Err.ensures.err
 
 pub returns-clause-ok : goal.returns-clause-ok
-returns-clause-ok c = ends _ _ _ _ (omega (arith, c.loop-i-test.false, c.len-i-end.ensures.value)) c.loop-i.invariant
+returns-clause-ok c =
+    IsAt-end _ _ _ _ (omega (arith, c.loop-i-test.false, c.len-i-end.ensures.value)) c.loop-i.invariant

@@ -3,13 +3,14 @@ use Rattle.command_words.specs.Requests.{source_view}
 use Rattle.cloner_top.proofs.Runs.{by_mode}
 use Rattle.cloner_top.proofs.running.write_study.Goals as goal
 
-pub returns-in-All-Named-clause-err : goal.returns-in-All-Named-clause-err
-returns-in-All-Named-clause-err g c =
-    by_mode _ _ _ _ _ _ _ _ _ _ _ c.in-All-Named.is-0 (ap source_view c.in-All-Named.is-1) c.write_run.ensures.err
+pub returns-in-All-FileNames-clause-err : goal.returns-in-All-FileNames-clause-err
+returns-in-All-FileNames-clause-err g c =
+    by_mode _ _ _ _ _ _ _ _ _ _ _ c.in-All-FileNames.is-0 (ap source_view c.in-All-FileNames.is-1)
+    c.write_run.ensures.err
 
-pub returns-in-All-Made-clause-err : goal.returns-in-All-Made-clause-err
-returns-in-All-Made-clause-err g c =
-    by_mode _ _ _ _ _ _ _ _ _ _ _ c.in-All-Made.is-0 (ap source_view c.in-All-Made.is-1) c.write_report.ensures.err
+pub returns-in-All-Number-clause-err : goal.returns-in-All-Number-clause-err
+returns-in-All-Number-clause-err g c =
+    by_mode _ _ _ _ _ _ _ _ _ _ _ c.in-All-Number.is-0 (ap source_view c.in-All-Number.is-1) c.write_report.ensures.err
 
 pub returns-in-One-default-clause-err : goal.returns-in-One-default-clause-err
 returns-in-One-default-clause-err g c =

@@ -1,5 +1,6 @@
-use Rattle.std.proofs.Common.{◌≡◌, ℕ, ◌<◌, length, ◌∙◌, sym, ap, subst, arith}
-use Rattle.crew_pool.proofs.Pairs.{numbers-nowhere, Without-remove, get_or-same}
+use Rattle.std.proofs.Common.{◌≡◌, ℕ, ◌<◌, length, ◌∙◌, refl, sym, ap, subst, arith}
+use Rattle.sim_base.proofs.Elements.{get_or-same}
+use Rattle.crew_pool.proofs.Pairs.{numbers-nowhere, Without-remove}
 use Rattle.crew_pool.specs.Deque.{Without, occurrences, numbers}
 use Rattle.crew_pool.specs.Tasks.{AnswersTo}
 use Rattle.crew_pool.proofs.gathering.take_answer.Goals as goal
@@ -17,7 +18,7 @@ returns-then-index-i g c =
       c.args.pairs.now.ok.0,
       ap length c.loop-k.invariant.0,
     ) in
-    let same = get_or-same ps k res c.index.result.now less c.remove-number.ensures.value c.index.ensures in
+    let same = get_or-same ps k k res c.index.result.now refl less c.remove-number.ensures.value c.index.ensures in
     let num = ap (λ z. z.0) same ∙ c.if-index-i.true in
     let r = Without-remove answers ps k res less c.remove-number.ensures.value in
     record {

@@ -7,6 +7,6 @@ fetch_add-requires c =
     let a = c.requires.account in (
       c.requires.table.table,
       omega (arith, c.requires.table.sized.words),
-      rw c.requires.home (Allows-leave_full _ _ c.args.seat.now.me.0 c.requires.turn.1 c.requires.turn.0 a.0 a.1
-          c.requires.full),
+      rw c.requires.may_end.home (Allows-leave_full _ _ c.args.seat.now.me.0 c.requires.may_end.part
+          c.requires.may_end.turn a.0 a.1 c.requires.full),
     )

@@ -6,5 +6,6 @@ pub fetch_add-requires : goal.fetch_add-requires
 fetch_add-requires c = (
   c.requires.table.table,
   omega (arith, c.requires.table.sized.words),
-  rw c.requires.home (Allows-leave _ _ c.args.seat.now.me.0 c.requires.turn.1 c.requires.turn.0),
+  rw c.requires.may_end.home
+      (Allows-leave _ _ c.args.seat.now.me.0 c.requires.may_end.part c.requires.may_end.turn),
 )

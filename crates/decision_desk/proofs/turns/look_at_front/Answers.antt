@@ -8,5 +8,5 @@ load-requires c =
     let a = c.requires.account in (
       c.requires.table.table,
       omega (arith, c.requires.table.sized.words),
-      Allows-look _ _ m c.requires.rest.0 c.requires.rest.1 c.requires.rest.2 c.requires.rest.3 a.0 a.1,
+      Allows-look _ _ m c.requires.rest.0 c.requires.rest.1 c.requires.rest.2 c.requires.pass a.0 a.1,
     )

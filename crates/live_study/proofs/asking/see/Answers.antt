@@ -35,7 +35,8 @@ pub look-requires : goal.look-requires
 look-requires g c =
     let s = c.in-Some.s in
     record {
-      there = c.requires.there s
-          (station_named-low c.args.station c.args.model.now s (sym c.find.ensures.value ∙ c.in-Some.is))
-          c.in-Some.ensures.there;
+      there = c.requires.there s (record {
+        low = station_named-low c.args.station c.args.model.now s (sym c.find.ensures.value ∙ c.in-Some.is);
+        high = c.in-Some.ensures.there;
+      });
     }

@@ -4,19 +4,19 @@ use Rattle.live_study.proofs.engine.show_one.Goals as goal
 pub publish-requires-clause-there : goal.publish-requires-clause-there
 publish-requires-clause-there g c =
     let may = c.requires.may_show in
-    (may_show c.args.helm.now c.args.world.now c.args.station c.in_ok-rack.rack _ c.requires.low c.requires.high
+    (may_show c.args.helm.now c.args.world.now c.args.station c.in_ok-rack.rack _ c.requires.is_station
     may.shown may.net c.in_ok-rack.ensures.net c.in_ok-rack.ensures.station c.in_ok-rack.ensures.front).0
 
 pub publish-requires-clause-may : goal.publish-requires-clause-may
 publish-requires-clause-may g c =
     let may = c.requires.may_show in
-    (may_show c.args.helm.now c.args.world.now c.args.station c.in_ok-rack.rack _ c.requires.low c.requires.high
+    (may_show c.args.helm.now c.args.world.now c.args.station c.in_ok-rack.rack _ c.requires.is_station
     may.shown may.net c.in_ok-rack.ensures.net c.in_ok-rack.ensures.station c.in_ok-rack.ensures.front).1
 
 pub returns-clause-shown : goal.returns-clause-shown
 returns-clause-shown g c =
     let may = c.requires.may_show in
     shows_if c.args.helm.now c.args.world.now c.args.station c.in_ok-rack.rack c.args.stocker.now.published
-    c.publish.new.self.published c.publish.result c.requires.low may.shown may.at may.net
+    c.publish.new.self.published c.publish.result c.requires.is_station.low may.shown may.at may.net
     c.in_ok-rack.ensures.net c.in_ok-rack.ensures.clones c.in_ok-rack.ensures.station c.in_ok-rack.ensures.front
     c.publish.ensures.published

@@ -32,3 +32,9 @@ loop-s-preserved g c =
         | else-all w ↦ λ all. absurd (true≢false (sym all ∙ w.all-is ∙ w.if-all.false))
       ];
     }
+
+pub returns : goal.returns
+returns g c = record {
+  value = λ all s is. c.loop-s.invariant.caught_up all s is.low
+      (omega (arith, is.high, c.loop-s-test.false, c.loop-s.auto.s-end, c.len-s-end.ensures.value));
+}

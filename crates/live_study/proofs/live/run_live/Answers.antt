@@ -12,45 +12,53 @@ use Rattle.live_study.proofs.Ending.{if_finished, if_stopped}
 use Rattle.live_study.proofs.Told.{all_looked, looks_of, made_all, told_if}
 use Rattle.live_study.proofs.live.run_live.Goals as goal
 
+-- ---- close
+
 pub close-book-requires-clause-passes : goal.close-book-requires-clause-passes
 close-book-requires-clause-passes g c k d less =
     let desk = c.args.desk.table.shared.table_id in
     let new = c.side_by_side-helm.result.1.items in
-    let are : c.gather-reserve.result.0.passes.items ≡ map (λ (a : SeatedAnalyst). a.0.pass) new =
-    c.gather-reserve.ensures.passes
+    let are : c.close_looks-reserve.result.0.passes.items ≡ map (λ (a : SeatedAnalyst). a.0.pass) new =
+    c.close_looks-reserve.ensures.passes
     ∙ ap (λ l. l ++ map (λ (a : SeatedAnalyst). a.0.pass) new) c.requires.reserve.no_passes in
     let acted = c.side_by_side-helm.ensures.acted in
     let done = all_done desk new (λ i d less. (acted.each i d (omega (arith, less, acted.len))).done) in
     subst (λ l. (k : ℕ) (d : PassView) → k < length l → (slice_index_or l k d).desk ≡ desk) (sym are)
     (of_desk desk new done) k d less
 
+-- ---- asked
+
 pub returns-clause-asked : goal.returns-clause-asked
 returns-clause-asked g c =
     let desk = c.args.desk.table.shared.table_id in
     let new = c.side_by_side-helm.result.1.items in
-    let are : c.gather-reserve.result.0.passes.items ≡ map (λ (a : SeatedAnalyst). a.0.pass) new =
-    c.gather-reserve.ensures.passes
+    let are : c.close_looks-reserve.result.0.passes.items ≡ map (λ (a : SeatedAnalyst). a.0.pass) new =
+    c.close_looks-reserve.ensures.passes
     ∙ ap (λ l. l ++ map (λ (a : SeatedAnalyst). a.0.pass) new) c.requires.reserve.no_passes in
     let s = c.side_by_side-helm.ensures in
     asked_in desk c.args.helm c.side_by_side-helm.result.0.0 c.args.seated.items new
-    c.gather-reserve.result.0.passes.items c.close-book.result s.driven.steers c.requires.fresh are
+    c.close_looks-reserve.result.0.passes.items c.close-book.result s.driven.steers c.requires.fresh are
     c.close-book.ensures.closed
     (subst (λ (b : BookView). IsRight b.net b.events) c.book.ensures.value c.front-legal.ensures.right)
-    c.book.ensures.goes_on s.acted.len (λ i d less. (s.acted.each i d less).done)
+    c.book.ensures.fronts s.acted.len (λ i d less. (s.acted.each i d less).done)
     (λ i d less. (s.acted.each i d less).same) c.requires.few
 
-pub gather-reserve-requires-clause-there : goal.gather-reserve-requires-clause-there
-gather-reserve-requires-clause-there g c k d less =
+-- ---- close_looks
+
+pub close_looks-reserve-requires-clause-there : goal.close_looks-reserve-requires-clause-there
+close_looks-reserve-requires-clause-there g c k d less =
     let acted = c.side_by_side-helm.ensures.acted in
     (acted.each k d (omega (arith, less, acted.len))).looked.there
+
+-- ---- made, looked
 
 pub returns-clause-made : goal.returns-clause-made
 returns-clause-made g c =
     let new = c.side_by_side-helm.result.1.items in
     let acted = c.side_by_side-helm.ensures.acted in
-    let looks = c.gather-reserve.result.0.looks.items in
+    let looks = c.close_looks-reserve.result.0.looks.items in
     let are : looks ≡ looks_of new =
-    c.gather-reserve.ensures.looks ∙ ap (λ l. l ++ looks_of new) c.requires.reserve.no_looks in
+    c.close_looks-reserve.ensures.looks ∙ ap (λ l. l ++ looks_of new) c.requires.reserve.no_looks in
     made_all c.args.model.now c.args.seated.items new looks
     (all_looked c.args.model.now new (λ i d less. (acted.each i d (omega (arith, less, acted.len))).looked)) acted.len
     (λ i d less. (acted.each i d less).same) are
@@ -61,24 +69,26 @@ returns-clause-looked g c =
     let helm = c.side_by_side-helm.result.0.0 in
     let new = c.side_by_side-helm.result.1.items in
     let s = c.side_by_side-helm.ensures in
-    let looks = c.gather-reserve.result.0.looks.items in
+    let looks = c.close_looks-reserve.result.0.looks.items in
     let events = c.close-book.result.events in
     let are : looks ≡ looks_of new =
-    c.gather-reserve.ensures.looks ∙ ap (λ l. l ++ looks_of new) c.requires.reserve.no_looks in
+    c.close_looks-reserve.ensures.looks ∙ ap (λ l. l ++ looks_of new) c.requires.reserve.no_looks in
     subst (λ (n : Net). IfOk c.if_caught_up.result (λ w. AreTrueLooks n events looks)) (sym c.requires.net)
-    (told_if net helm events c.side_by_side-helm.result.0.1.published new looks c.gather-reserve.result.1
+    (told_if net helm events c.side_by_side-helm.result.0.1.published new looks c.close_looks-reserve.result.1
     c.side_by_side-helm.result.0.2 c.if_caught_up.result (s.driven.steers.net ∙ c.requires.net)
-    c.close-book.ensures.closed.only_calls s.driven.in_step s.driven.shown c.gather-reserve.ensures.caught_up
+    c.close-book.ensures.closed.only_calls s.driven.in_step s.driven.shown c.close_looks-reserve.ensures.caught_up
     (all_looked net new (λ i d less. (s.acted.each i d (omega (arith, less, s.acted.len))).looked)) are
     c.if_caught_up.ensures.ok)
+
+-- ---- finished, stopped
 
 pub returns-clause-finished : goal.returns-clause-finished
 returns-clause-finished g c =
     let driven = c.side_by_side-helm.ensures.driven in
-    if_finished (λ (w : WorldView). IsAtHorizon c.args.helm.net c.close-book.result w) c.gather-reserve.result.1
+    if_finished (λ (w : WorldView). IsAtHorizon c.args.helm.net c.close-book.result w) c.close_looks-reserve.result.1
     c.side_by_side-helm.result.0.2 c.if_caught_up.result c.if_caught_up.ensures.ok
-    (finished_if c.args.helm c.side_by_side-helm.result.0.0 c.gather-reserve.result.0.passes.items c.close-book.result
-    c.side_by_side-helm.result.0.2 driven.steers c.close-book.ensures.closed
+    (finished_if c.args.helm c.side_by_side-helm.result.0.0 c.close_looks-reserve.result.0.passes.items
+    c.close-book.result c.side_by_side-helm.result.0.2 driven.steers c.close-book.ensures.closed
     (subst (λ (b : BookView). IsRight b.net b.events) c.book.ensures.value c.front-legal.ensures.right) driven.in_step)
 
 pub returns-clause-stopped : goal.returns-clause-stopped

@@ -2,12 +2,15 @@ use Rattle.std.proofs.Common.{ap, arith, length, subst}
 use Rattle.std.proofs.lemmas.Result.{IfErr-weaker, IfOk-weaker}
 use Rattle.net_model.specs.Net.{Net}
 use Rattle.decision_desk.specs.Passes.{HelmView}
-use Rattle.live_study.specs.Lives.{AreTrueLooks, IsAtHorizon, IsStopped, all_looks}
+use Rattle.live_study.specs.Engines.{StopsEngine}
+use Rattle.live_study.specs.Lives.{AreTrueLooks, IsAtHorizon, all_looks}
 use Rattle.live_study.specs.Looks.{AreLooks}
 use Rattle.live_study.proofs.Begun.{begins_in_step}
 use Rattle.live_study.proofs.Preparing.{all_parts, each_ready, enough_reserved, helm_net, journal_is, little_todo}
 use Rattle.live_study.proofs.Preparing.{looks_are, made_are, many_passes, may_begin, shown_first}
 use Rattle.live_study.proofs.study.run_prepared.Goals as goal
+
+-- ---- take_seats
 
 pub take_seats-requires-clause-opening : goal.take_seats-requires-clause-opening
 take_seats-requires-clause-opening g c =
@@ -20,6 +23,8 @@ take_seats-requires-clause-few g c =
 pub take_seats-requires-clause-many : goal.take_seats-requires-clause-many
 take_seats-requires-clause-many g c =
     many_passes c.args.model.now (length c.args.script.now.analysts) c.args.prepared c.requires.prepared
+
+-- ---- run_live
 
 pub run_live-requires-clause-may_drive : goal.run_live-requires-clause-may_drive
 run_live-requires-clause-may_drive g c κs within =
@@ -57,6 +62,8 @@ run_live-requires-clause-reserve g c κs within =
     enough_reserved c.args.model.now (length c.args.script.now.analysts) c.args.prepared c.in_ok-stocker.seated.items
     c.requires.prepared c.in_ok-stocker.ensures.passes
 
+-- ---- journal, made
+
 pub returns-clause-journal : goal.returns-clause-journal
 returns-clause-journal g c =
     journal_is c.args.model.now c.args.script.now c.args.prepared c.in_ok-stocker.seated.items c.run_live.result.book
@@ -67,6 +74,8 @@ returns-clause-made g c =
     made_are c.args.model.now c.args.script.now c.args.prepared c.in_ok-stocker.seated.items
     c.run_live.result.looks.items c.requires.prepared c.in_ok-stocker.ensures.numbers c.in_ok-stocker.ensures.todo
     c.run_live.ensures.made
+
+-- ---- looks, finished
 
 pub returns-clause-looks : goal.returns-clause-looks
 returns-clause-looks g c =
@@ -84,9 +93,11 @@ returns-clause-finished g c =
     IfOk-weaker r.run (IsAtHorizon c.args.prepared.helm.net r.book) (IsAtHorizon c.args.model.now r.book)
     (λ w. subst (λ (n : Net). IsAtHorizon n r.book w) own) c.run_live.ensures.finished
 
+-- ---- stopped
+
 pub returns-clause-stopped : goal.returns-clause-stopped
 returns-clause-stopped g c =
     let own = helm_net c.args.model.now (length c.args.script.now.analysts) c.args.prepared c.requires.prepared in
     let r = c.run_live.result in
-    IfErr-weaker r.run (IsStopped c.args.prepared.helm.net r.book) (IsStopped c.args.model.now r.book)
-    (λ e. subst (λ (n : Net). IsStopped n r.book e) own) c.run_live.ensures.stopped
+    IfErr-weaker r.run (StopsEngine c.args.prepared.helm.net r.book.events) (StopsEngine c.args.model.now r.book.events)
+    (λ e. subst (λ (n : Net). StopsEngine n r.book.events e) own) c.run_live.ensures.stopped

@@ -1,7 +1,7 @@
 use Rattle.std.proofs.Common.{◌≡◌, ◌+◌, ◌-◌, ◌∙◌, append_assoc, arith}
 use Rattle.std.specs.List.{flat_map, range_with_len}
 use Rattle.decision_script.specs.Printing.{line_text, words_of_decision}
-use Rattle.made_study.specs.Numbers.{PLANS}
+use Rattle.made_study.specs.declared.script.TheConstants.{PLANS}
 use Rattle.made_study.specs.Scripts.{fork_of_plan, set_of_plan}
 use Rattle.made_study.proofs.Plans.{plan_text, plans_are_canonical}
 use Rattle.made_study.proofs.Ranges.{texts-more}

@@ -1,6 +1,6 @@
 use Rattle.std.proofs.Common.{arith, ◌∙◌}
 use Rattle.mailbox.proofs.Moves.{IsMailbox-collects}
-use Rattle.mailbox.proofs.Tellings.{has_slot, HasCollected-hit}
+use Rattle.mailbox.proofs.SeatsAfterSteps.{has_slot, HasCollected-hit}
 use Rattle.mailbox.proofs.steps.collect_now.Goals as goal
 
 pub compare_exchange-requires : goal.compare_exchange-requires

@@ -1,7 +1,7 @@
 use Rattle.std.proofs.Common.{arith, ◌∙◌, Some}
 use Rattle.mailbox.specs.declared.mail.Letter.TheVariants.{Task}
 use Rattle.mailbox.proofs.Moves.{IsMailbox-gives}
-use Rattle.mailbox.proofs.Tellings.{put_in}
+use Rattle.mailbox.proofs.SeatsAfterSteps.{put_in}
 use Rattle.mailbox.proofs.steps.give_task.Goals as goal
 
 pub store-requires : goal.store-requires

@@ -1,6 +1,6 @@
 use Rattle.std.proofs.Common.{arith, ◌∙◌}
 use Rattle.mailbox.proofs.Moves.{IsMailbox-takes}
-use Rattle.mailbox.proofs.Tellings.{has_slot, HasTaken-hit}
+use Rattle.mailbox.proofs.SeatsAfterSteps.{has_slot, HasTaken-hit}
 use Rattle.mailbox.proofs.steps.take_task.Goals as goal
 
 pub compare_exchange-requires : goal.compare_exchange-requires

@@ -2,23 +2,49 @@ use Rattle.std.proofs.Common.{arith, sym, ap, ◌∙◌, slice_set, eqb-true}
 use Rattle.std.proofs.Math.Seq.{map-set_same}
 use Rattle.std.proofs.lemmas.Slice.Zip.{AllZip-long}
 use Rattle.clone_sets.specs.Sets.{minus, empty}
-use Rattle.phys_proc.specs.Own.{StationCopy, with_message, but_pending, IsLate}
+use Rattle.phys_proc.specs.Own.{StationCopy, with_message, but_pending, IsLowerBound}
 use Rattle.phys_proc.proofs.Delivery.{given_alone, given_first}
 use Rattle.phys_proc.proofs.CopyLeasts.{least_at, leasts_set}
 use Rattle.phys_proc.proofs.Shares.{disjoint_same}
 use Rattle.phys_proc.proofs.copies.deliver_from.Goals as goal
+
+-- ---- the copy at the guess
+
+pub index_mut-requires-2 : goal.index_mut-requires-2
+index_mut-requires-2 c = omega (
+  arith,
+  c.if-guess-len.false,
+  c.len.ensures,
+  c.args.copies.now.ok.0,
+  c.args.leasts.now.ok.0,
+  AllZip-long IsLowerBound c.args.leasts.now.items c.args.copies.now.items c.requires.may_deliver.each,
+)
+
+pub give-requires : goal.give-requires
+give-requires c = record {
+  lower = least_at c.args.leasts.now.items c.args.copies.now.items c.args.guess c.index_mut-2.result.now
+      c.index_mut-2.result.now c.index_mut.result.now c.requires.may_deliver.each
+      (omega (arith, c.if-guess-len.false, c.len.ensures, c.args.copies.now.ok.0)) c.index_mut-2.ensures.value
+      c.index_mut.ensures.value;
+}
 
 pub returns-in_err-give-clause-same : goal.returns-in_err-give-clause-same
 returns-in_err-give-clause-same c =
     map-set_same but_pending c.args.copies.now.items c.args.guess c.give.new.copy c.index_mut.result.now
     (c.in_err-give.ensures.same ∙ ap but_pending c.index_mut.ensures.value)
 
+pub returns-in_err-give-clause-each : goal.returns-in_err-give-clause-each
+returns-in_err-give-clause-each c = leasts_set c.args.leasts.now.items c.args.copies.now.items c.args.guess
+    c.give.new.least c.give.new.copy c.requires.may_deliver.each c.in_err-give.ensures.lower
+
+-- ---- it has all clones of the set
+
 pub returns-then-is_empty-clause-given : goal.returns-then-is_empty-clause-given
 returns-then-is_empty-clause-given c =
     given_alone c.args.msg c.args.set c.args.copies.now.items c.args.guess c.index.result.now c.index_mut.result.now
     c.minus-rest.result c.give.new.copy
     (omega (arith, c.if-guess-len.false, c.len.ensures, c.args.copies.now.ok.0))
-    c.requires.disjoint
+    c.requires.may_deliver.disjoint
     (c.minus-rest.ensures.value ∙ ap (λ (u : StationCopy). minus c.args.set u.set)
     (c.behind-copies.view_is ∙ c.index.ensures))
     (c.in_ok-give.ensures.given ∙ ap (with_message c.args.msg c.args.set) c.index_mut.ensures.value)
@@ -29,13 +55,21 @@ returns-then-is_empty-clause-same c =
     map-set_same but_pending c.args.copies.now.items c.args.guess c.give.new.copy c.index_mut.result.now
     (c.in_ok-give.ensures.same ∙ ap but_pending c.index_mut.ensures.value)
 
+pub returns-then-is_empty-clause-each : goal.returns-then-is_empty-clause-each
+returns-then-is_empty-clause-each c = leasts_set c.args.leasts.now.items c.args.copies.now.items c.args.guess
+    c.give.new.least c.give.new.copy c.requires.may_deliver.each c.in_ok-give.ensures.lower
+
+-- ---- the other copies
+
 pub deliver-requires-2 : goal.deliver-requires-2
 deliver-requires-2 c = record {
-  disjoint = disjoint_same c.args.copies.now.items (slice_set c.args.copies.now.items c.args.guess c.give.new.copy)
-      (map-set_same but_pending c.args.copies.now.items c.args.guess c.give.new.copy c.index_mut.result.now
-      (c.in_ok-give.ensures.same ∙ ap but_pending c.index_mut.ensures.value)) c.requires.disjoint;
-  each = leasts_set c.args.leasts.now.items c.args.copies.now.items c.args.guess c.give.new.least c.give.new.copy
-      c.requires.each c.in_ok-give.ensures.late;
+  may_deliver = record {
+    disjoint = disjoint_same c.args.copies.now.items (slice_set c.args.copies.now.items c.args.guess c.give.new.copy)
+        (map-set_same but_pending c.args.copies.now.items c.args.guess c.give.new.copy c.index_mut.result.now
+        (c.in_ok-give.ensures.same ∙ ap but_pending c.index_mut.ensures.value)) c.requires.may_deliver.disjoint;
+    each = leasts_set c.args.leasts.now.items c.args.copies.now.items c.args.guess c.give.new.least c.give.new.copy
+        c.requires.may_deliver.each c.in_ok-give.ensures.lower;
+  };
 }
 
 pub returns-in_err-place-clause-same : goal.returns-in_err-place-clause-same
@@ -48,7 +82,7 @@ returns-clause-given c = c.in_ok-place.ensures.given
     ∙ given_first c.args.msg c.args.set c.args.copies.now.items c.args.guess c.index.result.now c.index_mut.result.now
     c.minus-rest.result c.give.new.copy
     (omega (arith, c.if-guess-len.false, c.len.ensures, c.args.copies.now.ok.0))
-    c.requires.disjoint
+    c.requires.may_deliver.disjoint
     (c.minus-rest.ensures.value ∙ ap (λ (u : StationCopy). minus c.args.set u.set)
     (c.behind-copies.view_is ∙ c.index.ensures))
     (c.in_ok-give.ensures.given ∙ ap (with_message c.args.msg c.args.set) c.index_mut.ensures.value)
@@ -57,29 +91,3 @@ pub returns-clause-same : goal.returns-clause-same
 returns-clause-same c = c.in_ok-place.ensures.same
     ∙ map-set_same but_pending c.args.copies.now.items c.args.guess c.give.new.copy c.index_mut.result.now
     (c.in_ok-give.ensures.same ∙ ap but_pending c.index_mut.ensures.value)
-
-pub index_mut-requires-2 : goal.index_mut-requires-2
-index_mut-requires-2 c = omega (
-  arith,
-  c.if-guess-len.false,
-  c.len.ensures,
-  c.args.copies.now.ok.0,
-  c.args.leasts.now.ok.0,
-  AllZip-long IsLate c.args.leasts.now.items c.args.copies.now.items c.requires.each,
-)
-
-pub give-requires : goal.give-requires
-give-requires c = record {
-  late = least_at c.args.leasts.now.items c.args.copies.now.items c.args.guess c.index_mut-2.result.now
-      c.index_mut-2.result.now c.index_mut.result.now c.requires.each
-      (omega (arith, c.if-guess-len.false, c.len.ensures, c.args.copies.now.ok.0)) c.index_mut-2.ensures.value
-      c.index_mut.ensures.value;
-}
-
-pub returns-in_err-give-clause-each : goal.returns-in_err-give-clause-each
-returns-in_err-give-clause-each c = leasts_set c.args.leasts.now.items c.args.copies.now.items c.args.guess
-    c.give.new.least c.give.new.copy c.requires.each c.in_err-give.ensures.late
-
-pub returns-then-is_empty-clause-each : goal.returns-then-is_empty-clause-each
-returns-then-is_empty-clause-each c = leasts_set c.args.leasts.now.items c.args.copies.now.items c.args.guess
-    c.give.new.least c.give.new.copy c.requires.each c.in_ok-give.ensures.late

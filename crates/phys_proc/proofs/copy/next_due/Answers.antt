@@ -1,9 +1,10 @@
-use Rattle.std.proofs.Common.{sym, refl, ap, ◌∙◌, eqb-true, arith}
+use Rattle.std.proofs.Common.{sym, refl, ap, subst, ◌∙◌, eqb-true, arith}
 use Rattle.std.proofs.lemmas.Bool.{eqb-false}
 use Rattle.clone_sets.specs.Sets.{has, empty}
 use Rattle.clone_sets.proofs.SetLaws.{has-empty}
-use Rattle.phys_proc.proofs.Halves.{nothing_late, nothing_left, next_is_due, none_takes, same_more, first_is}
+use Rattle.phys_proc.proofs.Halves.{nothing_late, nothing_left, next_is_due, none_takes, same_none, same_more, first_is}
 use Rattle.phys_proc.proofs.Halves.{first_timed, first_marked, none_timed, some_waits}
+use Rattle.phys_proc.specs.Own.{IsSameToClones}
 use Rattle.phys_proc.specs.Ends.{ends_in, has_ended}
 use Rattle.phys_proc.proofs.copy.next_due.Goals as goal
 
@@ -29,6 +30,12 @@ returns-then-not-is_empty-clause-some c =
 pub take_message-passed-requires : goal.take_message-passed-requires
 take_message-passed-requires c =
     record { some = some_waits _ c.in-Some.time c.in-Some.ensures.value }
+
+pub loop-time-init : goal.loop-time-init
+loop-time-init c =
+    let ends = ends_in c.args.horizon c.args.ends.now in
+    let copy = c.args.copy.now in
+    subst (IsSameToClones ends copy) (sym c.copy.view_is) (same_none ends copy)
 
 pub loop-time-preserved : goal.loop-time-preserved
 loop-time-preserved c =

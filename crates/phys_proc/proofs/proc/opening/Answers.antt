@@ -4,7 +4,7 @@ use Rattle.phys_proc.proofs.proc.opening.Goals as goal
 pub returns-clause-fits : goal.returns-clause-fits
 returns-clause-fits c =
     let st = c.in_ok-state.state in
-    let f = first_fits c.args.model.now c.horizon-horizon.ensures.valid c.args.station c.requires.low c.requires.high
+    let f = first_fits c.args.model.now c.horizon-horizon.ensures.valid c.args.station c.requires.is_station
     st c.in_ok-state.first c.in_ok-state.ensures.opened c.one-set.result c.in_ok-pending.pending
     c.one-set.ensures.value c.in_ok-pending.ensures.first
     c.in_ok-state.ensures.fits c.in_ok-state.ensures.suits c.in_ok-state.ensures.own c.in_ok-state.ensures.fresh in

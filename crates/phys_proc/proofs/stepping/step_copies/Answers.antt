@@ -2,15 +2,16 @@ use Rattle.std.proofs.Common.{◌++◌, refl, subst, sym}
 use Rattle.phys_proc.specs.Ends.{ends_in}
 use Rattle.phys_proc.specs.Own.{IsStepResult}
 use Rattle.phys_proc.specs.Stages.{MayStepCopies}
-use Rattle.phys_proc.proofs.AllCopies.{idle}
+use Rattle.phys_proc.proofs.AllCopies.{IsStepResult-idle}
 use Rattle.phys_proc.proofs.stepping.step_copies.Goals as goal
 
 pub returns-then-is_idle-clause-stepped : goal.returns-then-is_idle-clause-stepped
 returns-then-is_idle-clause-stepped g c =
     let net = c.args.model.now in
     rw (c.requires.new.silent, c.requires.new.under)
-    (idle net c.requires.may_step.valid c.args.station (ends_in net.horizon c.args.ends.now) c.args.bound c.args.copies
-    c.args.steps.now c.requires.may_step.fits (c.if-is_idle.ensures.late refl) c.requires.may_step.disjoint)
+    (IsStepResult-idle net c.requires.may_step.valid c.args.station (ends_in net.horizon c.args.ends.now) c.args.bound
+    c.args.copies c.args.steps.now c.requires.may_step.fits (c.if-is_idle.ensures.lower refl)
+    c.requires.may_step.disjoint)
 
 pub step_in_place-requires-clause-may_step : goal.step_in_place-requires-clause-may_step
 step_in_place-requires-clause-may_step g c = subst (MayStepCopies c.args.model.now c.args.station c.args.bound)

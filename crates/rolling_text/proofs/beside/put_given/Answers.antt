@@ -5,6 +5,8 @@ use Rattle.rolling_text.specs.TextSpans.{span_of}
 use Rattle.rolling_text.proofs.Puts.{left_fits, put_cut, put_none, put_on}
 use Rattle.rolling_text.proofs.beside.put_given.Goals as goal
 
+-- ---- span after span
+
 pub loop-init : goal.loop-init
 loop-init g c = record {
   order = c.requires.may.order;
@@ -46,6 +48,8 @@ loop-preserved g c =
       put = put_on c.args.span.keeps _ _ _ _ _ _ _ _ _ c.loop.invariant.put c.in-Ok.ensures.ok;
       can = c.in-Ok.ensures.can;
     }
+
+-- ---- what is left
 
 pub put_span-requires : goal.put_span-requires
 put_span-requires g c = record {

@@ -16,8 +16,8 @@ loop-s-preserved c =
     let sites = ap (λ (n : Net). length n.sites) c.model.ensures.value in
     let h = c.loop-s.invariant in
     record {
-      bound = bound_more world c.requires.over c.args.c c.requires.there c.loop-s.s c.loop-s.bound _ c.log.result.now
-          c.log.ensures.value c.requires.short h.bound (omega (arith, c.len.ensures.value));
+      bound = bound_more world c.requires.clone.over c.args.c c.requires.clone.there c.loop-s.s c.loop-s.bound _
+          c.log.result.now c.log.ensures.value c.requires.short h.bound (omega (arith, c.len.ensures.value));
       few = omega (arith, h.few, c.log.ensures.short, c.len.ensures.value);
       within = omega (arith, c.loop-s-test.true, c.loop-s.auto.s-end, c.len-s-end.ensures.value, sites);
     }
@@ -25,5 +25,5 @@ loop-s-preserved c =
 pub returns-clause-bound : goal.returns-clause-bound
 returns-clause-bound c =
     let sites = ap (λ (n : Net). length n.sites) c.model.ensures.value in
-    bound_all c.args.world.now c.requires.over c.args.c c.requires.there c.loop-s.s c.loop-s.bound
+    bound_all c.args.world.now c.requires.clone.over c.args.c c.requires.clone.there c.loop-s.s c.loop-s.bound
     (omega (arith, c.loop-s-test.false, c.loop-s.auto.s-end, c.len-s-end.ensures.value, sites)) c.loop-s.invariant.bound

@@ -1,7 +1,7 @@
 use Rattle.std.proofs.Common.{◌≡◌, ◌+◌, ◌-◌, ◌<◌, ◌≤◌, arith, length, subst, sym}
 use Rattle.sim_base.specs.Clones.{clone_at}
 use Rattle.stations.specs.Runs.{simulation, trace_of}
-use Rattle.run_laws.specs.SharedTexts.{from_on}
+use Rattle.run_laws.specs.SharedTexts.{entries_from}
 use Rattle.rolling_text.specs.Texts.{HaveShortLines, body}
 use Rattle.rolling_text.specs.WorldTraces.{WorldTracesView}
 use Rattle.rolling_text.proofs.ShortLines.{fits_more, short_at}
@@ -15,7 +15,7 @@ bound_of-requires-clause-short c =
     subst (λ (v : WorldTracesView). HaveShortLines v.net (trace_of v.net (clone_at v.clones c.loop-c.c)))
     (sym c.traces.view_is)
     (short_at v.net is.valid v.clones is.in_net c.loop-c.c c.parts_at.result there c.parts_at.ensures.value
-    c.loop-c.invariant.short (subst (λ (v : WorldTracesView). HaveShortLines v.net (from_on (simulation v.net)
+    c.loop-c.invariant.short (subst (λ (v : WorldTracesView). HaveShortLines v.net (entries_from (simulation v.net)
     c.parts_at.result (trace_of v.net (clone_at v.clones c.loop-c.c)))) c.traces.view_is c.meet_rest.ensures.short))
 
 pub loop-c-preserved : goal.loop-c-preserved
@@ -32,7 +32,7 @@ loop-c-preserved c =
           (omega (arith, c.max-most.ensures)) (omega (arith, c.max-most.ensures));
       short = λ more. subst (λ k. HaveShortLines v.net (trace_of v.net (clone_at v.clones k))) back
           (short_at v.net is.valid v.clones is.in_net c.loop-c.c c.parts_at.result there c.parts_at.ensures.value
-          h.short (subst (λ (v : WorldTracesView). HaveShortLines v.net (from_on (simulation v.net)
+          h.short (subst (λ (v : WorldTracesView). HaveShortLines v.net (entries_from (simulation v.net)
           c.parts_at.result (trace_of v.net (clone_at v.clones c.loop-c.c)))) c.traces.view_is
           c.meet_rest.ensures.short));
       few = omega (arith, h.few, c.bound_of.ensures.few, c.max-most.ensures);

@@ -11,5 +11,5 @@ returns-then-c-eq0 c = record {
 pub returns : goal.returns
 returns c = record {
   value = parting_some c.args.traces.now.net c.args.traces.now.clones c.args.c
-      c.shared_to.result (omega arith) c.shared_to.ensures.value;
+      c.parting_with_last.result (omega arith) c.parting_with_last.ensures.value;
 }

@@ -7,6 +7,8 @@ use Rattle.rolling_text.proofs.Keeping.{dropped_next}
 use Rattle.rolling_text.proofs.Puts.{cut_part, end_cut, rest_cut, text_put}
 use Rattle.rolling_text.proofs.putting.put_text.Goals as goal
 
+-- ---- the lines kept of the text before it, and the rest
+
 pub returns-in-Err-clause-err : goal.returns-in-Err-clause-err
 returns-in-Err-clause-err g c = cut_part _ _ _ _ _ c.begin_text-start.ensures.text c.in-Err.ensures.err
 
@@ -25,6 +27,8 @@ pub returns-in-Err-put_rest-clause-err : goal.returns-in-Err-put_rest-clause-err
 returns-in-Err-put_rest-clause-err g c =
     let begun = c.begin_text-start in
     rest_cut _ _ _ begun.ensures.text _ _ _ c.in-Ok.ensures.ok c.in-Err-put_rest.ensures.err
+
+-- ---- the end of the text
 
 pub returns-in-Ok-put-clause-ok : goal.returns-in-Ok-put-clause-ok
 returns-in-Ok-put-clause-ok g c =

@@ -8,6 +8,8 @@ use Rattle.rolling_text.proofs.AllTexts.{put_whole, put_part}
 use Rattle.rolling_text.proofs.Calls.{counted_to}
 use Rattle.rolling_text.proofs.putting.put_texts.Goals as goal
 
+-- ---- the first text
+
 pub loop-c-init : goal.loop-c-init
 loop-c-init g c = record {
   can = c.requires.ready.can;
@@ -23,6 +25,8 @@ loop-c-init g c = record {
   later = omega arith;
   counted = none_counted (g.O.Sink.view c.args.out.now).calls;
 }
+
+-- ---- text after text
 
 pub put_text-requires-clause-fits : goal.put_text-requires-clause-fits
 put_text-requires-clause-fits g c κs within = λ k there.

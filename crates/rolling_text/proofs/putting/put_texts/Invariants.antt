@@ -1,7 +1,7 @@
 use Rattle.std.proofs.Common.{◌<◌, ◌≤◌, length, take, drop}
 use Rattle.std.specs.List.{flat_map}
 use Rattle.sim_outer.specs.Bytes.{IsAppended}
-use Rattle.sim_outer.specs.Causes.{AreCounted}
+use Rattle.sim_outer.specs.Counts.{AreCounted}
 use Rattle.rolling_text.specs.declared.texts.TheConstants.{MARGIN}
 use Rattle.rolling_text.specs.Texts.{AreLeft, CanPut}
 use Rattle.trace_report.specs.Outputs.{clone_text}

@@ -5,26 +5,26 @@ use Rattle.rolling_text.proofs.writing.gather_span.Goals as goal
 
 pub overflow_sub-result : goal.overflow_sub-result
 overflow_sub-result c = (span_seen c.traces.inside.world.now c.traces.invariant.over c.args.traces.now c.traces.view_is
-    c.args.c c.requires.there c.args.from c.args.until c.gather-all.result c.count_from.result
-    c.gather-all.new.cursor.left c.requires.order c.gather-all.ensures.left c.gather-all.ensures.count
-    c.count_from.ensures.value).0
+    c.args.c c.requires.span.there c.args.from c.args.until c.fill_cursor-all.result c.count_from.result
+    c.fill_cursor-all.new.cursor.left c.requires.span.order c.fill_cursor-all.ensures.left
+    c.fill_cursor-all.ensures.count c.count_from.ensures.value).0
 
 pub returns-clause-left : goal.returns-clause-left
 returns-clause-left c = (span_seen c.traces.inside.world.now c.traces.invariant.over c.args.traces.now c.traces.view_is
-    c.args.c c.requires.there c.args.from c.args.until c.gather-all.result c.count_from.result
-    c.gather-all.new.cursor.left c.requires.order c.gather-all.ensures.left c.gather-all.ensures.count
-    c.count_from.ensures.value).1
+    c.args.c c.requires.span.there c.args.from c.args.until c.fill_cursor-all.result c.count_from.result
+    c.fill_cursor-all.new.cursor.left c.requires.span.order c.fill_cursor-all.ensures.left
+    c.fill_cursor-all.ensures.count c.count_from.ensures.value).1
 
 pub returns-clause-behind : goal.returns-clause-behind
 returns-clause-behind c = (span_seen c.traces.inside.world.now c.traces.invariant.over c.args.traces.now
-    c.traces.view_is c.args.c c.requires.there c.args.from c.args.until c.gather-all.result c.count_from.result
-    c.gather-all.new.cursor.left c.requires.order c.gather-all.ensures.left c.gather-all.ensures.count
-    c.count_from.ensures.value).2
+    c.traces.view_is c.args.c c.requires.span.there c.args.from c.args.until c.fill_cursor-all.result
+    c.count_from.result c.fill_cursor-all.new.cursor.left c.requires.span.order c.fill_cursor-all.ensures.left
+    c.fill_cursor-all.ensures.count c.count_from.ensures.value).2
 
 pub returns-then-until-horizon-clause-behind : goal.returns-then-until-horizon-clause-behind
 returns-then-until-horizon-clause-behind c =
     let end = ap (λ (n : Net). n.horizon) c.model.ensures.value in
     (span_over c.traces.inside.world.now c.traces.invariant.over c.args.traces.now c.traces.view_is c.args.c
-    c.requires.there c.args.from c.args.until c.gather-all.result c.gather-all.new.cursor.left c.requires.order
-    (omega (arith, end, c.horizon.ensures.value, c.if-until-horizon.true)) c.gather-all.ensures.left
-    c.gather-all.ensures.count).1
+    c.requires.span.there c.args.from c.args.until c.fill_cursor-all.result c.fill_cursor-all.new.cursor.left
+    c.requires.span.order (omega (arith, end, c.horizon.ensures.value, c.if-until-horizon.true))
+    c.fill_cursor-all.ensures.left c.fill_cursor-all.ensures.count).1

@@ -11,5 +11,5 @@ pub returns-clause-ending : goal.returns-clause-ending
 returns-clause-ending g c = handled-ended g.T.Stations.lawful
 
 pub returns-clause-forking : goal.returns-clause-forking
-returns-clause-forking g c = λ same cs front s old name decides there no_end.
-    handled-forked g.T.Stations.sim same decides cs name old s front there no_end
+returns-clause-forking g c = λ same cs front s old name decides may.
+    handled-forked g.T.Stations.sim same decides cs name old s front may

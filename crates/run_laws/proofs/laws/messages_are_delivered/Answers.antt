@@ -1,4 +1,4 @@
-use Rattle.run_laws.proofs.Delivery.{given_none, given_more, delivered}
+use Rattle.run_laws.proofs.Delivery.{given_none, given_more, IsDelivered-SoFarGiven}
 use Rattle.run_laws.proofs.laws.messages_are_delivered.Goals as goal
 
 pub returns-clause-nothing : goal.returns-clause-nothing
@@ -9,4 +9,5 @@ returns-clause-message g c = λ has ends msgs new done next m k.
     given_more g.T.Stations.sim has ends g.T.Stations.lawful.order.order msgs new done next m k
 
 pub returns-clause-delivered : goal.returns-clause-delivered
-returns-clause-delivered g c = λ has cs s sent msgs new done. delivered g.T.Stations.sim has cs s sent msgs new done
+returns-clause-delivered g c = λ has cs s sent msgs new done.
+    IsDelivered-SoFarGiven g.T.Stations.sim has cs s sent msgs new done

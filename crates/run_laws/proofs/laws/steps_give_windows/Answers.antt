@@ -1,6 +1,6 @@
 use Rattle.run_laws.proofs.ComesTo.{settled-late, comes_to-settled, comes_to-over, comes_to-handle, comes_to-same}
 use Rattle.run_laws.proofs.ComesTo.{comes_to-split, is_narrowed-rest}
-use Rattle.run_laws.proofs.Steps.{so_far_more, stepped, are_over}
+use Rattle.run_laws.proofs.Steps.{so_far_more, IsStepped-SoFar, are_over}
 use Rattle.run_laws.proofs.Gaining.{gained_alone, together_push}
 use Rattle.run_laws.proofs.laws.steps_give_windows.Goals as goal
 
@@ -40,7 +40,7 @@ returns-clause-copies g c = λ w old new results r out next over0 over over_afte
 
 pub returns-clause-windows : goal.returns-clause-windows
 returns-clause-windows g c = λ w old new out over0 over.
-    stepped g.T.Stations.lawful w.joins w.ends w.station w.bound old new out over0 over
+    IsStepped-SoFar g.T.Stations.lawful w.joins w.ends w.station w.bound old new out over0 over
 
 pub returns-clause-over : goal.returns-clause-over
 returns-clause-over g c = λ w old new out over0 over.

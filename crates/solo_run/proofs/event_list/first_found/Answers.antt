@@ -1,6 +1,7 @@
 use Rattle.std.proofs.Common.{◌∙◌, sym}
+use Rattle.sim_base.proofs.Placing.{is_lt-Less}
 use Rattle.solo_run.proofs.Events.{first_at, found_is, found_same, found_new, found_before, found_after}
-use Rattle.solo_run.proofs.Events.{is_lt-true, is_lt-false}
+use Rattle.solo_run.proofs.Events.{is_lt-false}
 use Rattle.solo_run.proofs.event_list.first_found.Goals as goal
 
 pub returns-in_default-None : goal.returns-in_default-None
@@ -25,7 +26,7 @@ returns-then-is_lt c = record {
       c.least.ensures.value c.in-Some-Some.is-1)
       (c.in-Some-Some.place, c.in-Some-Some.least)
       (found_is c.args.lists.now.items c.args.i c.args.found _ c.in-Some-Some.is-0 c.requires.found)
-      (sym c.compare.ensures.value ∙ is_lt-true c.compare.result (sym c.is_lt.ensures ∙ c.if-is_lt.true));
+      (sym c.compare.ensures.value ∙ is_lt-Less c.compare.result (sym c.is_lt.ensures ∙ c.if-is_lt.true));
 }
 
 pub returns-else-is_lt : goal.returns-else-is_lt

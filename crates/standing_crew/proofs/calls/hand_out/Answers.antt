@@ -23,25 +23,25 @@ use Rattle.standing_crew.proofs.calls.hand_out.Goals as goal
 pub give-requires-clause-ready : goal.give-requires-clause-ready
 give-requires-clause-ready g c κs within =
     let ready = g.W.Work.ready c.args.work.now.value in
-    let before = items_out c.loop-line.busy.items in
+    let before = items_out c.loop-caller.busy.items in
     let run = c.in_ok-run.run'.items in
     let rest = c.in_ok-run.rest.items in
     let whole : before ++ (run ++ rest) ≡ c.args.items.items =
-    ap (λ l. before ++ l) c.in_ok-run.ensures.parts ∙ c.loop-line.invariant.2 in
-    subst (λ n. EachReadyFrom ready n run) (sym c.loop-line.invariant.3)
+    ap (λ l. before ++ l) c.in_ok-run.ensures.parts ∙ c.loop-caller.invariant.2 in
+    subst (λ n. EachReadyFrom ready n run) (sym c.loop-caller.invariant.3)
     (EachReadyFrom-run ready before run rest (subst (λ l. EachReady ready l) (sym whole) c.requires.ready))
 
-pub loop-line-preserved : goal.loop-line-preserved
-loop-line-preserved g c =
-    let inv = c.loop-line.invariant in
-    let busy = c.loop-line.busy.items in
+pub loop-caller-preserved : goal.loop-caller-preserved
+loop-caller-preserved g c =
+    let inv = c.loop-caller.invariant in
+    let busy = c.loop-caller.busy.items in
     let before = items_out busy in
     let run = c.in_ok-run.run'.items in
     let rest = c.in_ok-run.rest.items in
     let work = c.args.work.now.value in
-    let part : PartView _ _ = record { work = work; first = c.loop-line.first; items = run } in
+    let part : PartView _ _ = record { work = work; first = c.loop-caller.first; items = run } in
     let added : c.add-else-len-size.new.list.items ≡ busy ++ Some part ∷ [] =
-    c.in_ok-add-2.ensures.value ∙ ap (λ line. busy ++ line ∷ []) c.in_ok-line.ensures.given in
+    c.in_ok-add-2.ensures.value ∙ ap (λ caller. busy ++ caller ∷ []) c.in_ok-caller.ensures.given in
     let longer : items_out c.add-else-len-size.new.list.items ≡ before ++ run =
     ap (λ l. items_out l) added ∙ items_out-push busy part in (
       subst (λ l. AreOutFrom work 0 l) (sym added) (AreOutFrom-push work 0 busy part inv.0 refl (omega (arith, inv.3))),

@@ -1,8 +1,10 @@
-use Rattle.stations.proofs.ReplayLaws.{replay-good, replay-counts, replay-suits, replay-fits, replay-goes_on}
+use Rattle.run_laws.proofs.Replaying.{replay_is_good}
+use Rattle.stations.proofs.GoodLaws.{lawful-stations}
+use Rattle.stations.proofs.ReplayLaws.{replay-counts, replay-suits, replay-fits, replay-goes_on}
 use Rattle.stations.proofs.laws.logs_are_replayed.Goals as goal
 
 pub returns-clause-good : goal.returns-clause-good
-returns-clause-good c net valid = replay-good net valid
+returns-clause-good c net valid = replay_is_good (lawful-stations net valid)
 
 pub returns-clause-counted : goal.returns-clause-counted
 returns-clause-counted c net = replay-counts net

@@ -6,7 +6,7 @@ use Rattle.net_model.specs.Sites.{as_site}
 use Rattle.stations.specs.Fits.{FitsState, SuitsNet}
 use Rattle.stations.specs.Handling.{StateView}
 use Rattle.stations.specs.Sends.{AreSends}
-use Rattle.stations.proofs.Lawful.{handles-well, handle-is}
+use Rattle.stations.proofs.Lawful.{handles-fitting, handle-is}
 use Rattle.stations.proofs.state.handle.Goals as goal
 
 pub invariant_of-state-2 : goal.invariant_of-state-2
@@ -19,7 +19,7 @@ invariant_of-state-2 g c =
     let is = handle-is c.args.model.now st c.args.msg.now (as_site c.station-station.result.now) c.args.out.now.items
     c.kind_handles.new.out.items c.kind_handles.new.kind c.kind_handles.new.sender c.station-station.ensures.value
     c.requires.empty c.in_ok-kind_handles.ensures.ok in
-    let well = handles-well c.args.model.now st c.args.msg.now c.station-station.ensures.valid c.state.invariant
+    let well = handles-fitting c.args.model.now st c.args.msg.now c.station-station.ensures.valid c.state.invariant
     (subst (SuitsNet c.args.model.now) (sym c.state.view_is) c.requires.suits) c.requires.early in
     subst (λ (h : Outcome StateView Msg Line). FitsState h.state) is well.fits
 
@@ -33,7 +33,7 @@ returns g c =
     let is = handle-is c.args.model.now st c.args.msg.now (as_site c.station-station.result.now) c.args.out.now.items
     c.kind_handles.new.out.items c.kind_handles.new.kind c.kind_handles.new.sender c.station-station.ensures.value
     c.requires.empty c.in_ok-kind_handles.ensures.ok in
-    let well = handles-well c.args.model.now st c.args.msg.now c.station-station.ensures.valid c.state.invariant
+    let well = handles-fitting c.args.model.now st c.args.msg.now c.station-station.ensures.valid c.state.invariant
     (subst (SuitsNet c.args.model.now) (sym c.state.view_is) c.requires.suits) c.requires.early in
     record {
       ok = rw (← c.state.view_is, c.kind_line.ensures) is;

@@ -1,6 +1,7 @@
-use Rattle.std.proofs.Common.{◌≡◌, ◌<◌, ◌^◌, ◌∙◌, ap, arith, length, subst, sum_by, sym}
+use Rattle.std.proofs.Common.{◌≡◌, ◌∙◌, List, ap, arith, length, subst, sym}
 use Rattle.sim_base.specs.declared.figures.Figures.{Figures}
 use Rattle.trace_report.specs.Outputs.{figures_to}
+use Rattle.trace_report.specs.ReportText.{HaveSmallSums}
 use Rattle.study_run.proofs.Reports.{few_at, figures_count, figures_none, figures_pushed}
 use Rattle.study_run.proofs.Reports.{figures_small, report_is, text_on}
 use Rattle.study_run.proofs.report.make_report.Goals as goal
@@ -23,29 +24,21 @@ report_text-requires-clause-all c =
     ∙ (c.loop-s.invariant ∙ ap (figures_to c.args.model.now c.args.world.now.clones) last) in
     ap length all ∙ figures_count c.args.model.now c.args.world.now.clones (length c.args.model.now.sites)
 
-pub report_text-requires-clause-handled : goal.report_text-requires-clause-handled
-report_text-requires-clause-handled c =
+pub report_text-requires-clause-sums : goal.report_text-requires-clause-sums
+report_text-requires-clause-sums c =
     let may = c.requires.may_report in
     let last : c.loop-s.s ≡ length c.args.model.now.sites =
     omega (arith, c.loop-s-test.false, c.loop-s.auto.s-end, c.len-s-end.ensures.value) in
     let all = c.as_slice.ensures.value
     ∙ (c.loop-s.invariant ∙ ap (figures_to c.args.model.now c.args.world.now.clones) last) in
-    subst (λ l. sum_by (λ (f : Figures). f.handled) l < 2 ^ 64) (sym all)
-    (figures_small c.args.model.now c.args.world.now.clones (λ (f : Figures). f.handled)
-    (λ s low high. (few_at c.args.model.now c.args.world.now.clones may.within s low high).handled_few)
-    c.len-s-end.ensures.valid may.few)
-
-pub report_text-requires-clause-alone : goal.report_text-requires-clause-alone
-report_text-requires-clause-alone c =
-    let may = c.requires.may_report in
-    let last : c.loop-s.s ≡ length c.args.model.now.sites =
-    omega (arith, c.loop-s-test.false, c.loop-s.auto.s-end, c.len-s-end.ensures.value) in
-    let all = c.as_slice.ensures.value
-    ∙ (c.loop-s.invariant ∙ ap (figures_to c.args.model.now c.args.world.now.clones) last) in
-    subst (λ l. sum_by (λ (f : Figures). f.alone) l < 2 ^ 64) (sym all)
-    (figures_small c.args.model.now c.args.world.now.clones (λ (f : Figures). f.alone)
-    (λ s low high. (few_at c.args.model.now c.args.world.now.clones may.within s low high).alone_few)
-    c.len-s-end.ensures.valid may.few)
+    subst (λ (l : List Figures). HaveSmallSums l) (sym all) (record {
+      handled = figures_small c.args.model.now c.args.world.now.clones (λ (f : Figures). f.handled)
+          (λ s low high. (few_at c.args.model.now c.args.world.now.clones may.within s low high).handled_few)
+          c.len-s-end.ensures.valid may.few;
+      alone = figures_small c.args.model.now c.args.world.now.clones (λ (f : Figures). f.alone)
+          (λ s low high. (few_at c.args.model.now c.args.world.now.clones may.within s low high).alone_few)
+          c.len-s-end.ensures.valid may.few;
+    })
 
 pub returns : goal.returns
 returns c =

@@ -2,13 +2,13 @@ use Rattle.std.proofs.Common.{◌∷◌, [], arith, sym, subst, take}
 use Rattle.std.proofs.lemmas.List.{take_all}
 use Rattle.sim_base.proofs.Elements.{take_next}
 use Rattle.world_core.specs.Windows.{AllDelivered}
-use Rattle.world_core.proofs.Delivering.{AllDelivered-append, AreNumbered-delivered}
+use Rattle.world_core.proofs.Delivering.{AllDelivered-append, AreStationsInOrder-delivered}
 use Rattle.world_core.proofs.delivery.deliver_all.Goals as goal
 
 pub deliver_to-requires : goal.deliver_to-requires
 deliver_to-requires c = record {
-  numbered = AreNumbered-delivered (take c.loop-pair.pair-index c.args.sent.now)
-      c.args.procs.now.items c.loop-pair.procs.items c.requires.numbered c.loop-pair.invariant;
+  in_order = AreStationsInOrder-delivered (take c.loop-pair.pair-index c.args.sent.now)
+      c.args.procs.now.items c.loop-pair.procs.items c.requires.in_order c.loop-pair.invariant;
 }
 
 pub loop-pair-preserved : goal.loop-pair-preserved

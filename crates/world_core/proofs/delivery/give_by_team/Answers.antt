@@ -5,7 +5,7 @@ use Rattle.world_core.proofs.delivery.give_by_team.Goals as goal
 pub all-requires-clause-ready : goal.all-requires-clause-ready
 all-requires-clause-ready g c κs within =
     mail_ready c.in_ok-work.work.value.net c.args.sent.now c.args.procs.items c.in_ok-posts.posts.items
-    c.in_ok-jobs.jobs.items c.in_ok-jobs.ensures.jobs c.requires.numbered c.in_ok-posts.ensures.posts
+    c.in_ok-jobs.jobs.items c.in_ok-jobs.ensures.jobs c.requires.stations.in_order c.in_ok-posts.ensures.posts
 
 pub returns : goal.returns
 returns g c =

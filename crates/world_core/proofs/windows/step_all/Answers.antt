@@ -1,12 +1,12 @@
 use Rattle.std.proofs.Common.{subst, sym}
 use Rattle.phys_proc.specs.Ends.{ends_in}
-use Rattle.world_core.specs.Windows.{AllNumbered, WindowView}
+use Rattle.world_core.specs.Windows.{AreStations, WindowView}
 use Rattle.world_core.specs.Stepping.{AllStepped}
 use Rattle.world_core.proofs.windows.step_all.Goals as goal
 
-pub step_in_place-requires-clause-numbered : goal.step_in_place-requires-clause-numbered
-step_in_place-requires-clause-numbered g c κs within = subst (λ (w : WindowView). AllNumbered w.net c.args.procs.items)
-    (sym c.in_ok-work.ensures.value) c.requires.numbered
+pub step_in_place-requires-clause-stations : goal.step_in_place-requires-clause-stations
+step_in_place-requires-clause-stations g c κs within = subst (λ (w : WindowView). AreStations w.net c.args.procs.items)
+    (sym c.in_ok-work.ensures.value) c.requires.stations
 
 pub returns-then-small-clause-stepped : goal.returns-then-small-clause-stepped
 returns-then-small-clause-stepped g c =
@@ -15,9 +15,9 @@ returns-then-small-clause-stepped g c =
     s.procs.items s.outbox.all.items s.over c.args.steps.now c.step_in_place.new.steps)
     c.in_ok-work.ensures.value c.in_ok-stepped.ensures.stepped
 
-pub answers_of-requires-clause-numbered : goal.answers_of-requires-clause-numbered
-answers_of-requires-clause-numbered g c κs within = subst (λ (w : WindowView). AllNumbered w.net c.args.procs.items)
-    (sym c.in_ok-work.ensures.value) c.requires.numbered
+pub run_tasks-requires-clause-stations : goal.run_tasks-requires-clause-stations
+run_tasks-requires-clause-stations g c κs within = subst (λ (w : WindowView). AreStations w.net c.args.procs.items)
+    (sym c.in_ok-work.ensures.value) c.requires.stations
 
 pub returns-clause-stepped : goal.returns-clause-stepped
 returns-clause-stepped g c =
@@ -25,7 +25,7 @@ returns-clause-stepped g c =
     let flows = c.in_ok-flows.ensures in
     let done = c.in_ok-stepped-2.ensures in
     subst (λ (w : WindowView). AllStepped w.net (ends_in w.net.horizon w.ends) w.bound c.args.procs.items
-    s.procs.items s.outbox.all.items s.over c.args.steps.now c.answers_of.new.steps) c.in_ok-work.ensures.value
+    s.procs.items s.outbox.all.items s.over c.args.steps.now c.run_tasks.new.steps) c.in_ok-work.ensures.value
     (record {
       flows = c.in_ok-flows.flows.items;
       count = flows.count;

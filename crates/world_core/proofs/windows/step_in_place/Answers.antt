@@ -1,6 +1,6 @@
 use Rattle.std.proofs.Common.{◌<◌, None, arith, refl, sym, ap, subst, ◌∙◌, length}
 use Rattle.clone_sets.specs.Sets.{empty}
-use Rattle.phys_proc.specs.Own.{AreLate}
+use Rattle.phys_proc.specs.Own.{IsLowerBoundOfAll}
 use Rattle.phys_proc.specs.Ends.{ends_in}
 use Rattle.world_core.specs.declared.flow.Flow.{Flow}
 use Rattle.world_core.specs.Windows.{WindowView}
@@ -8,6 +8,8 @@ use Rattle.world_core.specs.Stepping.{SteppedTo}
 use Rattle.world_core.proofs.Places.{got_at}
 use Rattle.world_core.proofs.InPlace.{SteppedTo-none, SteppedTo-idle, SteppedTo-next, SteppedTo-all}
 use Rattle.world_core.proofs.windows.step_in_place.Goals as goal
+
+-- ---- the loop begins
 
 pub loop-i-init : goal.loop-i-init
 loop-i-init g c =
@@ -21,6 +23,8 @@ loop-i-init g c =
       few = tt;
     }
 
+-- ---- a station with nothing due
+
 pub loop-i-preserved-then-is_idle : goal.loop-i-preserved-then-is_idle
 loop-i-preserved-then-is_idle g c =
     let w = c.args.work.now in
@@ -31,16 +35,18 @@ loop-i-preserved-then-is_idle g c =
     omega (arith, c.loop-i-test.true, c.loop-i.auto.i-end, c.len-i-end.ensures, c.args.olds.ok.0) in
     let p = c.index.result.now in
     let got = got_at c.loop-i.procs.items c.loop-i.i p (omega (arith, l, same)) c.index.ensures in
-    let late = subst (λ b. AreLate b p.copies) (ap (λ (u : WindowView). u.bound) c.work.view_is)
-    (c.if-is_idle.ensures.late refl) in
+    let late = subst (λ b. IsLowerBoundOfAll b p.copies) (ap (λ (u : WindowView). u.bound) c.work.view_is)
+    (c.if-is_idle.ensures.lower refl) in
     let flow : Flow = record { done = p; sent = c.clear.new.self; over = empty; handled = 0 } in
     record {
       stepped = SteppedTo-idle w.net (ends_in w.net.horizon w.ends) w.bound olds c.loop-i.i c.loop-i.procs.items
           c.loop-i.outbox.all.items c.loop-i.over c.args.steps.now c.loop-i.steps p flow l far got
-          (c.requires.numbered c.loop-i.i p (sym (far.others c.loop-i.i (omega arith)) ∙ got)) late
+          (c.requires.stations.procs_in_order c.loop-i.i p (sym (far.others c.loop-i.i (omega arith)) ∙ got)) late
           c.is_idle.ensures.shared refl c.clear.ensures.items refl refl;
       few = c.loop-i.invariant.few;
     }
+
+-- ---- a station that is stepped
 
 pub loop-i-preserved : goal.loop-i-preserved
 loop-i-preserved g c =
@@ -58,6 +64,8 @@ loop-i-preserved g c =
           c.first_with-over.ensures.first;
       few = c.first_with-over.ensures.few;
     }
+
+-- ---- the result
 
 pub returns-clause-stepped : goal.returns-clause-stepped
 returns-clause-stepped g c =

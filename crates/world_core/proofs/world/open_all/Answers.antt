@@ -1,4 +1,5 @@
-use Rattle.std.proofs.Common.{◌∷◌, [], arith, length-append}
+use Rattle.std.proofs.Common.{◌∷◌, [], ap, arith, length-append}
+use Rattle.phys_proc.specs.Procs.{ProcView}
 use Rattle.world_core.proofs.Opening.{first_push}
 use Rattle.world_core.proofs.world.open_all.Goals as goal
 
@@ -10,9 +11,9 @@ loop-s-preserved c =
     rw (c.in_ok-push.ensures.items, c.in_ok-of.ensures.same) (record {
       count = omega (arith, n, l);
       first = first_push c.args.model.now c.loop-s.procs.items p.proc c.loop-s.s n c.loop-s.invariant.first (record {
-        station = record { proc = p.ensures.proc; number = p.ensures.station };
-        copies = p.ensures.first;
-        living = p.ensures.living;
-        once = p.ensures.handled;
+        station = record { proc = p.ensures.proc; number = ap (λ (q : ProcView). q.station) p.ensures.value };
+        copies = ap (λ (q : ProcView). q.copies) p.ensures.value;
+        living = ap (λ (q : ProcView). q.living) p.ensures.value;
+        once = ap (λ (q : ProcView). q.handled) p.ensures.value;
       });
     })

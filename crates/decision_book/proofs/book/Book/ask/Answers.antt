@@ -9,4 +9,4 @@ returns-clause-call c =
     c.len-fronts.result
     (c.len-fronts.ensures.value
     ∙ fronts_of-length b.model.value b.calls.items b.fronts.items c.args.self.now c.self.view_is)
-    c.decide-reply.ensures.reply c.decide-reply.ensures.journal (sym c.if-fills_up.ensures.value)
+    c.decide-reply.ensures.reply c.decide-reply.ensures.journal (sym c.if-is_full.ensures.value)

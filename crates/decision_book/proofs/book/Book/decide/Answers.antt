@@ -1,7 +1,7 @@
 use Rattle.std.proofs.Common.{◌∙◌, ap, sym, List}
 use Rattle.decision_book.specs.Journal.{Event, after}
 use Rattle.decision_book.specs.Books.{BookView, journal_of}
-use Rattle.decision_book.proofs.Scripts.{asking_is_next}
+use Rattle.decision_book.proofs.Scripts.{asking_is_after_decision}
 use Rattle.decision_book.proofs.Booking.{IsBook-call, journal_of-call}
 use Rattle.decision_book.proofs.Fulls.{full_where_full, reply-of_parts, with_last_entry}
 use Rattle.decision_book.proofs.book.Book.decide.Goals as goal
@@ -14,7 +14,7 @@ invariant_of-self c =
       stamp = c.len.ensures.value;
       answer = rw (← c.len-calls.ensures.value, ← c.deref.ensures) c.decide_by_table-reply.ensures.reply;
       not_full =
-          sym c.if-not-fills_up.ensures.value;
+          sym c.if-not-is_full.ensures.value;
     })
     (rw (← c.deref.ensures) c.decide_by_table-reply.ensures.lists)
     (rw (← c.deref.ensures) c.decide_by_table-reply.ensures.planned))
@@ -28,7 +28,7 @@ returns-in-Ok-clause-journal c =
       stamp = c.len.ensures.value;
       answer = rw (← c.len-calls.ensures.value, ← c.deref.ensures) c.decide_by_table-reply.ensures.reply;
       not_full =
-          sym c.if-not-fills_up.ensures.value;
+          sym c.if-not-is_full.ensures.value;
     })))
 
 pub returns-in-Ok-clause-next : goal.returns-in-Ok-clause-next
@@ -40,9 +40,9 @@ returns-in-Ok-clause-next c =
       stamp = c.len.ensures.value;
       answer = rw (← c.len-calls.ensures.value, ← c.deref.ensures) c.decide_by_table-reply.ensures.reply;
       not_full =
-          sym c.if-not-fills_up.ensures.value;
+          sym c.if-not-is_full.ensures.value;
     }))
-    ∙ asking_is_next b.model.value (journal_of b.calls.items b.fronts.items) c.args.caller c.args.d)
+    ∙ asking_is_after_decision b.model.value (journal_of b.calls.items b.fronts.items) c.args.caller c.args.d)
 
 pub returns-in-Ok-clause-full : goal.returns-in-Ok-clause-full
 returns-in-Ok-clause-full c =
@@ -52,8 +52,8 @@ returns-in-Ok-clause-full c =
     c.args.self.now c.self.invariant c.self.view_is
     (rw (← c.len-calls.ensures.value, ← c.deref.ensures) c.decide_by_table-reply.ensures.reply))
 
-pub returns-else-not-fills_up-clause-full : goal.returns-else-not-fills_up-clause-full
-returns-else-not-fills_up-clause-full c =
+pub returns-else-not-is_full-clause-full : goal.returns-else-not-is_full-clause-full
+returns-else-not-is_full-clause-full c =
     let b = c.self.inside in
     full_where_full c.args.self.now.net c.args.self.now.events c.args.d c.decide_by_table-reply.result
     (reply-of_parts b.model.value b.lists b.calls b.fronts b.front c.args.d c.decide_by_table-reply.result

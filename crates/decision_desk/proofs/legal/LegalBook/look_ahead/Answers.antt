@@ -29,12 +29,12 @@ returns c =
     ∙ ap (λ (ts : List (Option ℕ)). ts ++ c.args.least.now) c.new-times.ensures.items in
     record {
       ahead = subst (λ (v : BookView). IsTurnAhead v (helm_at c.args.known v.events)
-          (calls_at c.args.known v.events) fresh c.end_of_window-front.result) c.book-book.ensures.value
-          (is_turn_ahead b fresh c.args.known c.end_of_window-front.result c.args.least.now
+          (calls_at c.args.known v.events) fresh c.window_end-front.result) c.book-book.ensures.value
+          (is_turn_ahead b fresh c.args.known c.window_end-front.result c.args.least.now
           c.take_calls.new.times.items all
           (subst (λ (v : BookView). IsSince v c.args.known c.args.least.now)
           (sym c.book-book.ensures.value) c.requires.since)
-          (subst (λ (n : Net). IsNet n) c.model.ensures.value c.end_of_window-front.ensures.valid)
+          (subst (λ (n : Net). IsNet n) c.model.ensures.value c.window_end-front.ensures.valid)
           c.front-front.ensures.right
           (c.in_ok-fresh.ensures.value ∙ ap (λ (l : List Call). accepted_of (drop c.args.known l))
           c.calls.ensures.value)
@@ -42,7 +42,7 @@ returns c =
           (c.in_ok-take_calls.ensures.ok
           ∙ (ap (λ (ts : List (Option ℕ)). leasts_with_calls all ts c.as_slice.result.now) times
           ∙ ap (leasts_with_calls all c.args.least.now) c.as_slice.ensures.value))
-          (c.end_of_window-front.ensures.value
+          (c.window_end-front.ensures.value
           ∙ (ap (λ (n : Net). window_end (simulation n) c.earliest.result) c.model.ensures.value
           ∙ ap (λ t. window_end (simulation b.net) t)
           (c.earliest.ensures.value ∙ ap earliest c.as_slice-2.ensures.value))));

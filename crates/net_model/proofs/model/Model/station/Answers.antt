@@ -9,7 +9,7 @@ pub returns-clause-value : goal.returns-clause-value
 returns-clause-value c =
     let seen = sym (ap (λ n. n.sites) c.self.view_is) in
     let count = ap length seen ∙ length-map c.self.inside.stations.items as_site in
-    let low = c.requires.low in
-    let high = c.requires.high in
+    let low = c.requires.is_station.low in
+    let high = c.requires.is_station.high in
     seen_site c.args.self.now c.self.inside.stations.items seen c.args.s c.index.result.now low
     (slice_get_read c.self.inside.stations.items _ _ _ refl (omega (arith, count)) c.index.ensures)

@@ -25,6 +25,8 @@ step_result net s s1 ends bound old old1 st steps0 steps e f h =
     subst (λ r. IsStepResult net r ends bound old st.done st.sent.items st.over steps0 steps) e
     (subst (λ k. IsStepResult net s1 ends bound k st.done st.sent.items st.over steps0 steps) f h)
 
+-- ---- step_copies
+
 pub step_copies-requires-clause-may_step : goal.step_copies-requires-clause-may_step
 step_copies-requires-clause-may_step g c =
     let net = c.args.model.now in
@@ -40,6 +42,8 @@ step_copies-requires-clause-may_step g c =
       few = few_clones i.living i.copies c.self.invariant.shares
           (few_members i.living c.len-clones.result c.len-clones.ensures.value c.len-clones.ensures.members);
     }))
+
+-- ---- no log over the limit
 
 pub overflow_add-self : goal.overflow_add-self
 overflow_add-self g c =
@@ -81,6 +85,8 @@ invariant_of-self-then-is_empty g c =
     c.self.invariant.shares.together c.self.invariant.once
     (all_shared net h.valid i.station ends c.args.bound i.copies st.done st.sent.items st.over c.args.steps.now
     c.step_copies.new.steps h.copies far st.handled c.in_ok-step_copies.ensures.handled none))
+
+-- ---- the result
 
 pub returns-clause-windows : goal.returns-clause-windows
 returns-clause-windows g c =

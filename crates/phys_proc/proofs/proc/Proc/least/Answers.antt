@@ -2,7 +2,7 @@ use Rattle.std.proofs.Common.{◌+◌, ◌<◌, arith, refl, subst, ◌∙◌, a
 use Rattle.std.proofs.lemmas.List.{take_all}
 use Rattle.std.proofs.lemmas.Slice.Zip.{AllZip-long}
 use Rattle.sim_base.proofs.Elements.{take_next}
-use Rattle.phys_proc.specs.Own.{IsLate}
+use Rattle.phys_proc.specs.Own.{IsLowerBound}
 use Rattle.phys_proc.specs.Ends.{ends_in}
 use Rattle.phys_proc.specs.Procs.{IsLeast}
 use Rattle.phys_proc.proofs.CopyLeasts.{least_at}
@@ -22,11 +22,11 @@ returns c =
 pub bounds-leasts-i : goal.bounds-leasts-i
 bounds-leasts-i c =
     let e = ap length c.copies-copies.ensures.value in
-    let n = AllZip-long IsLate c.leasts-leasts.result.now c.args.self.now.copies c.leasts-leasts.ensures.each in
+    let n = AllZip-long IsLowerBound c.leasts-leasts.result.now c.args.self.now.copies c.leasts-leasts.ensures.each in
     omega (arith, e, n, c.loop-i-test.true)
 
-pub with_copy-least-requires-clause-late : goal.with_copy-least-requires-clause-late
-with_copy-least-requires-clause-late c =
+pub with_copy-least-requires-clause-lower : goal.with_copy-least-requires-clause-lower
+with_copy-least-requires-clause-lower c =
     let xs = c.args.self.now.copies in
     let x = c.index-copies-i.result in
     let same = c.copies-copies.ensures.value in

@@ -1,6 +1,6 @@
 use Rattle.std.proofs.Common.{◌≡◌, Some, IfSome, arith, subst, sym}
 use Rattle.sim_base.specs.Clones.{clone_at}
-use Rattle.rolling_text.specs.GivenSpans.{AreInOrder}
+use Rattle.rolling_text.specs.GivenSpans.{SpansAreJoined}
 use Rattle.rolling_text.proofs.InOrder.{one_more}
 use Rattle.rolling_text.proofs.given_spans.GivenSpans.give.Goals as goal
 
@@ -14,7 +14,7 @@ invariant_of-self-2 c =
     c.with_order-mailbox.ensures.given in
     record {
       there = h.there;
-      in_order = subst (λ bs. AreInOrder net list t.made bs c.min-until.result) (sym c.in_ok-add.ensures.ok)
+      in_order = subst (λ bs. SpansAreJoined net list t.made bs c.min-until.result) (sym c.in_ok-add.ensures.ok)
           (one_more net list t.made t.spans.items t.given _ h.in_order given
           (omega (arith, c.max.ensures, c.min-until.ensures, h.within)));
       within = omega (arith, c.min-until.ensures);

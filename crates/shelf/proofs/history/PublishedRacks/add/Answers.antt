@@ -1,5 +1,5 @@
 use Rattle.std.proofs.Common.{sym, ◌∙◌, ap}
-use Rattle.shelf.specs.Racks.{MayFollow}
+use Rattle.shelf.specs.Racks.{MayBePublished}
 use Rattle.shelf.proofs.Adding.{adds_moves}
 use Rattle.shelf.proofs.history.PublishedRacks.add.Goals as goal
 
@@ -8,7 +8,7 @@ compare_exchange-found-requires g c =
     let h = c.args.history.now.head_is in
     let offer = c.plain-offer.ensures in
     let pen = c.no_pen-pen.ensures in
-    let may : MayFollow c.self.inside.seen.log c.args.rack.now = rw c.self.view_is c.requires.may in (
+    let may : MayBePublished c.self.inside.seen.log c.args.rack.now = rw c.self.view_is c.requires.may in (
       ap (λ w. w.tracked) h,
       c.self.invariant.1 ∙ sym (ap (λ w. w.book) h),
       pen.0 ∙ (c.self.invariant.1 ∙ sym (ap (λ w. w.book) h)),

@@ -9,6 +9,8 @@ use Rattle.sim_base.proofs.Cutting.{cut-append, SortedMarked-cut, length-cut}
 use Rattle.sim_base.proofs.Rotating.{cut_more, cut_end}
 use Rattle.sim_base.proofs.pending.Pending.cut.Goals as goal
 
+-- ---- the first block is cut, and no later one yet
+
 pub loop-block-init : goal.loop-block-init
 loop-block-init g c =
     let meet = g.S.Marks.common in
@@ -36,6 +38,8 @@ loop-block-init g c =
       rest = subst AreFilled (sym rest) c.self.invariant.sized.later_filled;
     }
 
+-- ---- one block more is cut
+
 pub add_block-requires-clause-small : goal.add_block-requires-clause-small
 add_block-requires-clause-small g c =
     let filled = subst AreFilled c.in-Some.ensures.steps c.loop-block.invariant.rest in
@@ -53,6 +57,8 @@ loop-block-preserved g c =
       sized = c.in_ok-add_block.ensures.sized;
       rest = filled.1;
     }
+
+-- ---- all blocks are cut
 
 pub invariant_of-result : goal.invariant_of-result
 invariant_of-result g c =

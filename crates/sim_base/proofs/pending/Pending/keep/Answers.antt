@@ -8,6 +8,8 @@ use Rattle.sim_base.proofs.Placing.{sorted_right}
 use Rattle.sim_base.proofs.Rotating.{filled_if, empty_if}
 use Rattle.sim_base.proofs.pending.Pending.keep.Goals as goal
 
+-- ---- the blocks stay in order
+
 pub invariant_of-self : goal.invariant_of-self
 invariant_of-self g c =
     let first = c.self.inside.first in
@@ -41,6 +43,8 @@ invariant_of-self-else-is_empty g c =
       };
     }
 
+-- ---- no message of the first block stays
+
 pub returns-then-is_empty : goal.returns-then-is_empty
 returns-then-is_empty g c =
     let meet = g.S.Marks.common in
@@ -51,6 +55,8 @@ returns-then-is_empty g c =
       value = c.next_block.ensures.same ∙ c.keep_later.ensures.value ∙ ap (λ xs. xs ++ cut_by meet c.args.by rest)
           (sym none) ∙ sym (cut-append meet c.args.by first rest) ∙ ap (cut_by meet c.args.by) c.self.view_is;
     }
+
+-- ---- some message of the first block stays
 
 pub returns-else-is_empty : goal.returns-else-is_empty
 returns-else-is_empty g c =

@@ -7,16 +7,20 @@ use Rattle.sim_base.proofs.Halving.{length_later, first_free, second_free, full_
 use Rattle.sim_base.proofs.Halving.{starts_there, place_first, place_second}
 use Rattle.sim_base.proofs.pending.blocks.halve_if_full.Goals as goal
 
+-- ---- a full block is halved
+
 pub halve-requires-clause-full : goal.halve-requires-clause-full
 halve-requires-clause-full g c =
     full_at c.args.at c.args.first.now c.args.later.now.items c.len_at.result c.requires.blocks.sized
-    c.len_at.ensures.value c.if-len_at-lt-MOST_MESSAGES.false
+    c.len_at.ensures.value c.if-len_at-lt-MOST_IN_BLOCK.false
 
 pub index-requires : goal.index-requires
 index-requires g c =
     let long = length_later c.args.at c.args.first.now c.halve.new.first c.args.later.now.items
     c.halve.new.later.items c.in_ok-halve.ensures.ok c.requires.place.within in
     omega (arith, c.requires.place.within)
+
+-- ---- the message goes to the first half
 
 pub returns-then-starts_after-clause-same : goal.returns-then-starts_after-clause-same
 returns-then-starts_after-clause-same g c = ap of_blocks c.in_ok-halve.ensures.ok
@@ -27,7 +31,7 @@ returns-then-starts_after-clause-blocks g c =
     let same = ap of_blocks c.in_ok-halve.ensures.ok
     ∙ of_blocks-halves c.args.at (c.args.first.now ∷ c.args.later.now.items) in
     let full = full_at c.args.at c.args.first.now c.args.later.now.items c.len_at.result c.requires.blocks.sized
-    c.len_at.ensures.value c.if-len_at-lt-MOST_MESSAGES.false in
+    c.len_at.ensures.value c.if-len_at-lt-MOST_IN_BLOCK.false in
     record {
       sorted = subst (SortedMarked msg_cmp) (sym same) c.requires.blocks.sorted;
       sized = AreSized-halves c.args.at c.args.first.now c.args.later.now.items _ _ c.requires.blocks.sized full
@@ -46,9 +50,11 @@ returns-then-starts_after-clause-place g c =
 pub returns-then-starts_after-clause-free : goal.returns-then-starts_after-clause-free
 returns-then-starts_after-clause-free g c =
     let full = full_at c.args.at c.args.first.now c.args.later.now.items c.len_at.result c.requires.blocks.sized
-    c.len_at.ensures.value c.if-len_at-lt-MOST_MESSAGES.false in
+    c.len_at.ensures.value c.if-len_at-lt-MOST_IN_BLOCK.false in
     first_free c.args.at c.args.first.now c.halve.new.first c.args.later.now.items c.halve.new.later.items
     c.in_ok-halve.ensures.ok c.requires.place.within full
+
+-- ---- the message goes to the second half
 
 pub returns-else-starts_after-clause-same : goal.returns-else-starts_after-clause-same
 returns-else-starts_after-clause-same g c = ap of_blocks c.in_ok-halve.ensures.ok
@@ -59,7 +65,7 @@ returns-else-starts_after-clause-blocks g c =
     let same = ap of_blocks c.in_ok-halve.ensures.ok
     ∙ of_blocks-halves c.args.at (c.args.first.now ∷ c.args.later.now.items) in
     let full = full_at c.args.at c.args.first.now c.args.later.now.items c.len_at.result c.requires.blocks.sized
-    c.len_at.ensures.value c.if-len_at-lt-MOST_MESSAGES.false in
+    c.len_at.ensures.value c.if-len_at-lt-MOST_IN_BLOCK.false in
     record {
       sorted = subst (SortedMarked msg_cmp) (sym same) c.requires.blocks.sorted;
       sized = AreSized-halves c.args.at c.args.first.now c.args.later.now.items _ _ c.requires.blocks.sized full
@@ -78,6 +84,6 @@ returns-else-starts_after-clause-place g c =
 pub returns-else-starts_after-clause-free : goal.returns-else-starts_after-clause-free
 returns-else-starts_after-clause-free g c =
     let full = full_at c.args.at c.args.first.now c.args.later.now.items c.len_at.result c.requires.blocks.sized
-    c.len_at.ensures.value c.if-len_at-lt-MOST_MESSAGES.false in
+    c.len_at.ensures.value c.if-len_at-lt-MOST_IN_BLOCK.false in
     second_free c.args.at c.args.first.now c.halve.new.first c.args.later.now.items c.halve.new.later.items
     c.in_ok-halve.ensures.ok c.requires.place.within _ (omega arith) full

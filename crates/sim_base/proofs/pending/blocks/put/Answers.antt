@@ -7,6 +7,8 @@ use Rattle.sim_base.proofs.OrderLaws.{msg_total}
 use Rattle.sim_base.proofs.Putting.{sorted_at, is_put, set_later, later_at}
 use Rattle.sim_base.proofs.pending.blocks.put.Goals as goal
 
+-- ---- the block that gets the message is in order
+
 pub insert-requires : goal.insert-requires
 insert-requires g c = record {
   sorted =
@@ -23,6 +25,8 @@ insert-requires-else-at-eq0 g c =
       sorted = subst (SortedMarked msg_cmp) (sym is)
           (sorted_at msg_cmp c.args.at c.args.first.now c.args.later.now.items c.requires.blocks);
     }
+
+-- ---- the first block gets it
 
 pub returns-then-at-eq0-clause-blocks : goal.returns-then-at-eq0-clause-blocks
 returns-then-at-eq0-clause-blocks g c =
@@ -47,6 +51,8 @@ returns-then-at-eq0-clause-err g c =
     c.insert.new.self c.args.later.now.items
     (rw c.if-at-eq0.true refl) (rw c.if-at-eq0.true c.insert.ensures.ok) (rw c.if-at-eq0.true c.insert.ensures.err) in
     put.err
+
+-- ---- a later block gets it
 
 pub returns-else-at-eq0-clause-blocks : goal.returns-else-at-eq0-clause-blocks
 returns-else-at-eq0-clause-blocks g c =

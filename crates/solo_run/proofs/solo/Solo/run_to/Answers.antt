@@ -4,8 +4,10 @@ use Rattle.solo_run.specs.EventLists.{EventListView}
 use Rattle.solo_run.specs.SoloView.{SoloView, IsSolo, config_of}
 use Rattle.solo_run.specs.Turns.{IsReached}
 use Rattle.solo_run.proofs.OneTurn.{solo_view}
-use Rattle.solo_run.proofs.ToFront.{next_turn, run_ends, trace-short, stops}
+use Rattle.solo_run.proofs.ToFront.{next_turn, run_ends, trace-short, Stops-StopsAt}
 use Rattle.solo_run.proofs.solo.Solo.run_to.Goals as goal
+
+-- ---- each turn
 
 pub loop-due-init : goal.loop-due-init
 loop-due-init g c = record { solo = c.requires.solo; ran = stay; steps = refl }
@@ -37,6 +39,8 @@ loop-due-preserved g c =
       steps = omega (arith, inv.steps, same, c.in-Ok.ensures.counted, c.in-Ok.ensures.longer);
     }
 
+-- ---- where the run ends
+
 pub returns-in-Err-clause-stops : goal.returns-in-Err-clause-stops
 returns-in-Err-clause-stops g c =
     let net = c.args.model.now in
@@ -49,7 +53,7 @@ returns-in-Err-clause-stops g c =
     let ran = subst (λ (v : SoloView). IsReached net c.args.front c.args.self v) is inv.ran in
     let same = ap (λ (v : SoloView). length v.trace) c.self.view_is in
     let count = inv.steps in
-    stops net c.requires.solo.valid c.args.front c.args.self w c.in-Some.due _ _ c.loop-due.steps c.in-Err.fault
+    Stops-StopsAt net c.requires.solo.valid c.args.front c.args.self w c.in-Some.due _ _ c.loop-due.steps c.in-Err.fault
     c.requires.solo here ran some.1 c.in-Err.ensures.full (omega (arith, count, same))
 
 pub returns-clause-ok : goal.returns-clause-ok

@@ -19,9 +19,9 @@ run_part-requires-clause-ready g c κs within =
 
 pub invariant_of-result : goal.invariant_of-result
 invariant_of-result g c =
-    subst (λ l. All (λ line. line ≡ None) l) (sym c.in_ok-add_all.ensures.value)
-    (All-append (λ line. line ≡ None) c.in_ok-lines.lines.items c.in_ok-busy.field-0.idle.items
-    c.in_ok-lines.ensures.idle c.in_ok-busy.ensures.idle)
+    subst (λ l. All (λ caller. caller ≡ None) l) (sym c.in_ok-add_all.ensures.value)
+    (All-append (λ caller. caller ≡ None) c.in_ok-callers.callers.items c.in_ok-busy.field-0.idle.items
+    c.in_ok-callers.ensures.idle c.in_ok-busy.ensures.idle)
 
 pub returns-clause-answers : goal.returns-clause-answers
 returns-clause-answers g c =
@@ -29,10 +29,11 @@ returns-clause-answers g c =
     let before = items_out handed.busy.items in
     let own = handed.own.items in
     let answers = g.W.Work.answers c.args.work.value in
-    let outs = c.in_ok-lines.outs.items in
+    let outs = c.in_ok-callers.outs.items in
     let more = c.in_ok-own.own.items in
     let others : EachAnsweredFrom answers 0 before outs =
-    subst (λ w. EachAnsweredFrom (g.W.Work.answers w) 0 before outs) c.deref-4.ensures c.in_ok-lines.ensures.answers in
+    subst (λ w. EachAnsweredFrom (g.W.Work.answers w) 0 before outs) c.deref-4.ensures
+    c.in_ok-callers.ensures.answers in
     let mine : EachAnsweredFrom answers handed.first own more =
     subst (λ w. EachAnsweredFrom (g.W.Work.answers w) handed.first own more) c.deref-3.ensures
     c.in_ok-own.ensures.answers in

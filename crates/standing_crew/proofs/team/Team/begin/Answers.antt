@@ -4,6 +4,6 @@ use Rattle.standing_crew.proofs.team.Team.begin.Goals as goal
 
 pub loop-number-preserved : goal.loop-number-preserved
 loop-number-preserved g c =
-    subst (λ l. All (λ line. line ≡ None) l) (sym c.in_ok-add-2.ensures.value)
-    (All-push (λ line. line ≡ None) c.loop-number.lines.items c.in_ok-line.line c.loop-number.invariant
-    c.in_ok-line.ensures.idle.0)
+    subst (λ l. All (λ caller. caller ≡ None) l) (sym c.in_ok-add-2.ensures.value)
+    (All-push (λ caller. caller ≡ None) c.loop-number.callers.items c.in_ok-caller.caller c.loop-number.invariant
+    c.in_ok-caller.ensures.idle.0)

@@ -3,6 +3,8 @@ use Rattle.log_chain.specs.Stored.{entry_in}
 use Rattle.trace_cursor.proofs.Stepping.{cursor-next, left-some, next-there, next-some, next-fits}
 use Rattle.trace_cursor.proofs.cursor.Cursor.take.Goals as goal
 
+-- ---- what the calls ask for
+
 pub index_mut-requires : goal.index_mut-requires
 index_mut-requires c =
     let walks = c.self.inside.walks in
@@ -40,6 +42,8 @@ set-requires c =
     let there = next-there walks.items c.self.inside.tree _ _ h c.least-place.result c.least-place.ensures.value
     c.args.self.now c.self.view_is c.requires.some in
     record { there = omega (arith, there, h.within, h.there) }
+
+-- ---- the cursor afterwards, and the entry
 
 pub invariant_of-self : goal.invariant_of-self
 invariant_of-self c =

@@ -1,6 +1,7 @@
 use Rattle.std.proofs.Common.{◌≡◌, ◌-◌, ◌≤◌, sym, ap, ◌∙◌, subst, arith, length}
 use Rattle.std.specs.List.{AllByRecursion}
 use Rattle.sim_base.specs.declared.lists.TheConstants.{MOST_CLONES}
+use Rattle.net_model.specs.Net.{HasStation}
 use Rattle.net_model.specs.declared.limits.TheConstants.{MOST_LIMIT}
 use Rattle.stations.specs.Runs.{copies, handled_once, handled_alone}
 use Rattle.phys_proc.specs.Own.{StationCopy, all_sizes, handled_alone_by}
@@ -9,13 +10,15 @@ use Rattle.world_core.proofs.Places.{got_at}
 use Rattle.world_core.proofs.DueTimes.{has_figures, all_short}
 use Rattle.world_core.proofs.world.World.figures.Goals as goal
 
+-- ---- alone_in
+
 pub alone_in-requires-clause-short : goal.alone_in-requires-clause-short
 alone_in-requires-clause-short c =
     let procs = c.self.inside.procs.items in
     let p = c.index-proc.result.now in
-    let high = subst (λ (w : WorldView). c.args.station ≤ length w.net.sites) (sym c.self.view_is) c.requires.high in
+    let is = subst (λ (w : WorldView). HasStation w.net c.args.station) (sym c.self.view_is) c.requires.is_station in
     let many = c.self.invariant.count in
-    let got = got_at procs (c.args.station - 1) p (omega (arith, c.requires.low, high, many)) c.index-proc.ensures in
+    let got = got_at procs (c.args.station - 1) p (omega (arith, is.low, is.high, many)) c.index-proc.ensures in
     let proc = (c.self.invariant.each (c.args.station - 1) p got).proc in
     let short = c.self.invariant.valid.short in
     subst (AllByRecursion (λ (a : StationCopy). length a.log ≤ MOST_LIMIT)) (sym c.copies-2.ensures.value)
@@ -25,22 +28,24 @@ pub alone_in-requires-clause-few : goal.alone_in-requires-clause-few
 alone_in-requires-clause-few c =
     let procs = c.self.inside.procs.items in
     let p = c.index-proc.result.now in
-    let high = subst (λ (w : WorldView). c.args.station ≤ length w.net.sites) (sym c.self.view_is) c.requires.high in
+    let is = subst (λ (w : WorldView). HasStation w.net c.args.station) (sym c.self.view_is) c.requires.is_station in
     let many = c.self.invariant.count in
-    let got = got_at procs (c.args.station - 1) p (omega (arith, c.requires.low, high, many)) c.index-proc.ensures in
+    let got = got_at procs (c.args.station - 1) p (omega (arith, is.low, is.high, many)) c.index-proc.ensures in
     let f = has_figures c.self.inside.model.value c.self.inside.lists.clones c.self.inside.ends c.self.inside.front
-    procs c.self.invariant c.args.station p c.requires.low got in
+    procs c.self.invariant c.args.station p is.low got in
     subst (λ k. all_sizes k ≤ MOST_CLONES) (sym c.copies-2.ensures.value) f.sizes
+
+-- ---- the figures
 
 pub returns-clause-copies : goal.returns-clause-copies
 returns-clause-copies c =
     let procs = c.self.inside.procs.items in
     let p = c.index-proc.result.now in
-    let high = subst (λ (w : WorldView). c.args.station ≤ length w.net.sites) (sym c.self.view_is) c.requires.high in
+    let is = subst (λ (w : WorldView). HasStation w.net c.args.station) (sym c.self.view_is) c.requires.is_station in
     let many = c.self.invariant.count in
-    let got = got_at procs (c.args.station - 1) p (omega (arith, c.requires.low, high, many)) c.index-proc.ensures in
+    let got = got_at procs (c.args.station - 1) p (omega (arith, is.low, is.high, many)) c.index-proc.ensures in
     let f = has_figures c.self.inside.model.value c.self.inside.lists.clones c.self.inside.ends c.self.inside.front
-    procs c.self.invariant c.args.station p c.requires.low got in
+    procs c.self.invariant c.args.station p is.low got in
     ap length c.copies.ensures.value
     ∙ subst (λ (w : WorldView). length p.copies ≡ copies w.net w.clones c.args.station w.front) c.self.view_is
     f.copies_are
@@ -49,11 +54,11 @@ pub returns-clause-handled : goal.returns-clause-handled
 returns-clause-handled c =
     let procs = c.self.inside.procs.items in
     let p = c.index-proc.result.now in
-    let high = subst (λ (w : WorldView). c.args.station ≤ length w.net.sites) (sym c.self.view_is) c.requires.high in
+    let is = subst (λ (w : WorldView). HasStation w.net c.args.station) (sym c.self.view_is) c.requires.is_station in
     let many = c.self.invariant.count in
-    let got = got_at procs (c.args.station - 1) p (omega (arith, c.requires.low, high, many)) c.index-proc.ensures in
+    let got = got_at procs (c.args.station - 1) p (omega (arith, is.low, is.high, many)) c.index-proc.ensures in
     let f = has_figures c.self.inside.model.value c.self.inside.lists.clones c.self.inside.ends c.self.inside.front
-    procs c.self.invariant c.args.station p c.requires.low got in
+    procs c.self.invariant c.args.station p is.low got in
     c.handled.ensures.value ∙ subst (λ (w : WorldView). p.handled ≡ handled_once w.net w.clones c.args.station w.front)
     c.self.view_is f.once
 
@@ -61,11 +66,11 @@ pub returns-clause-alone : goal.returns-clause-alone
 returns-clause-alone c =
     let procs = c.self.inside.procs.items in
     let p = c.index-proc.result.now in
-    let high = subst (λ (w : WorldView). c.args.station ≤ length w.net.sites) (sym c.self.view_is) c.requires.high in
+    let is = subst (λ (w : WorldView). HasStation w.net c.args.station) (sym c.self.view_is) c.requires.is_station in
     let many = c.self.invariant.count in
-    let got = got_at procs (c.args.station - 1) p (omega (arith, c.requires.low, high, many)) c.index-proc.ensures in
+    let got = got_at procs (c.args.station - 1) p (omega (arith, is.low, is.high, many)) c.index-proc.ensures in
     let f = has_figures c.self.inside.model.value c.self.inside.lists.clones c.self.inside.ends c.self.inside.front
-    procs c.self.invariant c.args.station p c.requires.low got in
+    procs c.self.invariant c.args.station p is.low got in
     c.alone_in.ensures.value ∙ ap handled_alone_by c.copies-2.ensures.value
     ∙ subst (λ (w : WorldView). handled_alone_by p.copies ≡ handled_alone w.net w.clones c.args.station w.front)
     c.self.view_is f.each_alone

@@ -6,7 +6,7 @@ use Rattle.phys_proc.specs.Ends.{ends_in}
 use Rattle.phys_proc.specs.Procs.{IsWithLeast}
 use Rattle.world_core.specs.Worlds.{WorldView}
 use Rattle.world_core.proofs.Places.{got_at}
-use Rattle.world_core.proofs.DueTimes.{TakenTo, by_words, least_next, least_all}
+use Rattle.world_core.proofs.DueTimes.{TakenTo, least_next, least_all}
 use Rattle.world_core.proofs.Timing.{least_with}
 use Rattle.world_core.proofs.world.World.least.Goals as goal
 
@@ -25,8 +25,7 @@ loop-i-preserved c =
     c.with_least-least.result) c.ends.ensures.value
     (subst (λ (n : Net). IsWithLeast (ends_in n.horizon c.ends.result.now) p.copies c.loop-i.least
     c.with_least-least.result) c.deref.ensures c.with_least-least.ensures.least))
-    (TakenTo (ends_in net.horizon ended) procs c.loop-i.i)
-    (by_words (TakenTo (ends_in net.horizon ended) procs c.loop-i.i) c.loop-i.least c.loop-i.invariant))
+    (TakenTo (ends_in net.horizon ended) procs c.loop-i.i) c.loop-i.invariant)
 
 pub returns : goal.returns
 returns c = record {

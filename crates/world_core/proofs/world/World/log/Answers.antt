@@ -2,6 +2,7 @@ use Rattle.std.proofs.Common.{◌≡◌, ◌+◌, ◌-◌, ◌<◌, ◌≤◌, s
 use Rattle.std.specs.List.{AllByRecursion}
 use Rattle.sim_base.specs.Clones.{clone_at}
 use Rattle.clone_sets.specs.Sets.{has}
+use Rattle.net_model.specs.Net.{HasStation}
 use Rattle.stations.specs.Runs.{simulation}
 use Rattle.run_laws.specs.Runs.{log_at}
 use Rattle.phys_proc.specs.Own.{StationCopy}
@@ -18,9 +19,9 @@ unreachable-requires c =
     let i = c.args.station - 1 in
     let p = c.index.result.now in
     let there = subst (λ (w : WorldView). c.args.who < length w.clones) (sym c.self.view_is) c.requires.there in
-    let high = subst (λ (w : WorldView). c.args.station ≤ length w.net.sites) (sym c.self.view_is) c.requires.high in
+    let is = subst (λ (w : WorldView). HasStation w.net c.args.station) (sym c.self.view_is) c.requires.is_station in
     let many = c.self.invariant.count in
-    let got = got_at procs i p (omega (arith, c.requires.low, high, many)) c.index.ensures in
+    let got = got_at procs i p (omega (arith, is.low, is.high, many)) c.index.ensures in
     has_a_copy w.model.value w.lists.clones w.ends w.front procs c.self.invariant c.args.who there i p got
     (subst (AllByRecursion (λ (a : StationCopy). has a.set c.args.who ≡ false)) c.copies.ensures.value
     c.in-None.ensures.none)
@@ -32,12 +33,12 @@ returns-clause-value c =
     let i = c.args.station - 1 in
     let p = c.index.result.now in
     let there = subst (λ (w : WorldView). c.args.who < length w.clones) (sym c.self.view_is) c.requires.there in
-    let high = subst (λ (w : WorldView). c.args.station ≤ length w.net.sites) (sym c.self.view_is) c.requires.high in
+    let is = subst (λ (w : WorldView). HasStation w.net c.args.station) (sym c.self.view_is) c.requires.is_station in
     let many = c.self.invariant.count in
-    let got = got_at procs i p (omega (arith, c.requires.low, high, many)) c.index.ensures in
+    let got = got_at procs i p (omega (arith, is.low, is.high, many)) c.index.ensures in
     let has_log = subst (λ (k : List StationCopy). HasLog k c.args.who c.in-Some.log.now) c.copies.ensures.value
     c.in-Some.ensures.some in
-    let same : i + 1 ≡ c.args.station = omega (arith, c.requires.low) in
+    let same : i + 1 ≡ c.args.station = omega (arith, is.low) in
     subst (λ (w : WorldView). c.in-Some.log.now ≡ log_at (simulation w.net)
     (clone_at w.clones c.args.who) c.args.station w.front) c.self.view_is
     (log_is w.model.value w.lists.clones w.ends w.front procs c.self.invariant c.args.who there i p c.in-Some.log.now
@@ -51,9 +52,9 @@ returns-clause-short c =
     let i = c.args.station - 1 in
     let p = c.index.result.now in
     let there = subst (λ (w : WorldView). c.args.who < length w.clones) (sym c.self.view_is) c.requires.there in
-    let high = subst (λ (w : WorldView). c.args.station ≤ length w.net.sites) (sym c.self.view_is) c.requires.high in
+    let is = subst (λ (w : WorldView). HasStation w.net c.args.station) (sym c.self.view_is) c.requires.is_station in
     let many = c.self.invariant.count in
-    let got = got_at procs i p (omega (arith, c.requires.low, high, many)) c.index.ensures in
+    let got = got_at procs i p (omega (arith, is.low, is.high, many)) c.index.ensures in
     let has_log = subst (λ (k : List StationCopy). HasLog k c.args.who c.in-Some.log.now) c.copies.ensures.value
     c.in-Some.ensures.some in
     subst (λ (w : WorldView). length c.in-Some.log.now ≤ w.net.limit) c.self.view_is

@@ -1,4 +1,5 @@
-use Rattle.std.proofs.Common.{◌-◌, ◌≤◌, sym, subst, arith, length}
+use Rattle.std.proofs.Common.{◌-◌, sym, subst, arith}
+use Rattle.net_model.specs.Net.{HasStation}
 use Rattle.world_core.specs.Worlds.{WorldView}
 use Rattle.world_core.proofs.Places.{got_at}
 use Rattle.world_core.proofs.Worlds.{stands_for_reader}
@@ -8,9 +9,9 @@ pub rack-requires-clause-copies : goal.rack-requires-clause-copies
 rack-requires-clause-copies c =
     let procs = c.self.inside.procs.items in
     let p = c.index_mut.result.now in
-    let high = subst (λ (w : WorldView). c.args.station ≤ length w.net.sites) (sym c.self.view_is) c.requires.high in
+    let is = subst (λ (w : WorldView). HasStation w.net c.args.station) (sym c.self.view_is) c.requires.is_station in
     let many = c.self.invariant.count in
-    let got = got_at procs (c.args.station - 1) p (omega (arith, c.requires.low, high, many))
+    let got = got_at procs (c.args.station - 1) p (omega (arith, is.low, is.high, many))
     c.index_mut.ensures.value in
     stands_for_reader c.self.inside.model.value c.in_ok-model.model.value c.self.inside.lists.clones
     c.in_ok-lists.lists.value.clones

@@ -3,12 +3,12 @@ use Rattle.sim_base.specs.Clones.{ListsView, clone_at}
 use Rattle.sim_base.specs.declared.lists.TheConstants.{MOST_CLONES}
 use Rattle.world_core.specs.Worlds.{WorldView, WorldStands}
 use Rattle.world_core.specs.Forking.{AllForked, LivesNowhere}
-use Rattle.world_core.proofs.Taken.{world_forked, lives, lives_not}
+use Rattle.world_core.proofs.Taken.{world_forked, LivesAtAll-stands, LivesNowhere-stands}
 use Rattle.world_core.proofs.world.World.with_fork.Goals as goal
 
 pub fork_all-requires-clause-old : goal.fork_all-requires-clause-old
 fork_all-requires-clause-old c =
-    lives c.self.inside.model.value c.self.inside.lists.clones c.self.inside.ends c.self.inside.front
+    LivesAtAll-stands c.self.inside.model.value c.self.inside.lists.clones c.self.inside.ends c.self.inside.front
     c.self.inside.procs.items c.self.invariant c.args.old
     (subst (λ (w : WorldView). c.args.old < length w.clones) (sym c.self.view_is) c.requires.there)
 
@@ -16,7 +16,7 @@ pub fork_all-requires-clause-new : goal.fork_all-requires-clause-new
 fork_all-requires-clause-new c =
     subst (λ n. LivesNowhere n c.self.inside.procs.items)
     (sym (c.len-number.ensures.value ∙ ap (λ (l : ListsView). length l.clones) c.lists.ensures.value))
-    (lives_not c.self.inside.model.value c.self.inside.lists.clones c.self.inside.ends c.self.inside.front
+    (LivesNowhere-stands c.self.inside.model.value c.self.inside.lists.clones c.self.inside.ends c.self.inside.front
     c.self.inside.procs.items c.self.invariant)
 
 pub invariant_of-result : goal.invariant_of-result

@@ -4,6 +4,7 @@ use Rattle.sim_base.specs.declared.message.Msg.{Msg}
 use Rattle.sim_base.specs.declared.decision.Planned.{Planned}
 use Rattle.clone_sets.specs.declared.set.CloneSet.{CloneSet}
 use Rattle.clone_sets.specs.Sets.{one}
+use Rattle.net_model.specs.Net.{HasStation}
 use Rattle.stations.specs.Runs.{set_message}
 use Rattle.world_core.specs.Worlds.{WorldView, WorldStands}
 use Rattle.world_core.specs.Windows.{AllDelivered}
@@ -15,8 +16,8 @@ invariant_of-result c =
     let net = c.self.inside.model.value in
     let cs = c.self.inside.lists.clones in
     let there = subst (λ (w : WorldView). c.args.who < length w.clones) (sym c.self.view_is) c.requires.there in
-    let high = subst (λ (w : WorldView). c.args.plan.station ≤ length w.net.sites)
-    (sym c.self.view_is) c.requires.high in
+    let is = subst (λ (w : WorldView). HasStation w.net c.args.plan.station)
+    (sym c.self.view_is) c.requires.is_station in
     let late = subst (λ (w : WorldView). w.front ≤ c.args.plan.at) (sym c.self.view_is) c.requires.not_late in
     let tells : c.set_message-msg.result ≡ set_message (length (clone_at cs c.args.who).plans) c.args.plan =
     c.set_message-msg.ensures.value ∙ ap (λ (l : List Planned). set_message (length l) c.args.plan)
@@ -24,7 +25,7 @@ invariant_of-result c =
     subst (λ cs. WorldStands net cs c.self.inside.ends c.self.inside.front c.deliver_to.new.procs.items)
     (sym c.in_ok-add.ensures.clones)
     (world_added net cs c.args.who c.args.plan there c.self.inside.ends c.self.inside.front c.self.inside.procs.items
-    c.deliver_to.new.procs.items c.requires.low high late c.self.invariant
+    c.deliver_to.new.procs.items is late c.self.invariant
     (subst (λ (m : Msg). AllDelivered ((m, one c.args.who) ∷ []) c.self.inside.procs.items
     c.deliver_to.new.procs.items) tells
     (subst (λ (k : CloneSet). AllDelivered ((c.set_message-msg.result, k) ∷ []) c.self.inside.procs.items

@@ -1,8 +1,0 @@
-use Rattle.decision_desk.proofs.Leasts.{is_helm_turn}
-use Rattle.decision_desk.proofs.legal.LegalBook.go_on.Goals as goal
-
-pub returns : goal.returns
-returns c = record {
-  turn = λ helm cs is count. is_helm_turn c.args.self.now c.raise.new.self c.args.known c.in_ok-turn.turn helm cs
-      is count c.in_ok-turn.ensures.ahead c.in_ok-raise.ensures.ok;
-}

@@ -1,0 +1,159 @@
+use Rattle.std.proofs.Common.{◌+◌, ◌<◌, ◌≤◌, ◌∙◌, ap, arith, subst}
+use Rattle.clone_sets.specs.Sets.{size, union}
+use Rattle.stations.specs.declared.sender.TheConstants.{ALL_COUNTS}
+use Rattle.phys_proc.specs.Ends.{ends_in}
+use Rattle.phys_proc.specs.Own.{StationCopy, may_handle}
+use Rattle.phys_proc.proofs.Finishing.{advance-settled, advance-full, advance-parts, some_fits, others_fit}
+use Rattle.phys_proc.proofs.Finishing.{some_smaller, others_smaller, both_few}
+use Rattle.phys_proc.proofs.ComesFrom.{left_few}
+use Rattle.phys_proc.proofs.advancing.+bring_to_bound.Goals as goal
+
+-- ---- Settled
+
+pub returns-in_ok-put-in-Settled-clause-comes : goal.returns-in_ok-put-in-Settled-clause-comes
+returns-in_ok-put-in-Settled-clause-comes g t c = advance-settled c.args.model.now c.args.station
+    (ends_in c.args.model.now.horizon c.args.ends.now) c.args.bound c.args.copy c.args.stage.now.sent.items
+    c.args.steps.now c.requires.may_advance.fits c.args.stage.now.done c.put.new.self c.args.stage.now.over
+    (rw c.in-Settled.is at c.requires.stop) c.in_ok-put-in-Settled.ensures.more
+
+-- ---- Full
+
+pub returns-in-Full-clause-comes : goal.returns-in-Full-clause-comes
+returns-in-Full-clause-comes g t c = advance-full c.args.model.now c.args.station
+    (ends_in c.args.model.now.horizon c.args.ends.now) c.args.bound c.args.copy c.args.stage.now.sent.items
+    c.args.steps.now c.requires.may_advance.fits c.args.stage.now.done c.args.stage.now.over c.union-stage.result
+    (rw c.in-Full.is at c.requires.stop)
+    (c.union-stage.ensures.value ∙ ap (λ (u : StationCopy). union c.args.stage.now.over u.set) c.copy.view_is)
+
+-- ---- Parts: those that take the message
+
+pub handle_together-requires : goal.handle_together-requires
+handle_together-requires g t c =
+    let fits = some_fits c.args.model.now c.args.station (ends_in c.args.model.now.horizon c.args.ends.now)
+    c.args.bound c.args.copy c.args.stage.now.sent.items c.args.steps.now c.requires.may_advance.fits
+    c.args.stage.now.takers (rw c.in-Parts.is at c.requires.stop) c.in_ok-some-in-Parts.some
+    c.in_ok-some-in-Parts.ensures.first in
+    let both = both_few c.args.model.now c.args.station (ends_in c.args.model.now.horizon c.args.ends.now)
+    c.args.bound c.args.copy c.args.stage.now.sent.items c.args.steps.now c.requires.may_advance.fits
+    c.args.stage.now.takers (rw c.in-Parts.is at c.requires.stop) c.in_ok-some-in-Parts.some
+    c.in_ok-some-in-Parts.others c.in_ok-some-in-Parts.ensures.first c.in_ok-some-in-Parts.ensures.second in
+    let few = c.requires.may_advance.few in
+    record {
+      may_advance = record { fits = fits; early = c.requires.may_advance.early; few = omega (arith, both, few) };
+    }
+
+pub bring_to_bound-requires : goal.bring_to_bound-requires
+bring_to_bound-requires g t c =
+    let net = c.args.model.now in
+    let ends = ends_in net.horizon c.args.ends.now in
+    let a = c.in_ok-some-in-Parts.some in
+    let a1 = c.handle_together.new.copy in
+    let first = c.in_ok-first-in-Parts.ensures in
+    let o = first.onward in
+    let fall : size a1.set < size c.args.copy.set = some_smaller net c.args.station ends c.args.bound c.args.copy
+    c.args.stage.now.sent.items c.args.steps.now c.requires.may_advance.fits c.args.stage.now.takers
+    (rw c.in-Parts.is at c.requires.stop) a a1 c.in_ok-some-in-Parts.ensures.first o.set in
+    let both = both_few net c.args.station ends c.args.bound c.args.copy c.args.stage.now.sent.items c.args.steps.now
+    c.requires.may_advance.fits c.args.stage.now.takers (rw c.in-Parts.is at c.requires.stop) a
+    c.in_ok-some-in-Parts.others c.in_ok-some-in-Parts.ensures.first c.in_ok-some-in-Parts.ensures.second in
+    let left = left_few net c.args.station ends c.args.bound a a1 c.args.stage.now.sent.items
+    c.handle_together.new.stage.sent.items c.args.steps.now c.handle_together.new.steps o in
+    let few0 = c.requires.may_advance.few in
+    let counted = o.counted in
+    let handled = first.handled in
+    let few : c.handle_together.new.stage.handled + may_handle net.limit a1 ≤ ALL_COUNTS =
+    omega (arith, both, left, few0, counted, handled) in
+    λ κs within. (
+      subst (λ n. size a1.set < n) c.decreases fall,
+      (within, (record { fits = o.fits; early = c.requires.may_advance.early; few = few }, first.stop)),
+    )
+
+-- ---- Parts: the others
+
+pub handle_together-requires-in-Parts : goal.handle_together-requires-in-Parts
+handle_together-requires-in-Parts g t c =
+    let net = c.args.model.now in
+    let ends = ends_in net.horizon c.args.ends.now in
+    let fits = others_fit net c.args.station ends c.args.bound c.args.copy c.args.stage.now.sent.items
+    c.args.steps.now c.requires.may_advance.fits c.args.stage.now.takers (rw c.in-Parts.is at c.requires.stop)
+    c.in_ok-some-in-Parts.others c.in_ok-some-in-Parts.ensures.second in
+    let first = c.in_ok-first-in-Parts.ensures in
+    let o = first.onward in
+    let both = both_few net c.args.station ends c.args.bound c.args.copy c.args.stage.now.sent.items c.args.steps.now
+    c.requires.may_advance.fits c.args.stage.now.takers (rw c.in-Parts.is at c.requires.stop)
+    c.in_ok-some-in-Parts.some c.in_ok-some-in-Parts.others c.in_ok-some-in-Parts.ensures.first
+    c.in_ok-some-in-Parts.ensures.second in
+    let left = left_few net c.args.station ends c.args.bound c.in_ok-some-in-Parts.some c.handle_together.new.copy
+    c.args.stage.now.sent.items c.handle_together.new.stage.sent.items c.args.steps.now c.handle_together.new.steps o in
+    let few = c.requires.may_advance.few in
+    let counted = o.counted in
+    let handled = first.handled in
+    let come = c.in_ok-bring_to_bound-in-Parts.ensures.comes in
+    let gained = come.few in
+    let steps = come.steps in
+    let handled1 = c.in_ok-bring_to_bound-in-Parts.ensures.handled in
+    record {
+      may_advance = record {
+        fits = fits;
+        early = c.requires.may_advance.early;
+        few = omega (arith, both, left, few, counted, handled, gained, steps, handled1);
+      };
+    }
+
+pub bring_to_bound-requires-in-Parts : goal.bring_to_bound-requires-in-Parts
+bring_to_bound-requires-in-Parts g t c =
+    let net = c.args.model.now in
+    let ends = ends_in net.horizon c.args.ends.now in
+    let b = c.in_ok-some-in-Parts.others in
+    let b1 = c.handle_together-in-Parts.new.copy in
+    let first = c.in_ok-first-in-Parts.ensures in
+    let second = c.in_ok-second-in-Parts.ensures in
+    let o = second.onward in
+    let fall : size b1.set < size c.args.copy.set = others_smaller net c.args.station ends c.args.bound c.args.copy
+    c.args.stage.now.sent.items c.args.steps.now c.requires.may_advance.fits c.args.stage.now.takers
+    (rw c.in-Parts.is at c.requires.stop) b b1 c.in_ok-some-in-Parts.ensures.second o.set in
+    let both = both_few net c.args.station ends c.args.bound c.args.copy c.args.stage.now.sent.items c.args.steps.now
+    c.requires.may_advance.fits c.args.stage.now.takers (rw c.in-Parts.is at c.requires.stop)
+    c.in_ok-some-in-Parts.some b c.in_ok-some-in-Parts.ensures.first c.in_ok-some-in-Parts.ensures.second in
+    let left = left_few net c.args.station ends c.args.bound c.in_ok-some-in-Parts.some c.handle_together.new.copy
+    c.args.stage.now.sent.items c.handle_together.new.stage.sent.items c.args.steps.now
+    c.handle_together.new.steps first.onward in
+    let left1 = left_few net c.args.station ends c.args.bound b b1 c.bring_to_bound.new.stage.sent.items
+    c.handle_together-in-Parts.new.stage.sent.items c.bring_to_bound.new.steps c.handle_together-in-Parts.new.steps o in
+    let few0 = c.requires.may_advance.few in
+    let counted = first.onward.counted in
+    let handled = first.handled in
+    let come = c.in_ok-bring_to_bound-in-Parts.ensures.comes in
+    let gained = come.few in
+    let steps = come.steps in
+    let handled1 = c.in_ok-bring_to_bound-in-Parts.ensures.handled in
+    let counted2 = o.counted in
+    let handled2 = second.handled in
+    let few : c.handle_together-in-Parts.new.stage.handled + may_handle net.limit b1 ≤ ALL_COUNTS =
+    omega (arith, both, left, left1, few0, counted, handled, gained, steps, handled1, counted2, handled2) in
+    λ κs within. (
+      subst (λ n. size b1.set < n) c.decreases fall,
+      (within, (record { fits = o.fits; early = c.requires.may_advance.early; few = few }, second.stop)),
+    )
+
+-- ---- Parts: both
+
+pub returns-in_ok-bring_to_bound-in-Parts-2-clause-comes : goal.returns-in_ok-bring_to_bound-in-Parts-2-clause-comes
+returns-in_ok-bring_to_bound-in-Parts-2-clause-comes g t c =
+    let first = c.in_ok-first-in-Parts.ensures in
+    let second = c.in_ok-second-in-Parts.ensures in
+    let last = c.bring_to_bound-in-Parts.new in
+    advance-parts c.args.model.now c.args.station
+    (ends_in c.args.model.now.horizon c.args.ends.now) c.args.bound c.args.copy c.args.stage.now.sent.items
+    c.args.steps.now c.requires.may_advance.fits c.args.stage.now.takers (rw c.in-Parts.is at c.requires.stop)
+    c.in_ok-some-in-Parts.some c.handle_together.new.copy c.in_ok-some-in-Parts.others
+    c.handle_together-in-Parts.new.copy c.args.stage.now.done c.handle_together.new.stage.done
+    c.bring_to_bound.new.stage.done c.handle_together-in-Parts.new.stage.done last.stage.done
+    c.handle_together.new.stage.sent.items c.bring_to_bound.new.stage.sent.items
+    c.handle_together-in-Parts.new.stage.sent.items last.stage.sent.items c.args.stage.now.over
+    c.handle_together.new.stage.over c.bring_to_bound.new.stage.over c.handle_together-in-Parts.new.stage.over
+    last.stage.over c.handle_together.new.steps c.bring_to_bound.new.steps c.handle_together-in-Parts.new.steps
+    last.steps c.in_ok-some-in-Parts.ensures.first
+    c.in_ok-some-in-Parts.ensures.second first.onward first.done first.over
+    c.in_ok-bring_to_bound-in-Parts.ensures.comes second.onward second.done second.over
+    c.in_ok-bring_to_bound-in-Parts-2.ensures.comes
