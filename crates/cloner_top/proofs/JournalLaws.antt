@@ -1,11 +1,11 @@
 -- The journal of a live study, as a script, writes what the study wrote.
-use Rattle.std.proofs.Common.{◌≡◌, ℕ, ◌+◌, ◌<◌, ◌≤◌, Bool, true, false, nat_eq, if◌then◌else◌}
+use Rattle.std.proofs.Common.{◌≡◌, ℕ, ◌+◌, ◌<◌, Bool, true, false, nat_eq, if◌then◌else◌}
 use Rattle.std.proofs.Common.{List, [], ◌∷◌, ◌++◌, length, None, sym, ap, subst, arith}
 use Rattle.std.specs.Prelude.{option_map}
 use Rattle.std.specs.List.{AllByRecursion}
 use Rattle.std.proofs.lemmas.List.Elements.{recursion_from_All}
 use Rattle.sim_base.specs.Clones.{Clone}
-use Rattle.decision_script.specs.Stating.{IsAct, IsDecision, IsItem}
+use Rattle.decision_script.specs.Stating.{IsAct, IsAnalyst, IsDecision, IsItem}
 use Rattle.decision_script.specs.declared.item.Act.{Act}
 use Rattle.decision_script.specs.declared.item.Act.TheVariants.{Decide, Look}
 use Rattle.decision_script.specs.declared.item.Item.{Item}
@@ -58,18 +58,18 @@ others_are false n c ps all = all
 
 -- where the calls of each caller are such, all are
 calls_are : (many n : ℕ) (calls : List Call)
-    → AllByRecursion (λ (c : Call). (1 ≤ c.caller) × (c.caller ≤ many)) calls
-    → ((a : ℕ) → 1 ≤ a → a ≤ many → AllByRecursion IsDecision (decisions_in (calls_from a n calls)))
+    → AllByRecursion (λ (c : Call). IsAnalyst many c.caller) calls
+    → ((a : ℕ) → IsAnalyst many a → AllByRecursion IsDecision (decisions_in (calls_from a n calls)))
     → AllByRecursion (IsCallOf many) calls
 calls_are many n [] callers each = tt
 calls_are many n (c ∷ calls) callers each = (
   record {
     analyst = callers.0;
     decision = first_is (nat_eq c.caller c.caller) n c (calls_from c.caller (n + 1) calls) (grind arith)
-        (each c.caller callers.0.0 callers.0.1);
+        (each c.caller callers.0);
   },
-  calls_are many (n + 1) calls callers.1 (λ a low high.
-      others_are (nat_eq c.caller a) n c (calls_from a (n + 1) calls) (each a low high)),
+  calls_are many (n + 1) calls callers.1 (λ a is.
+      others_are (nat_eq c.caller a) n c (calls_from a (n + 1) calls) (each a is)),
 )
 
 -- ---- the law
@@ -79,11 +79,11 @@ pub journal_runs : JournalRunsTheSame
 journal_runs net s book model text valid stated journal short =
     let many = length s.analysts in
     let items = recursion_from_All (IsItem many) s.items stated.valid in
-    let callers = recursion_from_All (λ (c : Call). (1 ≤ c.caller) × (c.caller ≤ many)) (calls_of book.events)
+    let callers = recursion_from_All (λ (c : Call). IsAnalyst many c.caller) (calls_of book.events)
     (callers_within many (calls_of book.events) journal.others) in
     let calls : AllByRecursion (IsCallOf many) (calls_of book.events) =
-    calls_are many 0 (calls_of book.events) callers (λ a low high.
-    subst (AllByRecursion IsDecision) (sym (journal.asked_all a low high))
+    calls_are many 0 (calls_of book.events) callers (λ a is.
+    subst (AllByRecursion IsDecision) (sym (journal.asked_all a is))
     (acts_decide (acts_by a s.items) (acts_are many a s.items items))) in
     let some : 0 < net.horizon = let h = valid.horizon in omega (arith, h) in
     let r : IsScriptOf net s.analysts book.events =

@@ -14,7 +14,6 @@ use Rattle.world_core.specs.Worlds.{WorldView, total_handled}
 use Rattle.study_run.specs.declared.fault.StudyFault.{StudyFault}
 use Rattle.study_run.specs.declared.fault.StudyFault.TheVariants.{NoMemory, LimitMet}
 use Rattle.study_run.specs.Limits.{AreWithin}
-use Rattle.study_run.proofs.Meeting.{none_within}
 use Rattle.rolling_text.specs.WorldTraces.{AreShort}
 use Rattle.journal_text.specs.JournalText.{journal_text}
 use Rattle.live_study.specs.Engines.{StopsEngine}
@@ -41,7 +40,7 @@ module _ (net : Net) (s : ScriptView) (old_steps new_steps : ℕ) (live : LiveRu
   module _ (w : WorldView) (is : live.run ≡ Ok w) where
     -- the run is finished
     ends : IsAtHorizon net live.book w
-    ends = IfOk-at_ok (IsAtHorizon net live.book) is ran.finished
+    ends = IfOk-at_ok (IsAtHorizon net live.book) is ran.live_run.finished
 
     -- its clones are those that the journal leaves
     clones_are : w.clones ≡ (after net live.book.events).clones
@@ -60,11 +59,11 @@ module _ (net : Net) (s : ScriptView) (old_steps new_steps : ℕ) (live : LiveRu
         → ArePlanned live.book.net (clones_of_book live.book)
         → IsLiveWorld net s old_steps new_steps w t
     live_world t same few none planned =
-        let within = none_within net w.clones
-        (subst (λ f. NoneBeyond net w.clones f) front_is
-        (subst (λ (n : Net). NoneBeyond n w.clones w.front) net_is none)) in
+        let within : AreWithin net w.clones =
+        subst (λ f. NoneBeyond net w.clones f) front_is
+        (subst (λ (n : Net). NoneBeyond n w.clones w.front) net_is none) in
         let all : ArePlanned net (after net live.book.events).clones =
-        subst (λ (n : Net). ArePlanned n (after n live.book.events).clones) ran.journal.net_is planned in
+        subst (λ (n : Net). ArePlanned n (after n live.book.events).clones) ran.live_run.journal.net_is planned in
         record {
           may_put = record {
             may_report = record { net = net_is; ended = front_is; few = few; within = within };
@@ -75,8 +74,8 @@ module _ (net : Net) (s : ScriptView) (old_steps new_steps : ℕ) (live : LiveRu
               (subst (λ cs. MayLive net s (whole_output
               (journal_text s.analysts live.book.events (all_looks live.looks.items) ∷ run_texts net cs)
               (total_handled net cs net.horizon))) (sym clones_are)
-              (finished live.book (all_looks live.looks.items) ran.journal ends.last (IfOk-at_ok
-              (λ (v : WorldView). AreLooks net s live.book.events (all_looks live.looks.items)) is ran.looks)
+              (finished live.book (all_looks live.looks.items) ran.live_run.journal ends.last (IfOk-at_ok
+              (λ (v : WorldView). AreLooks net s live.book.events (all_looks live.looks.items)) is ran.live_run.looks)
               (subst (λ cs. AreWithin net cs) clones_are within)));
           steps = IfOk-at_ok
               (λ (v : WorldView). new_steps ≡ old_steps + total_handled net v.clones net.horizon) is ran.steps;
@@ -96,7 +95,7 @@ module _ (net : Net) (s : ScriptView) (old_steps new_steps : ℕ) (live : LiveRu
       → ((e : StudyFault) × ((live.run ≡ Err e) × HaltsFor told live.book.events text e h))
       → StopsLive net s old_steps new_steps h
   live_stops told same h why =
-      by_fault why.0 h (IfErr-at_err (StopsEngine net live.book.events) why.1.0 ran.stopped)
+      by_fault why.0 h (IfErr-at_err (StopsEngine net live.book.events) why.1.0 ran.live_run.stopped)
       (IfErr-at_err (λ (e : StudyFault). new_steps ≡ old_steps) why.1.0 ran.idle)
       (subst (λ (n : Net). HaltsFor n live.book.events text why.0 h) same why.1.1)
     where
@@ -110,7 +109,8 @@ module _ (net : Net) (s : ScriptView) (old_steps new_steps : ℕ) (live : LiveRu
           (subst (λ x. StoppedFor (MayLive net s) old_steps new_steps
           (journal_text s.analysts live.book.events (all_looks live.looks.items) ∷ []) x) (sym is.1)
           (at_limit (most_handled net (length (after net live.book.events).clones))
-          (over live.book (all_looks live.looks.items) station who ran.journal ran.made stopped) (omega (arith, idle))))
+          (over live.book (all_looks live.looks.items) station who ran.live_run.journal ran.live_run.made stopped)
+          (omega (arith, idle))))
 
       by_fault : (e : StudyFault) (h : Halt) → StopsEngine net live.book.events e → new_steps ≡ old_steps
           → HaltsFor net live.book.events text e h → StopsLive net s old_steps new_steps h

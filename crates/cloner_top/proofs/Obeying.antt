@@ -1,6 +1,6 @@
 -- From the plan of a study and its run to what the program answers.
-use Rattle.std.proofs.Common.{◌≡◌, ℕ, refl, sym, ap, subst, ◌∙◌, arith}
-use Rattle.std.proofs.Common.{[], ◌∷◌, Option, Some, None, Result, Ok, Err, IfErr, OnOk}
+use Rattle.std.proofs.Common.{◌≡◌, ℕ, sym, ap, subst, ◌∙◌, arith}
+use Rattle.std.proofs.Common.{[], ◌∷◌, Option, None, Result, Ok, Err, IfErr, OnOk}
 use Rattle.std.proofs.lemmas.Result.{IfErr-weaker, on_ok_weaker}
 use Rattle.sim_outer.specs.Counts.{AreCounted}
 use Rattle.sim_outer.specs.Files.{Files}

@@ -134,10 +134,10 @@ module _ (net told : Net) (cs those : List Clone) (name : List ℕ) (k old_steps
 -- ---- as it is asked for
 
 -- an error that says why a simulation was not written says so for an equal mode and an equal source
-pub by_mode : (mode its : Mode) (source that : SourceView) (net : Net) (cs : List Clone) (old_steps new_steps : ℕ)
-    (old new : SinkView) {T : Type 0} (r : Result T Refusal) → mode ≡ its → source ≡ that
+pub IsFailed-by_mode : (mode its : Mode) (source that : SourceView) (net : Net) (cs : List Clone)
+    (old_steps new_steps : ℕ) (old new : SinkView) {T : Type 0} (r : Result T Refusal) → mode ≡ its → source ≡ that
     → IfErr r (λ e. IsFailed (MaySimulate its that net cs) old_steps new_steps old new e)
     → IfErr r (λ e. IsFailed (MaySimulate mode source net cs) old_steps new_steps old new e)
-by_mode mode its source that net cs old_steps new_steps old new r same_mode same_source h =
+IsFailed-by_mode mode its source that net cs old_steps new_steps old new r same_mode same_source h =
     subst (λ m. IfErr r (λ e. IsFailed (MaySimulate m source net cs) old_steps new_steps old new e)) (sym same_mode)
     (subst (λ s. IfErr r (λ e. IsFailed (MaySimulate its s net cs) old_steps new_steps old new e)) (sym same_source) h)

@@ -8,10 +8,7 @@ use Rattle.world_core.specs.Worlds.{WorldView, total_handled}
 use Rattle.study_run.specs.declared.fault.StudyFault.{StudyFault}
 use Rattle.study_run.specs.declared.fault.StudyFault.TheVariants.{NoMemory, LimitMet}
 use Rattle.journal_text.specs.JournalText.{journal_text}
-use Rattle.live_study.specs.Engines.{StopsEngine}
-use Rattle.live_study.specs.Lives.{IsAtHorizon, all_looks}
-use Rattle.live_study.specs.Looks.{AreLooks, HasMadeLooks}
-use Rattle.live_study.specs.Scripts.{IsJournalOf}
+use Rattle.live_study.specs.Lives.{IsLiveRun, all_looks}
 use Rattle.live_study.specs.declared.run.LiveRun.{LiveRun}
 use Rattle.cloner_top.specs.declared.halt.Halt.{Halt}
 use Rattle.cloner_top.specs.declared.halt.Halt.TheVariants.{Refused, Overrun}
@@ -23,11 +20,7 @@ use Rattle.cloner_top.specs.RunTexts.{MayPutRun}
 -- a live study of a script was run, and this is the text of its journal
 pub record IsJournaledRun (net : Net) (s : ScriptView) (old_steps new_steps : ℕ) (live : LiveRun) (text : List ℕ) :
     Type 0 where
-  pub journal : IsJournalOf net s live.book
-  pub made : HasMadeLooks s (all_looks live.looks.items)
-  pub looks : IfOk live.run (λ w. AreLooks net s live.book.events (all_looks live.looks.items))
-  pub finished : IfOk live.run (λ w. IsAtHorizon net live.book w)
-  pub stopped : IfErr live.run (λ e. StopsEngine net live.book.events e)
+  pub live_run : IsLiveRun net s live
   pub steps : IfOk live.run (λ w. new_steps ≡ old_steps + total_handled net w.clones net.horizon)
   pub idle : IfErr live.run (λ e. new_steps ≡ old_steps)
   pub text_is : text ≡ journal_text s.analysts live.book.events (all_looks live.looks.items)

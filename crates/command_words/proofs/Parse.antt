@@ -20,14 +20,14 @@ use Rattle.command_words.specs.Values.{GivenView, positionals_of}
 -- ---- is_simple, is_simple_and_free
 
 -- clap says of the command what it finds in all words
-pub simple : is_simple cloner_app ≡ true
+pub is_simple-cloner_app : is_simple cloner_app ≡ true
 unfolding clap_on_literals
-simple = refl
+is_simple-cloner_app = refl
 
 -- and when it refuses them
-pub simple_and_free : is_simple_and_free cloner_app ≡ true
+pub is_simple_and_free-cloner_app : is_simple_and_free cloner_app ≡ true
 unfolding clap_on_literals
-simple_and_free = refl
+is_simple_and_free-cloner_app = refl
 
 -- ---- HasKind
 

@@ -1,8 +1,7 @@
 //! What every crew does: it runs the tasks of one call, at most [`MOST_TASKS`], each once, and gives each answer at its
 //! item's place. One contract, that of `all`, holds for all kinds of crews.
-ghost use Rattle.std.specs.Prelude.{◌≡◌, ◌+◌, ◌≤◌, length, sum_by, IfOk};
-ghost use Rattle.crew_pool.specs.Tasks.{EachReady, AnswersTo, EachAnswers};
-ghost use Rattle.crew_pool.specs.declared.crew.TheConstants.{MOST_TASKS};
+ghost use Rattle.std.specs.Prelude.{IfOk};
+ghost use Rattle.crew_pool.specs.Tasks.{MayRunAll, HaveRunAll};
 
 use crate::forked::run_forked;
 use crate::gate::Gate;
@@ -48,13 +47,10 @@ pub trait Crew {
         gate: &G,
         steps: &mut Steps<L>,
     ) -> Result<Vec<W::Out>, NoMemory>
-        requires few { length items.items ≤ MOST_TASKS }
-        requires ready { EachReady (W.ready work.now) items.items }
-        // what it gives: an answer for each item, at the item's place
-        ensures count { IfOk result (λ outs. length outs.items ≡ length items.items) }
-        ensures answers { IfOk result (λ outs. EachAnswers (AnswersTo (W.answers work.now) items.items) outs.items) }
-        // what is counted: the steps that the answers took
-        ensures cost { IfOk result (λ outs. steps.new ≡ steps.old + sum_by W.cost outs.items) }
+        requires may_run { MayRunAll (W.ready work.now) items.items }
+        // an answer for each item, at the item's place, and the steps that the answers took are counted
+        ensures have_run { IfOk result (λ outs. HaveRunAll (W.answers work.now) W.cost items.items steps.old steps.new
+            outs.items) }
     {
         if work.is_small() {
             return run_serial(rt, alloc, work, items, gate, steps);

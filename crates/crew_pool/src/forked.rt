@@ -1,6 +1,6 @@
 //! The crew whose workers each run neighbouring tasks (fork-join).
-ghost use Rattle.std.specs.Prelude.{◌≡◌, ◌+◌, ◌<◌, ◌≤◌, Some, map, length, sum_by, IfOk, IfSome};
-ghost use Rattle.crew_pool.specs.Tasks.{EachReady, AnswersTo, EachAnswers};
+ghost use Rattle.std.specs.Prelude.{◌≡◌, ◌<◌, ◌≤◌, Some, map, length, IfOk, IfSome};
+ghost use Rattle.crew_pool.specs.Tasks.{MayRunAll, HaveRunAll};
 ghost use Rattle.crew_pool.specs.Slots.{slot_with, answer_in, EachSlotReady, SlotAnswers, EachSlotAnswers};
 ghost use Rattle.crew_pool.specs.declared.crew.TheConstants.{MOST_TASKS};
 
@@ -122,7 +122,6 @@ fn run_slots<W: Work, G: Gate, R: Threads + Wait + Sync>(
 }
 
 /// Runs the tasks, each worker a run of neighbouring ones, each task on a counter of its own.
-#[tactic(auto, using(crate::proofs::Slots::slots_count))]
 pub(crate) fn run_forked<W: Work, G: Gate, L: Ledger, R: Threads + Wait + Sync>(
     rt: &R,
     alloc: Global,
@@ -132,11 +131,9 @@ pub(crate) fn run_forked<W: Work, G: Gate, L: Ledger, R: Threads + Wait + Sync>(
     workers: Workers,
     steps: &mut Steps<L>,
 ) -> Result<Vec<W::Out>, NoMemory>
-    requires few { length items.items ≤ MOST_TASKS }
-    requires ready { EachReady (W.ready work.now) items.items }
-    ensures count { IfOk result (λ outs. length outs.items ≡ length items.items) }
-    ensures answers { IfOk result (λ outs. EachAnswers (AnswersTo (W.answers work.now) items.items) outs.items) }
-    ensures cost { IfOk result (λ outs. steps.new ≡ steps.old + sum_by W.cost outs.items) }
+    requires may_run { MayRunAll (W.ready work.now) items.items }
+    ensures have_run { IfOk result (λ outs. HaveRunAll (W.answers work.now) W.cost items.items steps.old steps.new
+        outs.items) }
 {
     let mut slots: Vec<Slot<W::In, W::Out>> = fill_slots(alloc, items)?;
     run_slots(rt, alloc, work, gate, workers, slots.as_mut_slice());

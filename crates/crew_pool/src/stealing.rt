@@ -1,9 +1,9 @@
 //! The crew whose workers take tasks one by one from a deque (work stealing).
-ghost use Rattle.std.specs.Prelude.{◌≡◌, ◌+◌, ◌-◌, ◌<◌, ◌≤◌, [], ◌∷◌, ◌++◌, sum_by, IfOk, OnOk, All, length};
+ghost use Rattle.std.specs.Prelude.{◌≡◌, ◌+◌, ◌-◌, ◌<◌, ◌≤◌, [], ◌∷◌, ◌++◌, IfOk, OnOk, All, length};
 ghost use Rattle.crossbeam_deque.specs.Handles.{worker_deque, stealer_deque, worker_view, worker_flavor};
 ghost use Rattle.crew_pool.specs.Deque.{SameDeque, seat_view, view_after, numbers, EachPair};
 ghost use Rattle.crew_pool.specs.Deque.{IsItemAt, IsOwner, HasTaken, IsComplete, IsStart, IsEnd};
-ghost use Rattle.crew_pool.specs.Tasks.{EachReady, AnswersTo, EachAnswers};
+ghost use Rattle.crew_pool.specs.Tasks.{EachReady, AnswersTo, EachAnswers, MayRunAll, HaveRunAll};
 ghost use Rattle.crew_pool.specs.declared.crew.TheConstants.{MOST_TASKS};
 ghost use Rattle.crew_pool.specs.declared.task_deque.TheConstants.{ALL_PARTS};
 ghost use Rattle.crew_pool.specs.declared.workers.TheConstants.{MOST_WORKERS};
@@ -272,9 +272,8 @@ fn run_batch<W: Work, B: Batch<W::In>, G: Gate, L: Ledger, R: Threads + Wait + S
     requires batch { B.items ≡ items.items }
     requires few { length items.items ≤ MOST_TASKS }
     requires ready { EachReady (W.ready work.now) B.items }
-    ensures count { IfOk result (λ outs. length outs.items ≡ length B.items) }
-    ensures answers { IfOk result (λ outs. EachAnswers (AnswersTo (W.answers work.now) B.items) outs.items) }
-    ensures cost { IfOk result (λ outs. steps.new ≡ steps.old + sum_by W.cost outs.items) }
+    ensures have_run { IfOk result (λ outs. HaveRunAll (W.answers work.now) W.cost B.items steps.old steps.new
+        outs.items) }
 {
     let tasks = items.len() as u32;
     let Ok(mut owner) = Owner::<W::In, B>::fifo_as(alloc, MOST_TASKS) else {
@@ -305,11 +304,9 @@ pub(crate) fn run_stealing<W: Work, G: Gate, L: Ledger, R: Threads + Wait + Sync
     workers: Workers,
     steps: &mut Steps<L>,
 ) -> Result<Vec<W::Out>, NoMemory>
-    requires few { length items.items ≤ MOST_TASKS }
-    requires ready { EachReady (W.ready work.now) items.items }
-    ensures count { IfOk result (λ outs. length outs.items ≡ length items.items) }
-    ensures answers { IfOk result (λ outs. EachAnswers (AnswersTo (W.answers work.now) items.items) outs.items) }
-    ensures cost { IfOk result (λ outs. steps.new ≡ steps.old + sum_by W.cost outs.items) }
+    requires may_run { MayRunAll (W.ready work.now) items.items }
+    ensures have_run { IfOk result (λ outs. HaveRunAll (W.answers work.now) W.cost items.items steps.old steps.new
+        outs.items) }
 {
     run_batch::<W, Brand, G, L, R>(rt, alloc, work, items, gate, workers, steps)
 }

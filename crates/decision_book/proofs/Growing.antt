@@ -5,7 +5,7 @@ use Rattle.std.proofs.lemmas.List.{drop_all, take_all, take-append-le, drop-appe
 use Rattle.std.proofs.lemmas.List.{length_push}
 use Rattle.decision_book.specs.declared.call.Call.{Call}
 use Rattle.decision_book.specs.Journal.{Event, NewFront, NewCall, calls_of}
-use Rattle.decision_book.specs.Journal.{fronts_of, Situation, after_event, clones_after_reply}
+use Rattle.decision_book.specs.Journal.{fronts_of, front_from, Situation, after_event, clones_after_reply}
 use Rattle.decision_book.specs.Right.{EachAfter}
 use Rattle.decision_book.specs.Books.{journal_from, AreInOrder}
 
@@ -124,12 +124,12 @@ fronts_of-journal_from n (c ∷ cs) fronts =
 
 -- ---- after_event
 
--- the situation after a journal, by its calls and fronts
+-- the situation after a journal, by its calls and its last front
 pub situation_by_parts : (s : Situation) (es : List Event)
     → fold after_event s es ≡ record {
       net = s.net;
       clones = (fold after_event s es).clones;
-      front = fold (λ last n. n) s.front (fronts_of es);
+      front = front_from s.front es;
       calls = s.calls + length (calls_of es);
     }
 situation_by_parts s [] = let none : s.calls ≡ s.calls + 0 = omega arith in ap (λ n. record s { calls = n }) none
@@ -143,6 +143,6 @@ situation_by_parts s (NewCall c ∷ es) =
     situation_by_parts t es ∙ ap (λ n. record {
       net = s.net;
       clones = (fold after_event t es).clones;
-      front = fold (λ last n. n) s.front (fronts_of es);
+      front = front_from s.front es;
       calls = n;
     }) one

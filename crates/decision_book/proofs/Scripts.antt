@@ -7,13 +7,13 @@ use Rattle.sim_base.specs.declared.decision.Decision.{Decision}
 use Rattle.net_model.specs.Net.{Net}
 use Rattle.decision_book.specs.declared.call.Reply.{Reply}
 use Rattle.decision_book.specs.declared.call.Reply.TheVariants.{Accepted, Full}
-use Rattle.decision_book.specs.Journal.{Event, NewCall, calls_of, fronts_of, Situation, outset}
+use Rattle.decision_book.specs.Journal.{Event, NewCall, calls_of, fronts_of, front_of, Situation, outset}
 use Rattle.decision_book.specs.Journal.{after_event, after, clones_after_reply, clones_after, with_reply}
 use Rattle.decision_book.specs.Replies.{reply}
 use Rattle.decision_book.specs.Right.{journal_with, MayFollow, IsRight}
 use Rattle.decision_book.specs.Scripts.{Question, calls_after, after_decision, after_all}
 use Rattle.decision_book.specs.Scripts.{refusal_or, first_refusal_from, first_refusal}
-use Rattle.decision_book.specs.Laws.{last_of, SituationOfJournal}
+use Rattle.decision_book.specs.Laws.{SituationOfJournal}
 use Rattle.decision_book.specs.Laws.{AskingIsAfterDecision, SituationOfScript, ScriptIsRight}
 use Rattle.decision_book.specs.Laws.{AcceptedAdds, RefusedFirst, AcceptedLeavesNoRefusal, RefusedIsFirst}
 use Rattle.decision_book.proofs.Growing.{each_push, situation_by_parts}
@@ -40,7 +40,7 @@ asking_is_after_decision net es caller d = after-with_reply net es caller d (rep
 pub situation_of_journal : (net : Net) → SituationOfJournal net
 situation_of_journal net es = let none : 0 + length (calls_of es) ≡ length (calls_of es) = omega arith in
     situation_by_parts (outset net) es ∙ ap
-    (λ n. record { net = net; clones = (after net es).clones; front = last_of (fronts_of es); calls = n }) none
+    (λ n. record { net = net; clones = (after net es).clones; front = front_of es; calls = n }) none
 
 -- ---- journal_of_script
 

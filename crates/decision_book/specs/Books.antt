@@ -1,7 +1,7 @@
 -- What contracts see of a book, and what a book keeps.
 use Rattle.std.specs.Prelude.{◌≡◌, ◌≢◌, ℕ, ◌-◌, ◌≤◌, Option, MatchOption, List, [], ◌∷◌, ◌++◌, length, map, take, drop}
 use Rattle.sim_base.specs.Reserved.{ReservedView}
-use Rattle.sim_base.specs.Clones.{ListsView}
+use Rattle.sim_base.specs.Clones.{Clone, ListsView}
 use Rattle.sim_base.specs.declared.lists.TheConstants.{MOST_CLONES, MOST_DECISIONS}
 use Rattle.net_model.specs.declared.limits.TheConstants.{MOST_HORIZON}
 use Rattle.net_model.specs.Net.{Net}
@@ -10,7 +10,7 @@ use Rattle.decision_book.specs.declared.call.TheConstants.{MOST_CALLS}
 use Rattle.sim_base.specs.declared.decision.Decision.{Decision}
 use Rattle.decision_book.specs.declared.call.Reply.{Reply}
 use Rattle.decision_book.specs.declared.call.Reply.TheVariants.{Full}
-use Rattle.decision_book.specs.Journal.{Event, NewFront, NewCall, after, call_of}
+use Rattle.decision_book.specs.Journal.{Event, NewFront, NewCall, after, call_of, if_accepted}
 use Rattle.decision_book.specs.Right.{IsRight}
 use Rattle.decision_book.specs.Plans.{ArePlanned}
 
@@ -40,6 +40,13 @@ pub record AreBookLists (net : Net) (lists : ListsView) : Type 0 where
   pub planned : ArePlanned net lists.clones
   pub reserved_clones : lists.reserved_clones ≡ MOST_CLONES
   pub reserved_plans : lists.reserved_plans ≡ MOST_DECISIONS
+
+-- a decision on such lists had the reply of this row of the table; they have the new clones where it was accepted, are
+-- else as they were, and are planned
+pub record HasReply (net : Net) (row : Reply) (new : List Clone) (reply : Reply) (old lists : ListsView) : Type 0 where
+  pub reply_is : reply ≡ row
+  pub lists_are : lists ≡ record old { clones = if_accepted reply new old.clones }
+  pub planned : ArePlanned net lists.clones
 
 -- lists, front and number of calls are those of the journal, which is right, and memory is reserved for all calls,
 -- clones and decisions

@@ -27,6 +27,16 @@ fronts_of [] = []
 fronts_of (NewFront f ∷ es) = f ∷ fronts_of es
 fronts_of (NewCall c ∷ es) = fronts_of es
 
+-- the last front of a journal, or this one where it has none
+abbrev pub front_from : ℕ → List Event → ℕ
+front_from f [] = f
+front_from f (NewFront g ∷ es) = front_from g es
+front_from f (NewCall c ∷ es) = front_from f es
+
+-- the last front of a journal, or 0 where it has none
+abbrev pub front_of : List Event → ℕ
+front_of events = front_from 0 events
+
 -- what a reply depends on: the network, the clones with their lists, the front, and how many calls there were
 pub record Situation : Type 0 where
   pub net : Net

@@ -1,5 +1,5 @@
 -- Laws of decisions in words: `src/laws.rt` shows that they hold.
-use Rattle.std.specs.Prelude.{◌≡◌, ◌≢◌, Some, ℕ, ◌<◌, fold, List, [], ◌∷◌, ◌++◌, length, map, Option, None}
+use Rattle.std.specs.Prelude.{◌≡◌, ◌≢◌, Some, ℕ, ◌<◌, List, [], ◌∷◌, ◌++◌, length, map, Option, None}
 use Rattle.std.specs.List.{find, AllByRecursion}
 use Rattle.std.specs.Option.{option_or}
 use Rattle.std.specs.Str.{bytes_eq}
@@ -10,16 +10,12 @@ use Rattle.decision_book.specs.declared.call.Call.{Call}
 use Rattle.decision_book.specs.declared.call.Reply.TheVariants.{Accepted}
 use Rattle.decision_script.specs.Alone.{alone, alone_of, decisions}
 use Rattle.decision_script.specs.Stating.{ScriptView}
-use Rattle.decision_book.specs.Journal.{Event, NewCall, outset, clones_after, after, calls_of, fronts_of}
+use Rattle.decision_book.specs.Journal.{Event, NewCall, outset, clones_after, after, calls_of, front_of}
 use Rattle.decision_book.specs.Plans.{ArePlanned}
 use Rattle.decision_book.specs.Replies.{reply}
 use Rattle.decision_book.specs.Right.{journal_with, IsRight}
 use Rattle.decision_book.specs.Scripts.{Question, journal_of_script, script_of, after_decision}
 use Rattle.decision_book.specs.Scripts.{after_all, lists_of, first_refusal, first_refusal_from}
-
--- the last of these numbers, or 0
-abbrev pub last_of : List ℕ → ℕ
-last_of ns = fold (λ last n. n) 0 ns
 
 -- the front after a journal is its last one, or 0, and the number of calls is how many it has
 abbrev pub SituationOfJournal : Net → Type 0
@@ -27,7 +23,7 @@ SituationOfJournal net = (events : List Event)
     → after net events ≡ record {
       net = net;
       clones = (after net events).clones;
-      front = last_of (fronts_of events);
+      front = front_of events;
       calls = length (calls_of events);
     }
 

@@ -5,8 +5,8 @@ ghost use Rattle.decision_book.specs.Numbers.{reply_number};
 
 use sim_base::Decision;
 
-/// How many calls a journal holds.
-pub const MOST_CALLS: usize = 4_096;
+/// How many calls a journal holds: as many as a script may have items, so a script alone is never answered `Full`.
+pub const MOST_CALLS: usize = decision_script::MOST_ITEMS;
 
 /// The reply to a decision: `Accepted`, or the first refusal whose condition holds, in this order.
 #[derive(Clone, Copy, Debug, PartialEq, Eq)]

@@ -1,8 +1,8 @@
 //! The reply to a decision, and what the decision does to the lists.
 ghost use Rattle.std.specs.Prelude.{◌≡◌, ◌<◌, length};
 ghost use Rattle.sim_base.specs.Clones.{clone_at, clones_with_fork, clones_with_plan, clones_with_end};
-ghost use Rattle.decision_book.specs.Books.{AreBookLists};
-ghost use Rattle.decision_book.specs.Journal.{clones_after_reply, if_accepted, plan_of_set};
+ghost use Rattle.decision_book.specs.Books.{AreBookLists, HasReply};
+ghost use Rattle.decision_book.specs.Journal.{clones_after, plan_of_set};
 ghost use Rattle.decision_book.specs.Plans.{ArePlanned};
 ghost use Rattle.decision_book.specs.Replies.{first_row, fork_rows, set_rows, time_rows, reply as reply_of};
 
@@ -15,12 +15,8 @@ use stations::change::{ChangeFault, accepts};
 fn decide_fork(model: &Model, lists: &mut Lists, clone: u32, new: Name) -> Reply
     requires there { clone < length lists.old.clones }
     requires lists { AreBookLists model.now lists.old }
-    ensures reply { result ≡ first_row (fork_rows lists.old.clones new) }
-    // the lists, which stay as they are where it is refused
-    ensures lists { lists.new ≡ record lists.old {
-      clones = if_accepted result (clones_with_fork lists.old.clones new clone) lists.old.clones;
-    } }
-    ensures planned { ArePlanned model.now lists.new.clones }
+    ensures reply { HasReply model.now (first_row (fork_rows lists.old.clones new))
+        (clones_with_fork lists.old.clones new clone) result lists.old lists.new }
 {
     if lists.find(&new).is_some() {
         return Reply::NameTaken;
@@ -49,12 +45,8 @@ fn decide_end(model: &Model, lists: &mut Lists, front: u64, clone: u32, at: u64)
     requires there { clone < length lists.old.clones }
     requires once { (clone_at lists.old.clones clone).end ≡ None }
     requires planned { ArePlanned model.now lists.old.clones }
-    ensures reply { result ≡ first_row (time_rows model.now front at) }
-    // the lists, which stay as they are where it is refused
-    ensures lists { lists.new ≡ record lists.old {
-      clones = if_accepted result (clones_with_end lists.old.clones clone at) lists.old.clones;
-    } }
-    ensures planned { ArePlanned model.now lists.new.clones }
+    ensures reply { HasReply model.now (first_row (time_rows model.now front at))
+        (clones_with_end lists.old.clones clone at) result lists.old lists.new }
 {
     let reply = time_reply(model, front, at);
     if reply == Reply::Accepted {
@@ -75,14 +67,10 @@ fn decide_set(
 ) -> Reply
     requires there { clone < length lists.old.clones }
     requires lists { AreBookLists model.now lists.old }
-    ensures reply { result ≡
-        first_row (set_rows model.now lists.old.clones front clone at station.now change.now) }
-    // the lists, which stay as they are where it is refused
-    ensures lists { lists.new ≡ record lists.old {
-      clones = if_accepted result
-          (clones_with_plan lists.old.clones clone (plan_of_set model.now at station.now change.now)) lists.old.clones;
-    } }
-    ensures planned { ArePlanned model.now lists.new.clones }
+    ensures reply { HasReply model.now
+        (first_row (set_rows model.now lists.old.clones front clone at station.now change.now))
+        (clones_with_plan lists.old.clones clone (plan_of_set model.now at station.now change.now))
+        result lists.old lists.new }
 {
     let Some(s) = model.find(station) else {
         return Reply::UnknownStation;
@@ -118,18 +106,13 @@ pub fn decide_by_table(
     d: &Decision,
 ) -> Reply
     requires lists { AreBookLists model.now lists.old }
-    // the first row of the table whose condition holds
-    ensures reply { result ≡ reply_of (record {
+    // the first row of the whole table whose condition holds, and what it makes of the lists
+    ensures reply { HasReply model.now (reply_of (record {
       net = model.now;
       clones = lists.old.clones;
       front = front;
       calls = calls;
-    }) d.now }
-    // what it makes of the lists
-    ensures lists { lists.new ≡ record lists.old {
-      clones = clones_after_reply model.now lists.old.clones d.now result;
-    } }
-    ensures planned { ArePlanned model.now lists.new.clones }
+    }) d.now) (clones_after model.now lists.old.clones d.now) result lists.old lists.new }
 {
     if calls >= MOST_CALLS {
         return Reply::Full;

@@ -1,23 +1,22 @@
 -- How a pass and the helm come to their turns, and that a pass has a free place for its call's receipt.
-use Rattle.std.proofs.Common.{◌≡◌, ◌≢◌, ⊎_elim, ℕ, ◌+◌, ◌<◌, ◌≤◌, Bool, true, false}
-use Rattle.std.proofs.Common.{List, [], ◌∷◌, ◌++◌, length, Some, None, sym, ap}
+use Rattle.std.proofs.Common.{◌≡◌, ⊎_elim, ℕ, ◌+◌, ◌<◌, ◌≤◌, Bool, true, false}
+use Rattle.std.proofs.Common.{List, [], ◌∷◌, length, sym, ap}
 use Rattle.std.proofs.Common.{◌∙◌, subst, arith, true≢false, is_some, if◌then◌else◌, nat_eq, suc}
 use Rattle.std.proofs.lemmas.List.{length-map}
+use mathlib.Core.List.{IsPrefix}
 use Rattle.atomic_table.specs.Table.{Me}
 use Rattle.sim_base.specs.declared.decision.Decision.{Decision}
 use Rattle.decision_book.specs.declared.call.Call.{Call}
 use Rattle.decision_book.specs.declared.call.TheConstants.{MOST_CALLS}
-use Rattle.decision_book.specs.declared.call.Reply.TheVariants.{Full}
-use Rattle.decision_book.specs.Journal.{call_of, Event, NewCall, calls_of}
+use Rattle.decision_book.specs.Journal.{Event, calls_of, front_of}
 use Rattle.decision_desk.specs.declared.view.View.{View}
 use Rattle.decision_desk.specs.declared.pass.Receipt.{Receipt}
 use Rattle.sim_base.specs.Reserved.{ReservedView}
 use Rattle.atomic_table.specs.Seated.{TableId}
-use Rattle.decision_desk.specs.Accounts.{Account, AreAccounts, Begins, OnlyCalls, front_of, calls_from, calls_by}
+use Rattle.decision_desk.specs.Accounts.{Account, AreAccounts, OnlyCalls, calls_from, calls_by}
 use Rattle.decision_desk.specs.Turns.{Slot, IsWaiting, book_of, view_with_turn, pass_view, helm_view}
-use Rattle.decision_desk.specs.Turns.{with_call, full_account}
 use Rattle.decision_desk.specs.Passes.{first_account, turn_view, IsHelmAtRest, HelmHasTurn, PassHasTurn, IsPassTurn}
-use Rattle.decision_desk.specs.Passes.{IsPass, receipt_of}
+use Rattle.decision_desk.specs.Passes.{IsPass, receipt_of, HasEntered, HasFoundFull}
 
 -- ---- PassHasTurn
 
@@ -43,7 +42,7 @@ comes_to_turn m m1 m2 a t j rest drew turn =
 -- so a pass at rest that has drawn a ticket and is served has come to its turn
 pub has_turn : (m m1 m2 : Hand) (a : Account) (t : ℕ) (j : List Event) → m ≡ (pass_view m.0.net m.0.seen a, [])
     → m1 ≡ (view_with_turn m.0 true t false m.0.seen, m.1)
-    → Begins m1.0.seen j → length (calls_of j) ≤ MOST_CALLS → AreAccounts j m1.0.accounts
+    → IsPrefix m1.0.seen j → length (calls_of j) ≤ MOST_CALLS → AreAccounts j m1.0.accounts
     → m2 ≡ (view_with_turn m1.0 true m1.0.ticket true j, (0, book_of m1.0.net j) ∷ m1.1)
     → front_of m1.0.seen ≤ front_of j → PassHasTurn m.0.net m.0.seen a m2 j
 has_turn m m1 m2 a t j rest drew begins few right turn rises =
@@ -51,7 +50,7 @@ has_turn m m1 m2 a t j rest drew begins few right turn rises =
     record {
       ticket = t;
       comes = record {
-        begins = subst (λ (x : Hand). Begins x.0.seen j) e begins;
+        begins = subst (λ (x : Hand). IsPrefix x.0.seen j) e begins;
         rises = subst (λ (x : Hand). front_of x.0.seen ≤ front_of j) e rises;
         right = subst (λ (x : Hand). AreAccounts j x.0.accounts) e right;
         few = few;
@@ -81,19 +80,15 @@ pub places_left : (caller : ℕ) (receipts : ReservedView Receipt) (desk : Table
     (receipt : Receipt) (j : List Event)
     → IsPass caller receipts desk m → IsPassTurn m.0.net m.0.seen (first_account m.0.accounts) d receipt new j
     → is_some receipt.entry ≡ true → length receipts.items < receipts.reserved
-places_left caller receipts desk m new d receipt j p t some_entry = ⊎_elim
-    (λ (h : (receipt.reply ≢ Full) × (receipt.entry ≡ Some (length (calls_of j))) × (length (calls_of j) < MOST_CALLS)
-    × (new ≡ (
-      pass_view m.0.net (j ++ NewCall (call_of (first_account m.0.accounts).caller j d receipt.reply) ∷ [])
-          (with_call (first_account m.0.accounts) j (call_of (first_account m.0.accounts).caller j d receipt.reply)),
-      [],
-    ))).
-    let a = first_account m.0.accounts in
+places_left caller receipts desk m new d receipt j p t some_entry =
+    let a : Account = first_account m.0.accounts in
+    let Then : List Event → Account → Type 0 = λ events b. new ≡ (pass_view m.0.net events b, []) in
+    ⊎_elim
+    (λ (h : HasEntered j a d receipt Then).
     let items : length receipts.items ≡ length a.calls = ap length p.receipts_are ∙ length-map a.calls receipt_of in
     let own : length a.calls ≡ length (calls_by a.caller j) = ap length t.comes.right.0.calls in
     omega (arith, items, own, by_short a.caller 0 (calls_of j), h.2, p.reserved))
-    (λ (h : (receipt.reply ≡ Full) × (receipt.entry ≡ None) × (length (calls_of j) ≡ MOST_CALLS)
-    × (new ≡ (pass_view m.0.net j (full_account (first_account m.0.accounts)), []))).
+    (λ (h : HasFoundFull j a receipt Then).
     absurd (true≢false (sym some_entry ∙ ap is_some h.1)))
     t.outcome
 

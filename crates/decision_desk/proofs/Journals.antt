@@ -3,11 +3,13 @@ use Rattle.std.proofs.Common.{◌≡◌, ◌≢◌, ℕ, suc, ◌+◌, ◌<◌, 
 use Rattle.std.proofs.Common.{false, List, [], ◌∷◌, ◌++◌, length, map, nat_eq, if◌then◌else◌}
 use Rattle.std.proofs.Common.{refl, sym, ap, ◌∙◌, subst, arith, append_assoc, append-nil}
 use Rattle.std.proofs.lemmas.List.{map-append}
+use mathlib.Core.List.{IsPrefix, prefix-append}
+use Rattle.sim_base.proofs.ListLaws.{prefix_trans}
 use Rattle.decision_book.specs.declared.call.Call.{Call}
 use Rattle.decision_book.specs.declared.call.TheConstants.{MOST_CALLS}
-use Rattle.decision_book.specs.Journal.{Event, NewFront, NewCall, calls_of}
+use Rattle.decision_book.specs.Journal.{Event, NewFront, NewCall, calls_of, front_from, front_of}
 use Rattle.decision_book.proofs.Growing.{calls_of-push_call, calls_of-push_front}
-use Rattle.decision_desk.specs.Accounts.{Account, calls_from, calls_by, front_from, front_of, RisesFrom, Begins}
+use Rattle.decision_desk.specs.Accounts.{Account, calls_from, calls_by, RisesFrom}
 use Rattle.decision_desk.specs.Accounts.{OnlyCalls, IsFrontOf, EachFront, IsAccount, AreAccounts, accounts_of}
 
 -- ---- calls_by
@@ -129,27 +131,19 @@ front_from-append f (NewFront g ∷ xs) more r = front_from-append g xs more r.1
 front_from-append f (NewCall d ∷ xs) more r = front_from-append f xs more r
 
 -- what was seen is no more than the front
-pub front_of-begins : (xs ys : List Event) → Begins xs ys → RisesFrom 0 ys → front_of xs ≤ front_of ys
-front_of-begins xs ys b r = subst (λ l. front_of xs ≤ front_of l) (sym b.1)
-    (front_from-append 0 xs b.0 (subst (RisesFrom 0) b.1 r))
+pub front_of-prefix : (xs ys : List Event) → IsPrefix xs ys → RisesFrom 0 ys → front_of xs ≤ front_of ys
+front_of-prefix xs ys b r = subst (λ l. front_of xs ≤ front_of l) b.1
+    (front_from-append 0 xs b.0 (subst (RisesFrom 0) (sym b.1) r))
 
--- ---- Begins
+-- ---- IsPrefix
 
 -- a journal begins with itself
-pub begins_refl : (es : List Event) → Begins es es
-begins_refl es = ([], sym (append-nil es))
-
--- a journal with one event more begins with it
-begins_one : (es : List Event) (e : Event) → Begins es (es ++ e ∷ [])
-begins_one es e = (e ∷ [], refl)
+pub prefix_refl : (es : List Event) → IsPrefix es es
+prefix_refl es = ([], append-nil es)
 
 -- what a journal begins with, it begins with after one event more
-pub begins_more : (before es : List Event) (e : Event) → Begins before es → Begins before (es ++ e ∷ [])
-begins_more before es e b = (b.0 ++ e ∷ [], ap (λ l. l ++ e ∷ []) b.1 ∙ append_assoc before b.0 (e ∷ []))
-
--- and what its beginning begins with, it begins with too
-pub begins_on : (xs ys zs : List Event) → Begins xs ys → Begins ys zs → Begins xs zs
-begins_on xs ys zs b d = (b.0 ++ d.0, d.1 ∙ (ap (λ l. l ++ d.0) b.1 ∙ append_assoc xs b.0 d.0))
+pub prefix_more : (before es : List Event) (e : Event) → IsPrefix before es → IsPrefix before (es ++ e ∷ [])
+prefix_more before es e b = prefix_trans before es (es ++ e ∷ []) b (prefix-append es (e ∷ []))
 
 -- ---- OnlyCalls
 
@@ -170,10 +164,10 @@ only_calls_more before es c o = (
 -- ---- EachFront
 
 -- what are fronts of a beginning are fronts of the journal
-fronts_on : (es more : List Event) (fs : List ℕ) → Begins es more → EachFront es fs → EachFront more fs
+fronts_on : (es more : List Event) (fs : List ℕ) → IsPrefix es more → EachFront es fs → EachFront more fs
 fronts_on es more [] b all = tt
 fronts_on es more (f ∷ fs) b all =
-    ((all.0.0, begins_on all.0.0 es more all.0.1 b, all.0.2), fronts_on es more fs b all.1)
+    ((all.0.0, prefix_trans all.0.0 es more all.0.1 b, all.0.2), fronts_on es more fs b all.1)
 
 -- with one front more of the journal, all are still its fronts
 fronts_snoc : (es : List Event) (fs : List ℕ) (f : ℕ) → EachFront es fs → IsFrontOf es f → EachFront es (fs ++ f ∷ [])
@@ -186,7 +180,7 @@ fronts_snoc es (g ∷ fs) f all one = (all.0, fronts_snoc es fs f all.1 one)
 account_raised : (es : List Event) (f : ℕ) (a : Account) → IsAccount es a → IsAccount (es ++ NewFront f ∷ []) a
 account_raised es f a i = record {
   calls = i.calls ∙ sym (calls_by-NewFront a.caller es f);
-  fronts = fronts_on es (es ++ NewFront f ∷ []) a.fronts (begins_one es (NewFront f)) i.fronts;
+  fronts = fronts_on es (es ++ NewFront f ∷ []) a.fronts (prefix-append es (NewFront f ∷ [])) i.fronts;
   full = λ full. ap length (calls_of-push_front es f) ∙ i.full full;
 }
 
@@ -195,7 +189,7 @@ account_other : (es : List Event) (c : Call) (a : Account) → c.caller ≢ a.ca
     → IsAccount es a → IsAccount (es ++ NewCall c ∷ []) a
 account_other es c a other free i = record {
   calls = i.calls ∙ sym (calls_by-other a.caller es c other);
-  fronts = fronts_on es (es ++ NewCall c ∷ []) a.fronts (begins_one es (NewCall c)) i.fronts;
+  fronts = fronts_on es (es ++ NewCall c ∷ []) a.fronts (prefix-append es (NewCall c ∷ [])) i.fronts;
   full = λ full. absurd (omega (arith, free, i.full full));
 }
 
@@ -207,8 +201,8 @@ pub account_called : (es : List Event) (c : Call) (a : Account) → c.caller ≡
 account_called es c a same free i = record {
   calls = ap (λ l. l ++ (length (calls_of es), c) ∷ []) i.calls ∙ sym (calls_by-own a.caller es c same);
   fronts = fronts_snoc (es ++ NewCall c ∷ []) a.fronts (front_of es)
-      (fronts_on es (es ++ NewCall c ∷ []) a.fronts (begins_one es (NewCall c)) i.fronts)
-      (es, begins_one es (NewCall c), refl);
+      (fronts_on es (es ++ NewCall c ∷ []) a.fronts (prefix-append es (NewCall c ∷ [])) i.fronts)
+      (es, prefix-append es (NewCall c ∷ []), refl);
   full = λ full. absurd (omega (arith, free, i.full full));
 }
 
@@ -218,7 +212,7 @@ pub account_looked : (es : List Event) (a : Account) → IsAccount es a
 account_looked es a i = record {
   calls = i.calls;
   fronts = fronts_snoc es a.fronts (front_of es) i.fronts
-      (es, begins_refl es, refl);
+      (es, prefix_refl es, refl);
   full = i.full;
 }
 

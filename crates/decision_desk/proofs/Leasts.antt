@@ -25,7 +25,7 @@ use Rattle.stations.proofs.GoodLaws.{lawful-stations}
 use Rattle.decision_book.specs.declared.call.Call.{Call}
 use Rattle.decision_book.specs.declared.call.Reply.TheVariants.{Accepted, UnknownStation, ListFull}
 use Rattle.decision_book.specs.Journal.{Event, Situation, NewCall, NewFront, after, after_event}
-use Rattle.decision_book.specs.Journal.{outset, clones_after, if_accepted, clone_place, plan_of_set, calls_of}
+use Rattle.decision_book.specs.Journal.{outset, front_of, clones_after, if_accepted, clone_place, plan_of_set, calls_of}
 use Rattle.decision_book.specs.Replies.{row, first_row, rows, reply, time_rows, change_row}
 use Rattle.decision_book.specs.Right.{IsRight, MayFollow, EachAfter}
 use Rattle.decision_book.specs.Scripts.{accepted_onto, accepted_of}
@@ -33,7 +33,7 @@ use Rattle.decision_book.proofs.ClonesByName.{place_of-bounds, place_of-cons}
 use Rattle.decision_book.proofs.Growing.{calls_of-push_calls}
 use Rattle.decision_book.proofs.JournalScripts.{ChangesNothing, accepted_or_refused, each_later, net_stays}
 use Rattle.decision_book.proofs.Rows.{IsOpen, IsOpen-accepted, first_row-Accepted, first_row-change, first_row-times}
-use Rattle.decision_desk.specs.Accounts.{front_of, front_from}
+use Rattle.decision_book.proofs.Scripts.{situation_of_journal}
 use Rattle.decision_desk.specs.Leasts.{leasts_of, earliest, leasts_with, leasts_with_at, leasts_with_calls}
 use Rattle.decision_desk.specs.Leasts.{helm_at, calls_at}
 use Rattle.decision_desk.specs.Passes.{IsSince, IsTurnAhead, IsHelmTurn}
@@ -207,15 +207,9 @@ leasts_with_calls-accepted net before (c ∷ cs) s all valid is right end =
 
 -- ---- front_of
 
--- the front after events is the last that was raised in them, or the one before them
-front-fold : (s : Situation) (es : List Event) → (fold after_event s es).front ≡ front_from s.front es
-front-fold s [] = refl
-front-fold s (NewFront f ∷ es) = front-fold (after_event s (NewFront f)) es
-front-fold s (NewCall c ∷ es) = front-fold (after_event s (NewCall c)) es
-
 -- the front after a journal is the last that was raised in it, or 0
 pub front_is : (net : Net) (es : List Event) → (after net es).front ≡ front_of es
-front_is net es = front-fold (outset net) es
+front_is net es = ap (λ (s : Situation). s.front) (situation_of_journal net es)
 
 -- ---- leasts_with_calls, behind a journal
 

@@ -1,12 +1,14 @@
 -- A legal journal stays legal with one call more, and with one front more that is the next.
-use Rattle.std.proofs.Common.{◌≡◌, List, ◌++◌, ◌∷◌, [], ℕ, subst, sym}
-use Rattle.std.proofs.Common.{Option, Some, None, Result, Ok, Err, OnOk, OnErr}
+use Rattle.std.proofs.Common.{◌≡◌, ◌↔◌, ◌+◌, ◌<◌, ◌≤◌, List, ◌++◌, ◌∷◌, [], length, ℕ, subst, sym, arith}
+use Rattle.std.proofs.Common.{Option, Some, None, MatchOption, Result, Ok, Err, OnOk, OnErr}
 use Rattle.decision_book.specs.Books.{BookView, IsCallUnlessFull}
 use Rattle.sim_base.specs.declared.decision.Decision.{Decision}
 use Rattle.net_model.specs.Net.{Net}
 use Rattle.decision_book.specs.declared.call.Call.{Call}
+use Rattle.decision_book.specs.declared.call.TheConstants.{MOST_CALLS}
 use Rattle.decision_book.specs.declared.call.Reply.{Reply}
-use Rattle.decision_book.specs.Journal.{Event, NewFront, NewCall}
+use Rattle.decision_book.specs.declared.call.Reply.TheVariants.{Full}
+use Rattle.decision_book.specs.Journal.{Event, NewFront, NewCall, calls_of}
 use Rattle.decision_book.proofs.Growing.{each_push}
 use Rattle.decision_desk.specs.Legal.{IsNextFront, FrontsAreNext}
 
@@ -22,6 +24,18 @@ fronts_are_next-told old new caller d r None h t = subst (λ (b : BookView). Fro
 fronts_are_next-told old new caller d r (Some c) h t =
     subst (λ (b : BookView). FrontsAreNext b.net b.events) (sym t.1.new_is)
     (fronts_are_next-asked old.net old.events c h)
+
+-- where a decision is answered Full exactly where the book is full, a call that is told had a free place
+pub places_told : (old new : BookView) (caller : ℕ) (d : Decision) (r : Reply) (told : Option Call)
+    → IsCallUnlessFull old caller d r told new → (r ≡ Full) ↔ (MOST_CALLS ≤ length (calls_of old.events))
+    → MatchOption told (MOST_CALLS ≤ length (calls_of old.events)) (λ _. length (calls_of old.events) < MOST_CALLS)
+places_told old new caller d r None call full = full.0 call.0
+places_told old new caller d r (Some c) call full =
+    let free = below (length (calls_of old.events)) (λ h. call.0 (full.1 h)) in
+    omega (arith, free)
+  where
+    below : (n : ℕ) → (MOST_CALLS ≤ n → ⊥) → n + 1 ≤ MOST_CALLS
+    below n h = grind (arith, h)
 
 -- a journal whose fronts are the next ones stays so with one front more that is the next
 fronts_are_next-raised : (net : Net) (es : List Event) (f : ℕ) → IsNextFront net es (NewFront f) → FrontsAreNext net es

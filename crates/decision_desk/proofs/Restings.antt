@@ -7,23 +7,24 @@ use Rattle.std.proofs.lemmas.Bool.{cases_eq}
 use Rattle.std.proofs.lemmas.Option.{same_Some}
 use mathlib.Core.Option.{Option, some, none, some-ne-none, some-injective}
 use lib.ListN.{get_elem?}
+use mathlib.Core.List.{IsPrefix}
 use Rattle.atomic_table.specs.Table.{Me, Allows, carried_after, Splits, Joins, opening, Final, Seen, rest, keeps, gives}
 use Rattle.atomic_table.proofs.Lists.{at_set, at_snoc, at_longer, set_else}
 use Rattle.net_model.specs.Net.{Net}
 use Rattle.decision_book.specs.declared.call.TheConstants.{MOST_CALLS}
-use Rattle.decision_book.specs.Journal.{Event, calls_of}
+use Rattle.decision_book.specs.Journal.{Event, calls_of, front_of}
 use Rattle.decision_desk.specs.declared.desk.TheConstants.{ALL_PARTS}
 use Rattle.decision_desk.specs.declared.view.View.{View}
 use Rattle.atomic_table.specs.Seated.{TableId}
 use Rattle.decision_book.specs.Books.{BookView}
 use Rattle.decision_desk.specs.Passes.{HelmView, view_of_helm, IsFinalBook}
 use Rattle.decision_desk.specs.Accounts.{Account, AreAccounts, IsAccount, accounts_of}
-use Rattle.decision_desk.specs.Accounts.{calls_by, front_of, Begins, OnlyCalls}
+use Rattle.decision_desk.specs.Accounts.{calls_by, OnlyCalls}
 use Rattle.decision_desk.specs.Turns.{Slot, book_of, total, ticket_count, has_ticket, has_caller, Fits}
 use Rattle.decision_desk.specs.Turns.{EachFits, NoTurn, BookIsHomeOrInTurn, OneHelm, IsDesk, view_with_turn}
 use Rattle.decision_desk.specs.Turns.{new_account, pass_view, helm_view, spent_view, view_after_look, full_account}
 use Rattle.decision_desk.specs.Turns.{HasSeenFront, HasEndedFullTurn}
-use Rattle.decision_desk.proofs.Journals.{begins_refl, front_of-begins}
+use Rattle.decision_desk.proofs.Journals.{prefix_refl, front_of-prefix}
 use Rattle.decision_desk.proofs.Journals.{account_looked, account_full, accounts_append, accounts_of-append}
 use Rattle.decision_desk.proofs.Turnings.{Becomes, Alike, only_same, total_set, two_below, each_set, no_turn_set}
 use Rattle.decision_desk.proofs.Turnings.{parts_stay, once_stays, unmade_stays, one_helm_stays, others_stay, rest_home}
@@ -34,7 +35,7 @@ use Rattle.decision_desk.proofs.Turnings.{none_waiting, no_tickets, one_waiting,
 
 -- a change of a seat's knowledge while it is at rest
 at_rest : (net : Net) (serve : ℕ) (j : List Event) (v w : View) → w.waits ≡ false → w.turn ≡ false → w.parts ≡ v.parts
-    → w.net ≡ v.net → Begins w.seen j → (w.steers ≡ true → OnlyCalls w.helm j)
+    → w.net ≡ v.net → IsPrefix w.seen j → (w.steers ≡ true → OnlyCalls w.helm j)
     → (v.parts ≡ 0 → w.accounts ≡ []) → AreAccounts j w.accounts → Fits net serve j v → Fits net serve j w
 at_rest net serve j v w idle still parts about seen helm unowned accounts f = record {
   part = omega (arith, none_waiting w idle);
@@ -51,7 +52,7 @@ at_rest net serve j v w idle still parts about seen helm unowned accounts f = re
 -- a pass at rest may read the front: it sees the journal up to there, and its account notes the front
 Allows-front : (slots id : ℕ) (m : Me Slot View) → m.0.waits ≡ false → m.0.turn ≡ false → 0 < m.0.parts
     → m.0.steers ≡ false → (a : Account) → m.0.accounts ≡ a ∷ []
-    → Allows IsDesk slots id m 0 (λ n. n) (λ n m'. (j : List Event) × Begins m.0.seen j × (n ≡ front_of j)
+    → Allows IsDesk slots id m 0 (λ n. n) (λ n m'. (j : List Event) × IsPrefix m.0.seen j × (n ≡ front_of j)
     × (m' ≡ (view_after_look m.0 a j, m.1)) × (front_of m.0.seen ≤ n))
 Allows-front slots id m idle still some_part plain a mine s k one at small =
     let v : View = m.0 in
@@ -79,7 +80,7 @@ Allows-front slots id m idle still some_part plain a mine s k one at small =
         line = omega (arith, total_set ticket_count s.views id v w at, k.line);
         each_once = λ x. omega (arith, total_set (has_ticket x) s.views id v w at, k.each_once x);
         fits = each_set k.net k.serve k.journal s.views id w
-            (at_rest k.net k.serve k.journal v w idle still refl refl (begins_refl k.journal)
+            (at_rest k.net k.serve k.journal v w idle still refl refl (prefix_refl k.journal)
             (λ steers. absurd (true≢false (sym steers ∙ plain))) (λ z. absurd (omega (arith, z, some_part)))
             (account_looked k.journal a right, tt) f) k.fits;
         home = rest_home k.net k.journal s.homes s.views id v w at still still k.home;
@@ -95,7 +96,7 @@ Allows-front slots id m idle still some_part plain a mine s k one at small =
         refl,
         let e : slice_index s.words 0
             ≡ front_of k.journal = ap (λ ws. slice_index ws 0) k.words in
-            omega (arith, e, front_of-begins v.seen k.journal f.seen k.rising),
+            omega (arith, e, front_of-prefix v.seen k.journal f.seen k.rising),
       ),
     )
 
@@ -486,7 +487,7 @@ all_zero f (u ∷ us) each = omega (arith, each 0 u refl, all_zero f us (λ i v 
 pub record HasEnded (v : View) (slots : List Slot) : Type 0 where
   pub journal : List Event
   pub book : get_elem? slots 0 ≡ some (book_of v.net journal)
-  pub seen : Begins v.seen journal
+  pub seen : IsPrefix v.seen journal
   pub helm : v.steers ≡ true → OnlyCalls v.helm journal
   pub accounts : AreAccounts journal v.accounts
   pub others : (x : ℕ) → accounts_of x v.accounts ≡ 0 → calls_by x journal ≡ []

@@ -12,20 +12,20 @@ use Rattle.atomic_table.proofs.Lists.{at_set, set_else, set_here, set_again, one
 use Rattle.net_model.specs.Net.{Net}
 use Rattle.decision_book.specs.declared.call.Call.{Call}
 use Rattle.decision_book.specs.declared.call.TheConstants.{MOST_CALLS}
-use Rattle.decision_book.specs.Journal.{Event, NewFront, NewCall, calls_of}
+use Rattle.decision_book.specs.Journal.{Event, NewFront, NewCall, calls_of, front_of}
 use Rattle.decision_book.proofs.Growing.{calls_of-push_front, calls_of-push_length}
 use Rattle.decision_desk.specs.declared.desk.TheConstants.{ALL_PARTS}
 use Rattle.decision_desk.specs.declared.view.View.{View}
 use Rattle.decision_desk.specs.Accounts.{Account, AreAccounts, IsAccount, accounts_of}
-use Rattle.decision_desk.specs.Accounts.{calls_by, front_of, RisesFrom, OnlyCalls}
+use Rattle.decision_desk.specs.Accounts.{calls_by, RisesFrom, OnlyCalls}
 use Rattle.decision_desk.specs.Turns.{Slot, book_of, total, ticket_count, has_ticket, has_caller, in_line, Fits}
 use Rattle.decision_desk.specs.Turns.{EachFits, NoTurn, BookIsHomeOrInTurn, NoAccountAboveMade, OneHelm, IsDesk}
 use Rattle.decision_desk.specs.Turns.{view_with_turn, view_after_call, view_after_front, HasDrawnTicket, HasTurnIf}
 use Rattle.decision_desk.specs.Turns.{HasTurnIfServed, HasAddedCall, HasEndedTurn}
 use Rattle.decision_desk.proofs.Journals.{front_asked, front_raised, calls_by-other}
-use Rattle.decision_desk.proofs.Journals.{calls_by-NewFront, begins_refl, begins_more, only_calls_refl, only_calls_more}
+use Rattle.decision_desk.proofs.Journals.{calls_by-NewFront, prefix_refl, prefix_more, only_calls_refl, only_calls_more}
 use Rattle.decision_desk.proofs.Journals.{account_called, accounts_raised, accounts_other, accounts_of-one, rises_asked}
-use Rattle.decision_desk.proofs.Journals.{rises_raised, front_of-begins}
+use Rattle.decision_desk.proofs.Journals.{rises_raised, front_of-prefix}
 
 -- ---- total
 
@@ -366,7 +366,7 @@ serves_at id m some_part waits still s k at true is =
               part = omega (arith, f.part, was_waiting);
               idle = f.idle;
               about = f.about;
-              seen = begins_refl k.journal;
+              seen = prefix_refl k.journal;
               turn = λ _. (refl, mine, refl);
               helm = f.helm;
               accounts = f.accounts;
@@ -381,7 +381,7 @@ serves_at id m some_part waits still s k at true is =
         unmade = unmade_stays s k id v w at same;
         one_helm = one_helm_stays s k id v w at same;
       },
-      (k.journal, f.seen, k.few, f.helm, f.accounts, refl, front_of-begins v.seen k.journal f.seen k.rising),
+      (k.journal, f.seen, k.few, f.helm, f.accounts, refl, front_of-prefix v.seen k.journal f.seen k.rising),
     )
 
 -- a seat that waits may look who is served, and has the turn and the book where it is its own ticket
@@ -408,7 +408,7 @@ fits_called net serve j c u still nobody free f = record {
   part = f.part;
   idle = f.idle;
   about = f.about;
-  seen = begins_more u.seen j (NewCall c) f.seen;
+  seen = prefix_more u.seen j (NewCall c) f.seen;
   turn = λ turn. absurd (true≢false (sym turn ∙ still));
   helm = λ steers. only_calls_more u.helm j c (f.helm steers);
   accounts = accounts_other j c u.accounts nobody free f.accounts;
@@ -421,7 +421,7 @@ fits_raised net serve j g u still other f = record {
   part = f.part;
   idle = f.idle;
   about = f.about;
-  seen = begins_more u.seen j (NewFront g) f.seen;
+  seen = prefix_more u.seen j (NewFront g) f.seen;
   turn = λ turn. absurd (true≢false (sym turn ∙ still));
   helm = λ steers. absurd (other steers);
   accounts = accounts_raised j g u.accounts f.accounts;
@@ -494,7 +494,7 @@ Allows-call said a c slots id m is_said mine by turn free s k one at small =
               part = f.part;
               idle = λ no. absurd (omega (arith, no, f.part, was_waiting));
               about = f.about;
-              seen = begins_refl (j ++ NewCall c ∷ []);
+              seen = prefix_refl (j ++ NewCall c ∷ []);
               turn = λ _. (t.0, t.1, refl);
               helm = λ steers. only_calls_more v.helm j c (subst (OnlyCalls v.helm) (sym is) (f.helm steers));
               accounts = (account_called j c a by free right, tt);
@@ -560,7 +560,7 @@ Allows-raise_front g slots id m turn steers above s k one at small =
               part = f.part;
               idle = f.idle;
               about = f.about;
-              seen = begins_refl (j ++ NewFront g ∷ []);
+              seen = prefix_refl (j ++ NewFront g ∷ []);
               turn = λ _. (t.0, t.1, refl);
               helm = λ _. only_calls_refl (j ++ NewFront g ∷ []);
               accounts = accounts_raised j g v.accounts (fits_j id v at).accounts;

@@ -1,8 +1,9 @@
 -- The account of a caller: its calls in a journal, and the fronts that it saw.
 use Rattle.std.specs.Prelude.{◌≡◌, ℕ, ◌+◌, ◌<◌, Bool, true, List, [], ◌∷◌, ◌++◌, length, map, nat_eq, if◌then◌else◌}
+use mathlib.Core.List.{IsPrefix}
 use Rattle.decision_book.specs.declared.call.Call.{Call}
 use Rattle.decision_book.specs.declared.call.TheConstants.{MOST_CALLS}
-use Rattle.decision_book.specs.Journal.{Event, NewFront, NewCall, calls_of}
+use Rattle.decision_book.specs.Journal.{Event, NewFront, NewCall, calls_of, front_of}
 
 -- a caller: its calls, each with its place in the journal, the fronts that it saw, and whether it was answered Full
 pub record Account : Type 0 where
@@ -20,25 +21,11 @@ calls_from x n (c ∷ cs) = if nat_eq c.caller x then (n, c) ∷ calls_from x (n
 abbrev pub calls_by : ℕ → List Event → List (ℕ × Call)
 calls_by x events = calls_from x 0 (calls_of events)
 
--- the last front of a journal, or this one where it has none
-abbrev pub front_from : ℕ → List Event → ℕ
-front_from f [] = f
-front_from f (NewFront g ∷ es) = front_from g es
-front_from f (NewCall c ∷ es) = front_from f es
-
--- the last front of a journal, or 0 where it has none
-abbrev pub front_of : List Event → ℕ
-front_of events = front_from 0 events
-
 -- the fronts of a journal rise, above this one
 abbrev pub RisesFrom : ℕ → List Event → Type 0
 RisesFrom f [] = Unit {0}
 RisesFrom f (NewFront g ∷ es) = (f < g) × RisesFrom g es
 RisesFrom f (NewCall c ∷ es) = RisesFrom f es
-
--- it begins with these
-abbrev pub Begins : List Event → List Event → Type 0
-Begins before events = (more : List Event) × (events ≡ before ++ more)
 
 -- it is these, followed by calls alone
 abbrev pub OnlyCalls : List Event → List Event → Type 0
@@ -46,7 +33,7 @@ OnlyCalls before events = (cs : List Call) × (events ≡ before ++ map NewCall 
 
 -- 0, or a front of the journal
 abbrev pub IsFrontOf : List Event → ℕ → Type 0
-IsFrontOf events f = (before : List Event) × Begins before events × (f ≡ front_of before)
+IsFrontOf events f = (before : List Event) × IsPrefix before events × (f ≡ front_of before)
 
 -- each of these is 0, or a front of the journal
 abbrev pub EachFront : List Event → List ℕ → Type 0

@@ -1,6 +1,7 @@
 -- What contracts see of a pass and of the helm, and what their turns do.
 use Rattle.std.specs.Prelude.{◌≡◌, ◌≢◌, ◌⊎◌, ℕ, zero, suc, ◌+◌, ◌-◌, ◌<◌, ◌≤◌, List, []}
 use Rattle.std.specs.Prelude.{◌∷◌, ◌++◌, length, map, true, Some, None, Option, MatchOption, nat_lt, if◌then◌else◌}
+use mathlib.Core.List.{IsPrefix}
 use Rattle.atomic_table.specs.Table.{Me}
 use Rattle.atomic_table.specs.Seated.{TableId}
 use Rattle.sim_base.specs.Reserved.{ReservedView}
@@ -10,13 +11,13 @@ use Rattle.decision_book.specs.declared.call.Call.{Call}
 use Rattle.decision_book.specs.declared.call.TheConstants.{MOST_CALLS}
 use Rattle.decision_book.specs.declared.call.Reply.{Reply}
 use Rattle.decision_book.specs.declared.call.Reply.TheVariants.{Full}
-use Rattle.decision_book.specs.Journal.{Event, NewCall, NewFront, call_of, calls_of, after}
-use Rattle.decision_book.specs.Books.{BookView, IsEntry}
+use Rattle.decision_book.specs.Journal.{Event, NewCall, NewFront, call_of, calls_of, after, front_of}
+use Rattle.decision_book.specs.Books.{BookView, IsCallUnlessFull}
 use Rattle.decision_book.specs.Replies.{reply}
 use Rattle.decision_book.specs.Scripts.{accepted_of}
 use Rattle.decision_book.specs.Right.{IsRight}
 use Rattle.decision_desk.specs.declared.desk.TheConstants.{ALL_PARTS}
-use Rattle.decision_desk.specs.Accounts.{Account, AreAccounts, accounts_of, calls_by, Begins, OnlyCalls, front_of}
+use Rattle.decision_desk.specs.Accounts.{Account, AreAccounts, accounts_of, calls_by, OnlyCalls}
 use Rattle.decision_desk.specs.Leasts.{leasts_of}
 use Rattle.decision_desk.specs.Turns.{Slot, IsDeskTable, book_of, view_with_turn, pass_view}
 use Rattle.decision_desk.specs.Turns.{helm_view, new_account, with_call, full_account}
@@ -70,16 +71,18 @@ pub record IsPass (caller : ℕ) (receipts : ReservedView Receipt) (desk : Table
 
 -- ---- turns of a pass
 
--- the reply of the table of refusals to a decision, with its call as the last of the book, which had a free place for
--- it, or with none where the book is full, and stays as it was
-abbrev pub HasAnswered : BookView → ℕ → Decision → Reply → Option Call → BookView → Type 0
-HasAnswered old caller d answer told new = (answer ≡ reply (after old.net old.events) d)
-    × MatchOption told ((answer ≡ Full) × (MOST_CALLS ≤ length (calls_of old.events)) × (new ≡ old))
-    (λ call. (answer ≢ Full) × (length (calls_of old.events) < MOST_CALLS) × IsEntry old caller d answer call new)
+-- the reply of the table of refusals to a decision, and the call that is told: the last of the book, which had a free
+-- place for it, or none, where the book was full
+pub record HasAnswered (old : BookView) (caller : ℕ) (d : Decision) (answer : Reply) (told : Option Call)
+    (new : BookView) : Type 0 where
+  pub answer_is : answer ≡ reply (after old.net old.events) d
+  pub call : IsCallUnlessFull old caller d answer told new
+  pub places : MatchOption told (MOST_CALLS ≤ length (calls_of old.events))
+      (λ _. length (calls_of old.events) < MOST_CALLS)
 
 -- a pass that saw some events and has an account comes behind the events j
 pub record ComesBehind (seen : List Event) (a : Account) (j : List Event) : Type 0 where
-  pub begins : Begins seen j
+  pub begins : IsPrefix seen j
   pub rises : front_of seen ≤ front_of j
   pub right : AreAccounts j (a ∷ [])
   pub few : length (calls_of j) ≤ MOST_CALLS
@@ -90,36 +93,37 @@ pub record PassHasTurn (net : Net) (seen : List Event) (a : Account) (me : Me Sl
   pub comes : ComesBehind seen a j
   pub is : me ≡ (turn_view net j a ticket, (0, book_of net j) ∷ [])
 
--- the result of a pass's turn, behind the events j: the call is in the journal, or the reply was Full
+-- the call is in the journal, at the place that the receipt names, and in the account; this holds of both then
+abbrev pub HasEntered : List Event → Account → Decision → Receipt → (List Event → Account → Type 0) → Type 0
+HasEntered j a d receipt Then = (receipt.reply ≢ Full) × (receipt.entry ≡ Some (length (calls_of j)))
+    × (length (calls_of j) < MOST_CALLS)
+    × Then (j ++ NewCall (call_of a.caller j d receipt.reply) ∷ [])
+    (with_call a j (call_of a.caller j d receipt.reply))
+
+-- the reply is Full: the journal stays as it was, the account is marked; this holds of both then
+abbrev pub HasFoundFull : List Event → Account → Receipt → (List Event → Account → Type 0) → Type 0
+HasFoundFull j a receipt Then = (receipt.reply ≡ Full) × (receipt.entry ≡ None) × (length (calls_of j) ≡ MOST_CALLS)
+    × Then j (full_account a)
+
+-- what becomes of a journal and of an account whose caller asks: one or the other
+abbrev pub HasEnteredOrFull : List Event → Account → Decision → Receipt → (List Event → Account → Type 0) → Type 0
+HasEnteredOrFull j a d receipt Then = HasEntered j a d receipt Then ⊎ HasFoundFull j a receipt Then
+
+-- the result of a pass's turn, behind the events j: it is at rest, with what became of them and of its account
 pub record IsPassTurn (net : Net) (seen : List Event) (a : Account) (d : Decision) (receipt : Receipt)
     (new : Me Slot View) (j : List Event) : Type 0 where
   pub comes : ComesBehind seen a j
   pub reply_is : receipt.reply ≡ reply (after net j) d
-  pub outcome :
-      ((receipt.reply ≢ Full) × (receipt.entry ≡ Some (length (calls_of j))) × (length (calls_of j) < MOST_CALLS)
-      × (new ≡ (
-        pass_view net (j ++ NewCall (call_of a.caller j d receipt.reply) ∷ [])
-            (with_call a j (call_of a.caller j d receipt.reply)),
-        [],
-      )))
-      ⊎ ((receipt.reply ≡ Full) × (receipt.entry ≡ None) × (length (calls_of j) ≡ MOST_CALLS)
-      × (new ≡ (pass_view net j (full_account a), [])))
+  pub outcome : HasEnteredOrFull j a d receipt (λ events b. new ≡ (pass_view net events b, []))
 
 -- the same, as contracts see it
 pub record IsAsked (old : PassView) (d : Decision) (receipt : Receipt) (new : PassView) (j : List Event) : Type 0 where
-  pub begins : Begins old.seen j
+  pub begins : IsPrefix old.seen j
   -- the front that it was decided at is at least the one that was seen
   pub rises : front_of old.seen ≤ front_of j
   pub reply_is : receipt.reply ≡ reply (after old.net j) d
-  -- it is in the journal, at the place that the receipt names; or it is full
-  pub outcome :
-      ((receipt.reply ≢ Full) × (receipt.entry ≡ Some (length (calls_of j)))
-      × (new ≡ record old {
-        seen = j ++ NewCall (call_of old.account.caller j d receipt.reply) ∷ [];
-        account = with_call old.account j (call_of old.account.caller j d receipt.reply);
-      }))
-      ⊎ ((receipt.reply ≡ Full) × (receipt.entry ≡ None) × (length (calls_of j) ≡ MOST_CALLS)
-      × (new ≡ record old { seen = j; account = full_account old.account }))
+  -- the call is in the journal, at the place that the receipt names; or it is full
+  pub outcome : HasEnteredOrFull j old.account d receipt (λ events b. new ≡ record old { seen = events; account = b })
 
 -- ---- helm
 
@@ -212,7 +216,7 @@ late_front front time = if nat_lt time front then Some front else None
 -- what the book is that a desk leaves
 pub record IsFinalBook (helm : HelmView) (book : BookView) : Type 0 where
   pub net : book.net ≡ helm.net
-  pub seen : Begins helm.seen book.events
+  pub seen : IsPrefix helm.seen book.events
   pub only_calls : OnlyCalls helm.helm book.events
   -- each account has its caller's calls, and each front that it saw is one of the journal's
   pub accounts : AreAccounts book.events helm.accounts

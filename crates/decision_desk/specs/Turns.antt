@@ -4,16 +4,17 @@ use Rattle.std.specs.Prelude.{List, [], ◌∷◌, ◌++◌, length, nat_eq, nat
 use Rattle.std.specs.declared.option.Option.{Option as Option'}
 use mathlib.Core.Option.{Option, some, none}
 use lib.ListN.{get_elem?}
+use mathlib.Core.List.{IsPrefix}
 use Rattle.atomic_table.specs.Table.{State, Me}
 use Rattle.atomic_table.specs.Seated.{TableId}
 use Rattle.net_model.specs.Net.{Net}
 use Rattle.decision_book.specs.declared.call.Call.{Call}
 use Rattle.decision_book.specs.declared.call.TheConstants.{MOST_CALLS}
-use Rattle.decision_book.specs.Journal.{Event, NewFront, NewCall, calls_of}
+use Rattle.decision_book.specs.Journal.{Event, NewFront, NewCall, calls_of, front_of}
 use Rattle.decision_book.specs.Books.{BookView}
 use Rattle.decision_desk.specs.declared.desk.TheConstants.{ALL_PARTS}
 use Rattle.decision_desk.specs.Accounts.{Account, AreAccounts, accounts_of, calls_by}
-use Rattle.decision_desk.specs.Accounts.{front_of, RisesFrom, Begins, OnlyCalls}
+use Rattle.decision_desk.specs.Accounts.{RisesFrom, OnlyCalls}
 use Rattle.decision_desk.specs.declared.view.View.{View}
 
 -- ---- table and book
@@ -90,7 +91,7 @@ pub record Fits (net : Net) (serve : ℕ) (journal : List Event) (v : View) : Ty
   pub part : ticket_count v ≤ v.parts
   pub idle : v.parts ≡ 0 → v.accounts ≡ []
   pub about : 0 < v.parts → v.net ≡ net
-  pub seen : Begins v.seen journal
+  pub seen : IsPrefix v.seen journal
   pub turn : v.turn ≡ true → (v.waits ≡ true) × (v.ticket ≡ serve) × (v.seen ≡ journal)
   pub helm : v.steers ≡ true → OnlyCalls v.helm journal
   pub accounts : AreAccounts journal v.accounts
@@ -149,7 +150,7 @@ HasDrawnTicket m n m' = (t : ℕ) × (n ≡ t % 2 ^ 64) × (m' ≡ (view_with_tu
 
 -- a seat has the turn, the journal as it then stands and the book
 abbrev pub HasComeToTurn : Me Slot View → Me Slot View → Type 0
-HasComeToTurn m m' = (j : List Event) × Begins m.0.seen j × (length (calls_of j) ≤ MOST_CALLS)
+HasComeToTurn m m' = (j : List Event) × IsPrefix m.0.seen j × (length (calls_of j) ≤ MOST_CALLS)
     × (m.0.steers ≡ true → OnlyCalls m.0.helm j) × AreAccounts j m.0.accounts
     × (m' ≡ (view_with_turn m.0 true m.0.ticket true j, (0, book_of m.0.net j) ∷ m.1))
     × (front_of m.0.seen ≤ front_of j)
@@ -254,7 +255,7 @@ view_after_look v a j = record v { seen = j; accounts = record a { fronts = a.fr
 
 -- the step that looks at the front tells the front of the journal then, which is no less than the one seen before
 abbrev pub HasSeenFront : Me Slot View → ℕ → Me Slot View → Type 0
-HasSeenFront m n m' = (a : Account) → m.0.accounts ≡ a ∷ [] → (j : List Event) × Begins m.0.seen j × (n ≡ front_of j)
+HasSeenFront m n m' = (a : Account) → m.0.accounts ≡ a ∷ [] → (j : List Event) × IsPrefix m.0.seen j × (n ≡ front_of j)
     × (m' ≡ (view_after_look m.0 a j, m.1)) × (front_of m.0.seen ≤ n)
 
 -- the account of a caller that was answered Full

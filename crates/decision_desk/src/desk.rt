@@ -1,9 +1,9 @@
 //! The desk: one book of decisions that threads share.
 ghost use Rattle.std.specs.Prelude.{◌≡◌, ℕ, ◌+◌, ◌-◌, ◌<◌, ◌≤◌, ◌++◌, ◌∷◌, []};
 ghost use Rattle.std.specs.Prelude.{List, All, Some, length, map, IfOk, OnOk, OnErr};
-ghost use Rattle.decision_book.specs.Journal.{Event};
+ghost use mathlib.Core.List.{IsPrefix};
+ghost use Rattle.decision_book.specs.Journal.{Event, front_of};
 ghost use Rattle.decision_desk.specs.declared.desk.TheConstants.{ALL_PARTS, MOST_PASSES};
-ghost use Rattle.decision_desk.specs.Accounts.{Begins, front_of};
 ghost use Rattle.decision_desk.specs.Turns.{IsDeskTable, new_account};
 ghost use Rattle.decision_desk.specs.Passes.{IsAsked, IsFinalBook, late_front, pass_after_look, new_passes, new_helm};
 
@@ -146,7 +146,7 @@ impl Desk {
     pub fn front(&self, pass: &mut Pass) -> u64
         requires desk { pass.old.desk ≡ self.now.table.shared.table_id }
         ensures rises { front_of pass.old.seen ≤ result }
-        ensures seen { (j : List Event) × Begins pass.old.seen j
+        ensures seen { (j : List Event) × IsPrefix pass.old.seen j
             × (result ≡ front_of j) × (pass.new ≡ pass_after_look pass.old j) }
     {
         look_at_front(&self.table.shared, &mut pass.seat)
@@ -156,7 +156,7 @@ impl Desk {
     pub fn is_late(&self, pass: &mut Pass, time: u64) -> Option<u64>
         requires desk { pass.old.desk ≡ self.now.table.shared.table_id }
         ensures rises { (f : ℕ) → result ≡ Some f → front_of pass.old.seen ≤ f }
-        ensures late { (j : List Event) × Begins pass.old.seen j
+        ensures late { (j : List Event) × IsPrefix pass.old.seen j
             × (result ≡ late_front (front_of j) time) × (pass.new ≡ pass_after_look pass.old j) }
     {
         let front = self.front(pass);

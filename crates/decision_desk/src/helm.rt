@@ -1,8 +1,7 @@
 //! The helm, the engine's seat: its turns raise the front, the boundary of the next window.
 ghost use Rattle.std.specs.Prelude.{◌≡◌, ◌<◌, ◌++◌, ◌∷◌, [], List, MatchResult};
-ghost use Rattle.decision_book.specs.Journal.{Event, NewFront, after};
+ghost use Rattle.decision_book.specs.Journal.{Event, NewFront, after, front_of};
 ghost use Rattle.decision_book.specs.declared.call.Call.{Call};
-ghost use Rattle.decision_desk.specs.Accounts.{front_of};
 ghost use Rattle.decision_desk.specs.Turns.{IsSeatOf, seen_book, helm_view};
 ghost use Rattle.decision_desk.specs.Passes.{IsHelmAtRest, IsHelmInTurn, HelmHasTurn, IsNextTurn, IsMissedTurn};
 ghost use Rattle.decision_desk.specs.Leasts.{leasts_of};

@@ -1,8 +1,9 @@
 //! The steps of a turn: a ticket lock over the words and the slot of a table.
 ghost use Rattle.std.specs.Prelude.{◌≡◌, ℕ, ◌%◌, ◌^◌, ◌<◌, ◌≤◌, [], ◌∷◌, List, length, true, false};
-ghost use Rattle.decision_book.specs.Journal.{Event, calls_of};
+ghost use mathlib.Core.List.{IsPrefix};
+ghost use Rattle.decision_book.specs.Journal.{Event, calls_of, front_of};
 ghost use Rattle.decision_book.specs.declared.call.TheConstants.{MOST_CALLS};
-ghost use Rattle.decision_desk.specs.Accounts.{Account, Begins, front_of};
+ghost use Rattle.decision_desk.specs.Accounts.{Account};
 ghost use Rattle.decision_desk.specs.Turns.{HasOneAccount, IsAtRest, IsSeatOf, IsWaiting, HasComeToTurn, HasTurnIf};
 ghost use Rattle.decision_desk.specs.Turns.{MayEndTurn, view_with_turn};
 ghost use Rattle.decision_desk.specs.Turns.{view_after_call, view_after_front, view_after_look, full_account};
@@ -239,7 +240,7 @@ pub fn look_at_front(board: &Board, seat: &mut Chair) -> u64
     requires pass { seat.old.me.0.steers ≡ false }
     requires account { HasOneAccount seat.old.me.0 }
     ensures table { seat.new.table_id ≡ seat.old.table_id }
-    ensures seen { (a : Account) → seat.old.me.0.accounts ≡ a ∷ [] → (j : List Event) × Begins seat.old.me.0.seen j
+    ensures seen { (a : Account) → seat.old.me.0.accounts ≡ a ∷ [] → (j : List Event) × IsPrefix seat.old.me.0.seen j
         × (result ≡ front_of j) × (seat.new.me ≡ (view_after_look seat.old.me.0 a j, seat.old.me.1))
         × (front_of seat.old.me.0.seen ≤ result) }
 {

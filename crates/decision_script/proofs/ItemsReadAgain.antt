@@ -11,7 +11,7 @@ use Rattle.decision_script.specs.declared.item.Act.{Act}
 use Rattle.decision_script.specs.declared.item.Item.{Item}
 use Rattle.sim_base.specs.Chain.{◌>>=◌}
 use Rattle.decision_script.specs.Sentences.{saying}
-use Rattle.decision_script.specs.Stating.{IsName, IsAct, IsItem, analyst_name}
+use Rattle.decision_script.specs.Stating.{IsAnalyst, IsName, IsAct, IsItem, analyst_name}
 use Rattle.decision_script.specs.declared.script.TheConstants.{MOST_ANALYSTS, MOST_ITEMS}
 use Rattle.decision_script.specs.Reading.{ReaderView, after_line, after_lines, after_saying}
 use Rattle.decision_script.specs.Reading.{at_line, analyst_place, in_section, new_reader}
@@ -100,8 +100,8 @@ pub record AreRead (before : ReaderView) (given : Result ReaderView ScriptFault)
 
 -- each analyst is the first of its name
 pub record AreKnown (analysts : List (List ℕ)) : Type 0 where
-  pub known : (a : ℕ) → 1 ≤ a → a ≤ length analysts → analyst_place (analyst_name analysts a) analysts ≡ Some (a - 1)
-  pub named : (a : ℕ) → 1 ≤ a → a ≤ length analysts → IsName (analyst_name analysts a)
+  pub known : (a : ℕ) → IsAnalyst (length analysts) a → analyst_place (analyst_name analysts a) analysts ≡ Some (a - 1)
+  pub named : (a : ℕ) → IsAnalyst (length analysts) a → IsName (analyst_name analysts a)
 
 -- the line of an item is read, where its analyst is in force, and then those of the others
 act_read : (line : ℕ) (r : ReaderView) (item : Item) (more : List Item) (rest : List (List ℕ)) → IsAct item.act
@@ -135,9 +135,9 @@ item_read : (line force : ℕ) (r : ReaderView) (item : Item) (more : List Item)
     ++ ([] ∷ []))) (item ∷ more)
 item_read line force r item more rest known e h few go true same = go line r.current (grind (arith, nat_tests))
 item_read line force r item more rest known e h few go false other =
-    let back : item.analyst - 1 + 1 ≡ item.analyst = omega (arith, h.low) in
+    let back : item.analyst - 1 + 1 ≡ item.analyst = omega (arith, h.analyst.low) in
     let section = after_known line r (analyst_name r.analysts item.analyst) (item.analyst - 1)
-    (known.named item.analyst h.low h.high) (known.known item.analyst h.low h.high) in
+    (known.named item.analyst h.analyst) (known.known item.analyst h.analyst) in
     let read = go (line + 1) (item.analyst - 1 + 1) back in
     record {
       after = read.after;
@@ -181,7 +181,7 @@ one_item_words : (analysts : List (List ℕ)) (item : Item) (rest : List (List (
     (cond b [] (words_of_section (analyst_name analysts item.analyst) ∷ []) ++ (words_of_act item.act ∷ rest))
 one_item_words analysts item rest known h all true = (act_words item.act h.act, all)
 one_item_words analysts item rest known h all false = (
-  section_words (analyst_name analysts item.analyst) (known.named item.analyst h.low h.high),
+  section_words (analyst_name analysts item.analyst) (known.named item.analyst h.analyst),
   (act_words item.act h.act, all),
 )
 

@@ -4,6 +4,7 @@ use Rattle.std.proofs.Common.{List, [], ◌∷◌, ◌++◌, length, map, arith,
 use Rattle.std.specs.List.{AllByRecursion, flat_map, join_with_byte}
 use Rattle.std.proofs.lemmas.Bool.Decides.{nat_tests}
 use Rattle.std.proofs.lemmas.List.Concat.{flat_map-append}
+use Rattle.sim_base.specs.Params.{words_of_change}
 use Rattle.sim_base.specs.declared.name.TheConstants.{LONGEST_NAME}
 use Rattle.sim_base.specs.declared.decision.Decision.TheVariants.{Fork, Set, End}
 use Rattle.sim_base.specs.declared.message.Param.{Param}
@@ -12,8 +13,8 @@ use Rattle.decision_script.specs.declared.item.Act.{Act}
 use Rattle.decision_script.specs.declared.item.Act.TheVariants.{Decide, Look}
 use Rattle.decision_script.specs.declared.item.Item.{Item}
 use Rattle.decision_script.specs.Stating.{IsAct, IsItem, IsName, analyst_name}
-use Rattle.decision_script.specs.Printing.{item_lines, line_text, section_before}
-use Rattle.decision_script.specs.Printing.{words_of_act, words_of_change, words_of_section}
+use Rattle.decision_script.specs.Printing.{item_lines, line_text, longest_item, section_before}
+use Rattle.decision_script.specs.Printing.{words_of_act, words_of_section}
 use Rattle.decision_script.proofs.ItemsReadAgain.{AreKnown, AreNew}
 use Rattle.decision_script.proofs.Saying.{act_words, section_words}
 use Rattle.decision_script.proofs.Words.{IsWord}
@@ -81,13 +82,13 @@ section_before_length analysts item known h false =
     omega (
       arith,
       length-append (line_text (words_of_section (analyst_name analysts item.analyst))) [],
-      section_length (analyst_name analysts item.analyst) (known.named item.analyst h.low h.high),
+      section_length (analyst_name analysts item.analyst) (known.named item.analyst h.analyst),
     )
 
--- and the lines of each item have at most 172, with its section
+-- and the lines of an item, with its section, at most `longest_item`
 pub items_length : (analysts : List (List ℕ)) (force : ℕ) (items : List Item) → AreKnown analysts
     → AllByRecursion (IsItem (length analysts)) items
-    → length (flat_map line_text (item_lines analysts force items)) ≤ 172 * length items
+    → length (flat_map line_text (item_lines analysts force items)) ≤ longest_item * length items
 items_length analysts force [] known h = omega arith
 items_length analysts force (i ∷ is) known h =
     let rest = flat_map line_text (item_lines analysts i.analyst is) in
@@ -95,7 +96,7 @@ items_length analysts force (i ∷ is) known h =
     (words_of_act i.act ∷ item_lines analysts i.analyst is) in
     let first = section_before_length analysts i known h.0 (i.analyst == force) in
     let longer : length (flat_map line_text (section_before analysts force i)
-    ++ (line_text (words_of_act i.act) ++ rest)) ≤ 172 * length (i ∷ is)
+    ++ (line_text (words_of_act i.act) ++ rest)) ≤ longest_item * length (i ∷ is)
     = omega (
       arith,
       first,

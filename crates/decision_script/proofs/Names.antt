@@ -1,5 +1,5 @@
 -- The names of analysts, each of which is the first of its name.
-use Rattle.std.proofs.Common.{◌≡◌, ℕ, ◌-◌, ◌<◌, ◌≤◌, Bool, true, false, List, [], ◌∷◌}
+use Rattle.std.proofs.Common.{◌≡◌, ℕ, ◌-◌, ◌<◌, Bool, true, false, List, [], ◌∷◌}
 use Rattle.std.proofs.Common.{◌++◌, length, get_or, refl, sym, subst, arith, Some, None, append_assoc, length-append}
 use Rattle.std.specs.List.{All, position_or_len}
 use Rattle.std.specs.Str.{bytes_eq}
@@ -11,7 +11,7 @@ use Rattle.std.proofs.lemmas.Option.{unwrap_or-slice_get}
 use Rattle.std.proofs.lemmas.Slice.Eq.{bytes_eq-Decides}
 use Rattle.std.proofs.Math.Seq.{get_or-append_seam}
 use Rattle.sim_base.specs.Names.{AreDistinct}
-use Rattle.decision_script.specs.Stating.{IsName, analyst_name}
+use Rattle.decision_script.specs.Stating.{IsAnalyst, IsName, analyst_name}
 use Rattle.decision_script.specs.Reading.{analyst_place}
 use Rattle.decision_script.proofs.ItemsReadAgain.{AreNew, AreKnown}
 
@@ -44,12 +44,14 @@ are_new before (name ∷ more) h named = (
 -- and each is the first of its name
 pub are_known : (names : List (List ℕ)) → AreDistinct names → All IsName names → AreKnown names
 are_known names h named = record {
-  known = λ a low high. known a low high;
-  named = λ a low high. rw (unwrap_or-slice_get names (a - 1) []) (named (a - 1) [] (omega arith));
+  known = λ a is. known a is;
+  named = λ a is. rw (unwrap_or-slice_get names (a - 1) []) (named (a - 1) [] (omega (arith, is.low, is.high)));
 }
   where
-    known : (a : ℕ) → 1 ≤ a → a ≤ length names → analyst_place (analyst_name names a) names ≡ Some (a - 1)
-    known a low high =
+    known : (a : ℕ) → IsAnalyst (length names) a → analyst_place (analyst_name names a) names ≡ Some (a - 1)
+    known a is =
+        let low = is.low in
+        let high = is.high in
         let name = analyst_name names a in
         let p : List ℕ → Bool = λ x. bytes_eq x name in
         let at : get_or names (a - 1) [] ≡ name = sym (unwrap_or-slice_get names (a - 1) []) in

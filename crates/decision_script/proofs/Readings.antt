@@ -1,5 +1,5 @@
 -- What a reading keeps.
-use Rattle.std.proofs.Common.{◌≡◌, ℕ, ◌+◌, ◌<◌, ◌≤◌, ◌&&◌, ◌==◌, Bool, true, false, nat_lt}
+use Rattle.std.proofs.Common.{◌≡◌, ℕ, ◌+◌, ◌<◌, ◌&&◌, ◌==◌, Bool, true, false, nat_lt}
 use Rattle.std.proofs.Common.{nat_le, cond, List, [], ◌∷◌, ◌++◌, length, refl, arith, subst, Option, Some}
 use Rattle.std.proofs.Common.{None, Ok, Err, Result, codes, slice_get, IfOk, eqb-true}
 use Rattle.std.specs.Option.{ok_or}
@@ -27,12 +27,11 @@ use Rattle.decision_script.specs.declared.item.Item.{Item}
 use Rattle.decision_script.specs.declared.line.Meaning.{Meaning}
 use Rattle.decision_script.specs.declared.line.Meaning.TheVariants.{Nothing, Section, Says}
 use Rattle.decision_script.specs.Lines.{has_number_form, is_ascii, words, lines}
-use Rattle.sim_base.specs.Chain.{◌>>=◌}
 use Rattle.decision_script.specs.Sentences.{where_form, with_values, word_number, param_of, one_value, two_values}
 use Rattle.decision_script.specs.Sentences.{change_of, section, look, fork, end, set}
 use Rattle.decision_script.specs.Sentences.{after_analyst, after_look, after_fork, after_end, after_set, sentence}
 use Rattle.decision_script.specs.Sentences.{begins_comment, saying, line_saying}
-use Rattle.decision_script.specs.Stating.{Fits32, IsName, IsChange, IsAct, IsItem, IsScript}
+use Rattle.decision_script.specs.Stating.{Fits32, IsAnalyst, IsName, IsChange, IsAct, IsItem, IsScript}
 use Rattle.sim_base.specs.declared.number.TheConstants.{MOST_DIGITS}
 use Rattle.decision_script.specs.declared.number.TheConstants.{MOST_NUMBER}
 use Rattle.decision_script.specs.declared.script.TheConstants.{MOST_ANALYSTS, MOST_ITEMS}
@@ -230,8 +229,7 @@ at_line-holds n (Err e) h = tt
 -- what has been read is a script, and its analyst in force is there
 record IsReading (r : ReaderView) : Type 0 where
   pub script : IsScript (script_of r)
-  pub low : 1 ≤ r.current
-  pub high : r.current ≤ length r.analysts
+  pub current : IsAnalyst (length r.analysts) r.current
 
 -- the first analyst stays the first
 first_stays : (xs : List (List ℕ)) (y x : List ℕ) → slice_get xs 0 ≡ Some x → slice_get (xs ++ y ∷ []) 0 ≡ Some x
@@ -240,7 +238,10 @@ first_stays (z ∷ zs) y x h = h
 
 -- an item of one of the analysts is so among one more
 more_analysts : (n : ℕ) (i : Item) → IsItem n i → IsItem (n + 1) i
-more_analysts n i h = record { low = h.low; high = omega (arith, h.high); act = h.act }
+more_analysts n i h = record {
+  analyst = record { low = h.analyst.low; high = omega (arith, h.analyst.high) };
+  act = h.act;
+}
 
 -- a new analyst keeps it so
 new_analyst : (r : ReaderView) (name : List ℕ) → IsReading r → IsName name → analyst_place name r.analysts ≡ None
@@ -259,8 +260,7 @@ new_analyst r name h n none few =
         valid = rw long (All-weaker (IsItem (length r.analysts)) (IsItem (length r.analysts + 1))
             (more_analysts (length r.analysts)) r.items h.script.valid);
       };
-      low = omega arith;
-      high = omega (arith, long);
+      current = record { low = omega arith; high = omega (arith, long) };
     }
 
 -- so does a known one in force
@@ -268,8 +268,7 @@ known_analyst : (r : ReaderView) (i : ℕ) → IsReading r → i < length r.anal
     → IsReading (record r { current = i + 1 })
 known_analyst r i h there = record {
   script = h.script;
-  low = omega arith;
-  high = omega arith;
+  current = record { low = omega arith; high = omega arith };
 }
 
 -- so does a section
@@ -295,10 +294,9 @@ new_item line r act h is few =
         few_analysts = h.script.few_analysts;
         few_items = omega (arith, long);
         valid = All-push (IsItem (length r.analysts)) r.items item h.script.valid
-            (record { low = h.low; high = h.high; act = is });
+            (record { analyst = h.current; act = is });
       };
-      low = h.low;
-      high = h.high;
+      current = h.current;
     }
 
 -- and whatever a line says
@@ -338,8 +336,7 @@ new_reader_is_reading = record {
     few_items = omega arith;
     valid = All-nil (IsItem 1);
   };
-  low = omega arith;
-  high = omega arith;
+  current = record { low = omega arith; high = omega arith };
 }
 
 -- what a text states is a script

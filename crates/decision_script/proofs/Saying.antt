@@ -4,6 +4,7 @@ use Rattle.std.specs.List.{list_all, AllByRecursion}
 use Rattle.std.proofs.lemmas.Bool.{and_parts}
 use Rattle.std.proofs.lemmas.Bool.Decides.{nat_tests}
 use Rattle.sim_base.specs.Names.{is_lower, is_name_byte}
+use Rattle.sim_base.specs.Params.{words_of_change}
 use Rattle.sim_base.specs.declared.name.TheConstants.{LONGEST_NAME}
 use Rattle.sim_base.specs.declared.decision.Decision.TheVariants.{Fork, Set, End}
 use Rattle.sim_base.specs.declared.message.Param.{Param}
@@ -13,7 +14,7 @@ use Rattle.decision_script.specs.declared.item.Act.TheVariants.{Decide, Look}
 use Rattle.decision_script.specs.declared.line.Meaning.TheVariants.{Says, Section}
 use Rattle.decision_script.specs.Sentences.{saying, section, look, fork, end, set, one_value, two_values}
 use Rattle.decision_script.specs.Stating.{Fits32, IsName, IsChange, IsAct}
-use Rattle.decision_script.specs.Printing.{words_of_act, words_of_change, words_of_section}
+use Rattle.decision_script.specs.Printing.{words_of_act, words_of_section}
 use Rattle.decision_script.proofs.Numbers.{word_number-decimal, decimal_is_word}
 use Rattle.decision_script.proofs.Words.{is_letter, IsWord, list_all-weaker}
 

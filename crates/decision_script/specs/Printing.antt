@@ -3,20 +3,11 @@ use Rattle.std.specs.Prelude.{ℕ, ◌==◌, codes, if◌then◌else◌, List, [
 use Rattle.std.specs.List.{join_with_byte, flat_map}
 use Rattle.sim_base.specs.declared.decision.Decision.{Decision}
 use Rattle.sim_base.specs.declared.decision.Decision.TheVariants.{Fork, Set, End}
-use Rattle.sim_base.specs.declared.message.Param.{Param}
-use Rattle.sim_base.specs.Params.{param_word, param_values}
+use Rattle.sim_base.specs.Params.{words_of_change}
 use Rattle.decision_script.specs.declared.item.Act.{Act}
 use Rattle.decision_script.specs.declared.item.Act.TheVariants.{Decide, Look}
 use Rattle.decision_script.specs.declared.item.Item.{Item}
 use Rattle.decision_script.specs.Stating.{ScriptView, analyst_name}
-
--- one value or two
-abbrev pub value_words : ℕ → ℕ → ℕ → List (List ℕ)
-value_words count a b = if count == 1 then decimal a ∷ [] else (decimal a ∷ decimal b ∷ [])
-
--- a parameter and its values
-abbrev pub words_of_change : Param → ℕ → ℕ → List (List ℕ)
-words_of_change param a b = param_word param ∷ value_words (param_values param) a b
 
 -- the words of a decision's line
 abbrev pub words_of_decision : Decision → List (List ℕ)
@@ -52,6 +43,10 @@ script_lines s = map words_of_section (drop 1 s.analysts) ++ item_lines s.analys
 -- words with one space between them, and a line feed
 abbrev pub line_text : List (List ℕ) → List ℕ
 line_text words = join_with_byte 32 words ++ 10 ∷ []
+
+-- how many bytes the line of an item has at most, with a section line before it
+abbrev pub longest_item : ℕ
+longest_item = 172
 
 -- the canonical text of a script: its lines, one after the other
 unfoldable pub canonical_text : ScriptView → List ℕ

@@ -2,6 +2,7 @@
 use Rattle.std.specs.Prelude.{ℕ, ◌+◌, nat_lt, codes, if◌then◌else◌, List, [], ◌∷◌, ◌++◌}
 use Rattle.std.specs.Prelude.{length, position, Option, Some, None, Result, Ok, Err}
 use Rattle.std.specs.Str.{bytes_eq}
+use Rattle.sim_base.specs.declared.limits.TheConstants.{MOST_FILE_BYTES}
 use Rattle.decision_script.specs.declared.item.Act.{Act}
 use Rattle.decision_script.specs.declared.item.Item.{Item}
 use Rattle.decision_script.specs.declared.line.Meaning.{Meaning}
@@ -11,7 +12,7 @@ use Rattle.decision_script.specs.declared.fault.LineFault.TheVariants as broken
 use Rattle.decision_script.specs.declared.fault.ScriptFault.{ScriptFault}
 use Rattle.decision_script.specs.declared.fault.ScriptFault.TheVariants.{TooLong, NotAscii, BadLine, BadNumber}
 use Rattle.decision_script.specs.declared.fault.ScriptFault.TheVariants.{TooManyLines, TooManyAnalysts, NoMemory}
-use Rattle.decision_script.specs.declared.script.TheConstants.{MOST_BYTES, MOST_ANALYSTS, MOST_ITEMS}
+use Rattle.decision_script.specs.declared.script.TheConstants.{MOST_ANALYSTS, MOST_ITEMS}
 use Rattle.decision_script.specs.Lines.{lines}
 use Rattle.sim_base.specs.Chain.{◌>>=◌}
 use Rattle.decision_script.specs.Sentences.{line_saying}
@@ -77,5 +78,5 @@ script_of r = record { analysts = r.analysts; items = r.items }
 
 -- what a text states, or the first rule that it breaks
 abbrev pub script : List ℕ → Result ScriptView ScriptFault
-script text = if nat_lt MOST_BYTES (length text) then Err TooLong else (after_lines 1 new_reader (lines text) >>= λ r.
-    Ok (script_of r))
+script text = if nat_lt MOST_FILE_BYTES (length text) then Err TooLong
+    else (after_lines 1 new_reader (lines text) >>= λ r. Ok (script_of r))

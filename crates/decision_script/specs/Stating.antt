@@ -46,10 +46,14 @@ abbrev pub IsAct : Act → Type 0
 IsAct (Decide decision) = IsDecision decision
 IsAct (Look who station) = IsName who × IsName station
 
+-- one of so many analysts has this number
+pub record IsAnalyst (analysts number : ℕ) : Type 0 where
+  pub low : 1 ≤ number
+  pub high : number ≤ analysts
+
 -- an item of one of so many analysts
 pub record IsItem (analysts : ℕ) (item : Item) : Type 0 where
-  pub low : 1 ≤ item.analyst
-  pub high : item.analyst ≤ analysts
+  pub analyst : IsAnalyst analysts item.analyst
   pub act : IsAct item.act
 
 -- the first analyst is main, no two have one name, and nothing is more than a script may have

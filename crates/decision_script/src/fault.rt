@@ -9,7 +9,7 @@ use std::alloc::{AllocError, AllocFailed};
 /// breaks one, from 1.
 #[derive(Clone, Copy, Debug, PartialEq, Eq)]
 pub enum ScriptFault {
-    /// More bytes than [`MOST_BYTES`](crate::MOST_BYTES).
+    /// More bytes than [`MOST_FILE_BYTES`](sim_base::MOST_FILE_BYTES).
     TooLong,
     /// A byte of 128 or more, also in a comment.
     NotAscii { line: u32 },

@@ -46,4 +46,4 @@ pub use item::{Act, Item};
 pub use one_clone::alone;
 pub use print::{print_script, push_decision};
 pub use read::read_script;
-pub use script::{MOST_ANALYSTS, MOST_BYTES, MOST_ITEMS, Script};
+pub use script::{MOST_ANALYSTS, MOST_ITEMS, Script};

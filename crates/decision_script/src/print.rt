@@ -1,8 +1,10 @@
 //! The canonical text of a script.
 ghost use Rattle.std.specs.Prelude.{◌≡◌, ◌++◌, ◌∷◌, [], ◌≤◌, drop, length, map, OnOk, IfOk, decimal, codes};
 ghost use Rattle.std.specs.List.{All, flat_map, join_with_byte};
+ghost use Rattle.sim_base.specs.Params.{words_of_change};
 ghost use Rattle.decision_script.specs.Printing.{canonical_text, item_lines, line_text, section_before};
-ghost use Rattle.decision_script.specs.Printing.{words_of_act, words_of_change, words_of_decision, words_of_section};
+ghost use Rattle.decision_script.specs.Printing.{words_of_act, words_of_decision, words_of_section};
+ghost use Rattle.decision_script.specs.Stating.{IsAnalyst};
 ghost use Rattle.decision_script.specs.declared.script.TheConstants.{MOST_ANALYSTS};
 
 use crate::item::{Act, Item};
@@ -159,8 +161,7 @@ fn push_section_before(
     force: u32,
     item: &Item,
 ) -> Result<(), NoMemory>
-    requires low { 1 ≤ item.now.analyst }
-    requires high { item.now.analyst ≤ length analysts.now }
+    requires there { IsAnalyst (length analysts.now) item.now.analyst }
     ensures value { OnOk result (out.new.items ≡ out.old.items
         ++ flat_map line_text (section_before analysts.now force item.now)) }
 {
@@ -172,7 +173,7 @@ fn push_section_before(
 
 fn push_items(out: &mut Vec<u8>, analysts: &[Name], items: &[Item]) -> Result<(), NoMemory>
     requires few { length analysts.now ≤ MOST_ANALYSTS }
-    requires there { All (λ i. (1 ≤ i.analyst) × (i.analyst ≤ length analysts.now)) items.now }
+    requires there { All (λ i. IsAnalyst (length analysts.now) i.analyst) items.now }
     ensures value { OnOk result (out.new.items ≡ out.old.items
         ++ flat_map line_text (item_lines analysts.now (length analysts.now) items.now)) }
 {

@@ -1,14 +1,15 @@
 //! Reads a script.
 ghost use Rattle.std.specs.Prelude.{◌≡◌, ◌≢◌, ◌≤◌, length, codes, Ok, Err, IfOk, IfErr};
 ghost use Rattle.std.specs.Str.Lines.{strip_carriage_return};
+ghost use Rattle.sim_base.specs.declared.limits.TheConstants.{MOST_FILE_BYTES};
 ghost use Rattle.decision_script.specs.Lines.{is_newline, lines};
 ghost use Rattle.decision_script.specs.Reading.{after_lines, fault_at, script, new_reader};
 
 use crate::fault::{LineFault, ScriptFault};
 use crate::item::{Act, Item, push_item};
 use crate::line::{Meaning, saying_of_line};
-use crate::script::{MOST_ANALYSTS, MOST_BYTES, MOST_ITEMS, Script};
-use sim_base::Name;
+use crate::script::{MOST_ANALYSTS, MOST_ITEMS, Script};
+use sim_base::{MOST_FILE_BYTES, Name};
 use std::alloc::Global;
 use std::marker::Model;
 
@@ -158,7 +159,7 @@ fn ends_line(byte: u8) -> bool
 }
 
 fn read_lines(alloc: Global, text: &[u8]) -> Result<Reader, ScriptFault>
-    requires short { length text.now ≤ MOST_BYTES }
+    requires short { length text.now ≤ MOST_FILE_BYTES }
     ensures ok { IfOk result (λ r. after_lines 1 new_reader (lines text.now) ≡ Ok r) }
     ensures refused { IfErr result (λ e. e ≢ ScriptFault.NoMemory → after_lines 1 new_reader (lines text.now) ≡ Err e) }
 {
@@ -181,7 +182,7 @@ pub fn read_script(alloc: Global, text: &[u8]) -> Result<Script, ScriptFault>
     // or the first rule that it breaks; only out of memory says nothing of the text
     ensures refused { IfErr result (λ e. e ≢ ScriptFault.NoMemory → script text.now ≡ Err e) }
 {
-    if text.len() > MOST_BYTES {
+    if text.len() > MOST_FILE_BYTES {
         return Err(ScriptFault::TooLong);
     }
     match read_lines(alloc, text) {

@@ -1,15 +1,13 @@
 //! A script: the analysts of a text, and what they ask for in order, each item with its line and its analyst.
 //!
 //! Lines and analysts are numbered from 1, items from 0. Analyst 1 is `main`.
-ghost use Rattle.std.specs.Prelude.{◌≡◌, ◌<◌, ◌≤◌, [], length, slice_get, Some, IsTrue, ◌↔◌};
-ghost use Rattle.decision_script.specs.Stating.{analyst_name};
+ghost use Rattle.std.specs.Prelude.{◌≡◌, ◌<◌, [], length, slice_get, Some, IsTrue, ◌↔◌};
+ghost use Rattle.decision_script.specs.Stating.{IsAnalyst, analyst_name};
 
 use crate::item::Item;
-use sim_base::{MOST_FILE_BYTES, Name};
+use sim_base::Name;
 use std::marker::Model;
 
-/// How many bytes a text may have.
-pub const MOST_BYTES: usize = MOST_FILE_BYTES;
 /// How many analysts may act in a script, `main` among them.
 pub const MOST_ANALYSTS: usize = sim_base::limits::MOST_ANALYSTS as usize;
 /// How many decisions and looks a script may have.
@@ -69,8 +67,7 @@ impl Script {
 
     /// The name of the analyst of a number, from 1, which is that of `main`.
     pub fn analyst(&self, a: u32) -> Name
-        requires low { 1 ≤ a }
-        requires high { a ≤ length self.now.analysts }
+        requires there { IsAnalyst (length self.now.analysts) a }
         ensures value { result ≡ analyst_name self.now.analysts a }
         ensures valid { IsScript self.now }
     {

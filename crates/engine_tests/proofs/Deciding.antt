@@ -29,9 +29,12 @@ world_accepts book world d h is =
 -- and is abreast of it then
 pub abreast_after : (book more : BookView) (world then : WorldView) (d : Decision) → AreAbreast book world
     → reply (after book.net book.events) d ≡ Accepted → more.net ≡ book.net
-    → after book.net more.events ≡ after_decision (after book.net book.events) d → then.net ≡ world.net
-    → then.front ≡ world.front → then.clones ≡ clones_after world.net world.clones d → AreAbreast more then
-abreast_after book more world then d h is of on net front clones =
+    → after book.net more.events ≡ after_decision (after book.net book.events) d
+    → then ≡ record world { clones = clones_after world.net world.clones d } → AreAbreast more then
+abreast_after book more world then d h is of on taken =
+    let net : then.net ≡ world.net = ap (λ (w : WorldView). w.net) taken in
+    let front : then.front ≡ world.front = ap (λ (w : WorldView). w.front) taken in
+    let clones : then.clones ≡ clones_after world.net world.clones d = ap (λ (w : WorldView). w.clones) taken in
     let s : Situation = after book.net book.events in
     let now : after more.net more.events ≡ record s { clones = clones_after s.net s.clones d; calls = s.calls + 1 } =
     ap (λ (n : Net). after n more.events) of ∙ on ∙ after_decision-accepted s d is in

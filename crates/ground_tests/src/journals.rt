@@ -1,5 +1,6 @@
 //! The texts of journals, as people expect them.
-ghost use Rattle.std.specs.Prelude.{◌≡◌, ◌≤◌, All, length, true};
+ghost use Rattle.std.specs.Prelude.{◌≡◌, All, length, true};
+ghost use Rattle.decision_script.specs.Stating.{IsAnalyst};
 
 use crate::lines::decision;
 use decision_book::{Call, Reply};
@@ -61,14 +62,14 @@ fn call<R: Abort>(
 }
 
 fn are_callers(script: &Script, calls: &[Call]) -> bool
-    ensures { result ≡ true → All (λ c. (1 ≤ c.caller) × (c.caller ≤ length script.now.analysts)) calls.now }
+    ensures { result ≡ true → All (λ c. IsAnalyst (length script.now.analysts) c.caller) calls.now }
 {
     let many = script.analysts();
     calls.iter().all(|c| 1 <= c.caller && c.caller <= many)
 }
 
 fn are_lookers(script: &Script, looks: &[Looked]) -> bool
-    ensures { result ≡ true → All (λ l. (1 ≤ l.analyst) × (l.analyst ≤ length script.now.analysts)) looks.now }
+    ensures { result ≡ true → All (λ l. IsAnalyst (length script.now.analysts) l.analyst) looks.now }
 {
     let many = script.analysts();
     looks.iter().all(|l| 1 <= l.analyst && l.analyst <= many)

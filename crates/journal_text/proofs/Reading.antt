@@ -9,7 +9,7 @@ use Rattle.decision_script.specs.declared.item.Act.{Act}
 use Rattle.decision_script.specs.declared.item.Act.TheVariants.{Decide}
 use Rattle.decision_script.specs.declared.item.Item.{Item}
 use Rattle.decision_script.specs.declared.script.TheConstants.{MOST_ANALYSTS, MOST_ITEMS}
-use Rattle.decision_script.specs.Stating.{IsDecision, IsName, analyst_name}
+use Rattle.decision_script.specs.Stating.{IsAnalyst, IsDecision, IsName, analyst_name}
 use Rattle.decision_script.specs.Reading.{ReaderView, after_line, after_lines}
 use Rattle.decision_script.specs.Printing.{words_of_decision, words_of_section}
 use Rattle.decision_script.specs.Alone.{decisions, decisions_onto}
@@ -20,7 +20,6 @@ use Rattle.decision_book.specs.declared.call.Call.{Call}
 use Rattle.decision_book.specs.declared.call.Reply.TheVariants.{Accepted}
 use Rattle.decision_book.specs.Journal.{Event, NewFront, NewCall, calls_of}
 use Rattle.decision_book.specs.Scripts.{accepted_of, accepted_onto}
-use Rattle.journal_text.specs.JournalText.{IsAnalyst}
 use Rattle.journal_text.specs.Laws.{who_does, who_decided}
 use Rattle.journal_text.proofs.Lines.{IsRefused, accepted_or_refused, said_onto, joined, said_lines, said_onto-refused}
 use Rattle.journal_text.proofs.Sections.{IsInForce, missing, analyst_name-append, section_read}
@@ -59,15 +58,15 @@ with_item line r act = record r { items = r.items ++ (record { line = line; anal
 -- behind a decision
 ReadOn-decision : (analysts : List (List ℕ)) (line : ℕ) (r : ReaderView) (c : Call) (rest : List (List ℕ))
     (calls : List Call) → IsDecision c.decision → length r.items < MOST_ITEMS
-    → 1 ≤ r.current → r.current ≤ length r.analysts → analyst_name r.analysts r.current ≡ analyst_name analysts c.caller
+    → IsAnalyst (length r.analysts) r.current → analyst_name r.analysts r.current ≡ analyst_name analysts c.caller
     → ReadOn analysts (with_item line r (Decide c.decision))
     (after_lines (line + 1) (with_item line r (Decide c.decision)) rest) calls
     → ReadOn analysts r (after_lines line r (join_with_byte 32 (words_of_decision c.decision) ∷ rest)) (c ∷ calls)
-ReadOn-decision analysts line r c rest calls h few low high name m =
+ReadOn-decision analysts line r c rest calls h few is name m =
     let item : Item = record { line = line; analyst = r.current; act = Decide c.decision } in
     let same : analyst_name m.after.analysts r.current ≡ analyst_name analysts c.caller =
     ap (λ names. analyst_name names r.current) m.analysts_are
-    ∙ analyst_name-append r.analysts m.names r.current low high ∙ name in
+    ∙ analyst_name-append r.analysts m.names r.current is ∙ name in
     record {
       after = m.after;
       names = m.names;
@@ -104,7 +103,7 @@ events_read analysts line r [] most fits h few =
     }
 events_read analysts line r (NewFront f ∷ es) most fits h few = events_read analysts line r es most fits h few
 events_read analysts line r (NewCall c ∷ es) most fits h few =
-    let s = section_read analysts line r c.caller h.0.analyst.0 h.0.analyst.1 h.0.named most fits in
+    let s = section_read analysts line r c.caller h.0.analyst h.0.named most fits in
     let len : length s.next.items ≡ length r.items = ap length s.items in
     ReadOn-section analysts line r (analyst_name analysts c.caller)
     (join_with_byte 32 (words_of_section (analyst_name analysts c.caller)))
@@ -120,7 +119,7 @@ events_read analysts line r (NewCall c ∷ es) most fits h few =
     (after_lines (line + 1) s.next (joined (said_onto x c.decision (said_lines analysts es))))
     (accepted_onto x c (accepted_of (calls_of es)))) (sym e)
     (ReadOn-decision analysts (line + 1) s.next c (joined (said_lines analysts es))
-    (accepted_of (calls_of es)) h.0.decision (omega (arith, len, few)) s.low s.high s.name_is more))
+    (accepted_of (calls_of es)) h.0.decision (omega (arith, len, few)) s.current s.name_is more))
     (λ (e : IsRefused c.reply).
     let more = events_read analysts (line + 1) s.next es most s.fits h.1 (omega (arith, len, few)) in
     subst (λ ls. ReadOn analysts s.next (after_lines (line + 1) s.next (joined ls))

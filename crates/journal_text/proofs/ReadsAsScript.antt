@@ -2,8 +2,9 @@
 use Rattle.std.proofs.Common.{◌≡◌, ℕ, ◌<◌, ◌≤◌, List, [], ◌∷◌, length}
 use Rattle.std.proofs.Common.{map, Ok, Some, codes, slice_get, sym, ap, ◌∙◌, subst, arith}
 use Rattle.std.specs.List.{AllByRecursion, flat_map}
+use Rattle.sim_base.specs.declared.limits.TheConstants.{MOST_FILE_BYTES}
 use Rattle.net_model.specs.Net.{Net}
-use Rattle.decision_script.specs.declared.script.TheConstants.{MOST_ANALYSTS, MOST_BYTES}
+use Rattle.decision_script.specs.declared.script.TheConstants.{MOST_ANALYSTS}
 use Rattle.decision_script.specs.Stating.{Fits32, analyst_name}
 use Rattle.decision_script.specs.Printing.{line_text}
 use Rattle.decision_script.specs.Reading.{after_lines, new_reader, script, script_of as script_read}
@@ -32,7 +33,7 @@ calls_by analysts [] known h = tt
 calls_by analysts (c ∷ cs) known h = (
   record {
     analyst = h.0.analyst;
-    named = known.named c.caller h.0.analyst.0 h.0.analyst.1;
+    named = known.named c.caller h.0.analyst;
     decision = h.0.decision;
   },
   calls_by analysts cs known h.1,
@@ -57,7 +58,7 @@ IsScriptOf-main net more es known most right some_time small h =
     let said = without_comments-events_text analysts es (writable analysts es by (small_fronts net es right small)) in
     let r = events_read analysts 1 new_reader es most (main_is_there (codes "main") more) by (omega (arith, few)) in
     let text = flat_map line_text (said_lines analysts es) in
-    let short : length text ≤ MOST_BYTES = omega (arith, few, said_length analysts es known by) in
+    let short : length text ≤ MOST_FILE_BYTES = omega (arith, few, said_length analysts es known by) in
     let read : script text ≡ Ok (script_read r.after) =
     read_of_text text r.after short
     (ap (after_lines 1 new_reader) (lines-text (said_lines analysts es) (said_words analysts es by)) ∙ r.read) in

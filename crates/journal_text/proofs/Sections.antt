@@ -14,7 +14,7 @@ use Rattle.std.proofs.lemmas.Slice.Eq.{bytes_eq-Decides}
 use Rattle.sim_base.proofs.ListLaws.{none_passes}
 use Rattle.decision_script.specs.declared.fault.ScriptFault.{ScriptFault}
 use Rattle.decision_script.specs.declared.script.TheConstants.{MOST_ANALYSTS}
-use Rattle.decision_script.specs.Stating.{IsName, analyst_name}
+use Rattle.decision_script.specs.Stating.{IsAnalyst, IsName, analyst_name}
 use Rattle.decision_script.specs.Reading.{ReaderView, after_line, in_section, analyst_place}
 use Rattle.decision_script.specs.Printing.{words_of_section}
 use Rattle.decision_script.proofs.ItemsReadAgain.{after_section}
@@ -94,10 +94,11 @@ main_is_there main more =
 
 -- ---- analyst_name
 -- with more names behind them, the first have the numbers that they had
-pub analyst_name-append : (names more : List (List ℕ)) (a : ℕ) → 1 ≤ a → a ≤ length names
+pub analyst_name-append : (names more : List (List ℕ)) (a : ℕ) → IsAnalyst (length names) a
     → analyst_name (names ++ more) a ≡ analyst_name names a
-analyst_name-append names more a low high =
-    unwrap_or-slice_get (names ++ more) (a - 1) [] ∙ get_or_append_left names more [] (a - 1) (omega arith)
+analyst_name-append names more a is =
+    unwrap_or-slice_get (names ++ more) (a - 1) [] ∙ get_or_append_left names more [] (a - 1)
+    (omega (arith, is.low, is.high))
     ∙ sym (unwrap_or-slice_get names (a - 1) [])
 
 -- ---- after_line
@@ -109,8 +110,7 @@ pub record IsInForce (analysts : List (List ℕ)) (r : ReaderView) (name : List 
   pub read : given ≡ Ok next
   pub analysts_are : next.analysts ≡ r.analysts ++ names
   pub items : next.items ≡ r.items
-  pub low : 1 ≤ next.current
-  pub high : next.current ≤ length next.analysts
+  pub current : IsAnalyst (length next.analysts) next.current
   pub name_is : analyst_name next.analysts next.current ≡ name
   pub fits : length next.analysts + missing next.analysts analysts ≤ length analysts
 
@@ -129,8 +129,7 @@ IsInForce-place analysts line r name i named lt is few fits (Some k) at =
       read = after_section line r name named ∙ ap (in_section line r name) at;
       analysts_are = sym (append-nil r.analysts);
       items = refl;
-      low = omega arith;
-      high = omega (arith, within);
+      current = record { low = omega arith; high = omega (arith, within) };
       name_is = unwrap_or-slice_get r.analysts (k + 1 - 1) [] ∙ ap (λ n. get_or r.analysts n []) back
           ∙ (bytes_eq-Decides (get_or r.analysts k []) name).0 same;
       fits = fits;
@@ -147,19 +146,19 @@ IsInForce-place analysts line r name i named lt is few fits None at =
       read = after_section line r name named ∙ ap (in_section line r name) at ∙ rw free refl;
       analysts_are = refl;
       items = refl;
-      low = omega arith;
-      high = omega (arith, longer);
+      current = record { low = omega arith; high = omega (arith, longer) };
       name_is = unwrap_or-slice_get (r.analysts ++ name ∷ []) (length r.analysts + 1 - 1) []
           ∙ ap (λ n. get_or (r.analysts ++ name ∷ []) n []) back ∙ get_or-append_seam r.analysts name [] [];
       fits = omega (arith, longer, gone, fits);
     }
 
 -- the section of an analyst is read
-pub section_read : (analysts : List (List ℕ)) (line : ℕ) (r : ReaderView) (a : ℕ) → 1 ≤ a → a ≤ length analysts
-    → IsName (analyst_name analysts a) → length analysts ≤ MOST_ANALYSTS
+pub section_read : (analysts : List (List ℕ)) (line : ℕ) (r : ReaderView) (a : ℕ)
+    → IsAnalyst (length analysts) a → IsName (analyst_name analysts a) → length analysts ≤ MOST_ANALYSTS
     → length r.analysts + missing r.analysts analysts ≤ length analysts
     → IsInForce analysts r (analyst_name analysts a)
     (after_line line r (join_with_byte 32 (words_of_section (analyst_name analysts a))))
-section_read analysts line r a low high named few fits =
-    IsInForce-place analysts line r (analyst_name analysts a) (a - 1) named (omega arith)
+section_read analysts line r a is named few fits =
+    IsInForce-place analysts line r (analyst_name analysts a) (a - 1) named
+    (omega (arith, is.low, is.high))
     (sym (unwrap_or-slice_get analysts (a - 1) [])) few fits (analyst_place (analyst_name analysts a) r.analysts) refl

@@ -1,5 +1,5 @@
 -- The text of a journal: its calls and fronts as they stood, and then what the analysts saw at their looks.
-use Rattle.std.specs.Prelude.{ℕ, ◌≤◌, ◌++◌, List, length, Option, Some, None, codes, decimal}
+use Rattle.std.specs.Prelude.{ℕ, ◌++◌, List, length, Option, Some, None, codes, decimal}
 use Rattle.std.specs.List.{flat_map, join_with_byte}
 use Rattle.sim_base.specs.declared.decision.Decision.{Decision}
 use Rattle.phys_proc.specs.declared.rack.Glance.{Glance}
@@ -11,10 +11,6 @@ use Rattle.decision_book.specs.declared.call.Reply.TheVariants.{Accepted, Late}
 use Rattle.decision_book.specs.Numbers.{reply_number}
 use Rattle.decision_book.specs.Journal.{Event, NewFront, NewCall, calls_of, fronts_of}
 use Rattle.journal_text.specs.declared.looked.Looked.{Looked}
-
--- the number is that of one of so many analysts
-abbrev pub IsAnalyst : ℕ → ℕ → Type 0
-IsAnalyst many number = (1 ≤ number) × (number ≤ many)
 
 -- a decision, as a script writes it
 abbrev pub decision_text : Decision → List ℕ

@@ -7,14 +7,14 @@ use Rattle.decision_script.specs.declared.item.Act.TheVariants.{Decide}
 use Rattle.decision_script.specs.declared.item.Item.{Item}
 use Rattle.decision_script.specs.Lines.{is_newline}
 use Rattle.decision_script.specs.Sentences.{begins_comment}
-use Rattle.decision_script.specs.Stating.{Fits32, ScriptView, IsScript, IsDecision, analyst_name}
+use Rattle.decision_script.specs.Stating.{Fits32, ScriptView, IsAnalyst, IsScript, IsDecision, analyst_name}
 use Rattle.decision_script.specs.Reading.{script}
 use Rattle.decision_script.specs.Alone.{decisions}
 use Rattle.decision_book.specs.declared.call.Call.{Call}
 use Rattle.decision_book.specs.Journal.{Event, after, calls_of}
 use Rattle.decision_book.specs.Right.{IsRight}
 use Rattle.decision_book.specs.Scripts.{accepted_of, first_refusal, lists_of}
-use Rattle.journal_text.specs.JournalText.{IsAnalyst, events_text}
+use Rattle.journal_text.specs.JournalText.{events_text}
 
 -- a text without the lines that begin with '#'
 abbrev pub without_comments : List ℕ → List ℕ

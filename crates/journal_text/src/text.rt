@@ -1,9 +1,10 @@
 //! The text of a journal.
 ghost use Rattle.std.specs.Prelude.{◌≡◌, ◌++◌, [], length, map, OnOk, IfOk};
 ghost use Rattle.std.specs.List.{All, flat_map};
+ghost use Rattle.decision_script.specs.Stating.{IsAnalyst};
 ghost use Rattle.decision_book.specs.Journal.{NewFront, NewCall};
 ghost use Rattle.decision_book.specs.Books.{journal_from, journal_of};
-ghost use Rattle.journal_text.specs.JournalText.{IsAnalyst, call_line, event_text, events_text, found_text};
+ghost use Rattle.journal_text.specs.JournalText.{call_line, event_text, events_text, found_text};
 ghost use Rattle.journal_text.specs.JournalText.{glance_text, head_of, look_line, looks_text, refusal_text};
 ghost use Rattle.journal_text.specs.JournalText.{journal_text as text_of};
 

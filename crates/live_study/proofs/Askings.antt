@@ -1,15 +1,13 @@
 -- What one decision more does to what was asked.
-use Rattle.std.proofs.Common.{◌≡◌, ◌≢◌, ⊎_elim, ℕ, List, [], ◌∷◌, ◌++◌, length, true≢false}
-use Rattle.std.proofs.Common.{refl, sym, ap, ◌∙◌, subst, arith, length-append, Some, None}
+use Rattle.std.proofs.Common.{◌≡◌, ⊎_elim, ℕ, List, [], ◌∷◌, ◌++◌, length, true≢false}
+use Rattle.std.proofs.Common.{refl, sym, ap, ◌∙◌, subst, arith, length-append}
 use Rattle.sim_base.specs.declared.decision.Decision.{Decision}
 use Rattle.decision_book.specs.declared.call.Call.{Call}
-use Rattle.decision_book.specs.declared.call.TheConstants.{MOST_CALLS}
-use Rattle.decision_book.specs.declared.call.Reply.TheVariants.{Full}
-use Rattle.decision_book.specs.Journal.{Event, NewCall, call_of, calls_of}
+use Rattle.decision_book.specs.Journal.{Event, call_of, calls_of}
 use Rattle.decision_desk.specs.declared.pass.Receipt.{Receipt}
 use Rattle.decision_desk.specs.Accounts.{Account}
 use Rattle.decision_desk.specs.Turns.{with_call, full_account}
-use Rattle.decision_desk.specs.Passes.{PassView, IsAsked}
+use Rattle.decision_desk.specs.Passes.{PassView, IsAsked, HasEntered, HasFoundFull}
 use Rattle.live_study.specs.Asking.{decisions_in, AreAsked}
 
 -- ---- decisions_in
@@ -47,17 +45,14 @@ with_full ds a d s = record {
 pub asked_more : (ds : List Decision) (old new : PassView) (d : Decision) (receipt : Receipt) (j : List Event)
     → AreAsked ds old.account → IsAsked old d receipt new j
     → AreAsked (ds ++ d ∷ []) new.account × (new.desk ≡ old.desk) × (new.account.caller ≡ old.account.caller)
-asked_more ds old new d receipt j s a = ⊎_elim
-    (λ (h : (receipt.reply ≢ Full) × (receipt.entry ≡ Some (length (calls_of j)))
-    × (new ≡ record old {
-      seen = j ++ NewCall (call_of old.account.caller j d receipt.reply) ∷ [];
-      account = with_call old.account j (call_of old.account.caller j d receipt.reply);
-    })).
+asked_more ds old new d receipt j s a =
+    let Then : List Event → Account → Type 0 = λ events b. new ≡ record old { seen = events; account = b } in
+    ⊎_elim
+    (λ (h : HasEntered j old.account d receipt Then).
     subst (λ (n : PassView). AreAsked (ds ++ d ∷ []) n.account × (n.desk ≡ old.desk)
-    × (n.account.caller ≡ old.account.caller)) (sym h.2)
+    × (n.account.caller ≡ old.account.caller)) (sym h.3)
     (with_one ds old.account j (call_of old.account.caller j d receipt.reply) s, refl, refl))
-    (λ (h : (receipt.reply ≡ Full) × (receipt.entry ≡ None) × (length (calls_of j) ≡ MOST_CALLS)
-    × (new ≡ record old { seen = j; account = full_account old.account })).
+    (λ (h : HasFoundFull j old.account receipt Then).
     subst (λ (n : PassView). AreAsked (ds ++ d ∷ []) n.account × (n.desk ≡ old.desk)
     × (n.account.caller ≡ old.account.caller)) (sym h.3) (with_full ds old.account d s, refl, refl))
     a.outcome

@@ -17,10 +17,10 @@ use Rattle.live_study.specs.Scripts.{acts_by, each_acts, own_act}
 
 -- ---- acts_by
 -- one item more
-pub one_more : (a : ℕ) (items : List Item) (i : ℕ) (item : Item) (own : List Act) → i < length items
+pub acts_by-take : (a : ℕ) (items : List Item) (i : ℕ) (item : Item) (own : List Act) → i < length items
     → get_or items i item ≡ item → own ≡ acts_by a (take i items)
     → own ++ own_act a item ≡ acts_by a (take (i + 1) items)
-one_more a items i item own less is before =
+acts_by-take a items i item own less is before =
     let whole : take (i + 1) items ≡ take i items ++ item ∷ [] = take_next items i item less (sym is) in
     ap₂ (λ xs ys. xs ++ ys) before (sym (append-nil (own_act a item)))
     ∙ sym (flat_map-append (own_act a) (take i items) (item ∷ [])) ∙ ap (acts_by a) (sym whole)
@@ -36,8 +36,8 @@ own_length true act = omega arith
 own_length false act = omega arith
 
 -- an item gives an analyst one act at most, and none where it is another's
-pub one_own : (a : ℕ) (item : Item) → length (own_act a item) ≤ one_if (nat_eq item.analyst a)
-one_own a item = own_length (nat_eq item.analyst a) item.act
+pub length-own_act : (a : ℕ) (item : Item) → length (own_act a item) ≤ one_if (nat_eq item.analyst a)
+length-own_act a item = own_length (nat_eq item.analyst a) item.act
 
 -- what is 1 where something is so, and else 0, is at most 1
 pub at_most_one : (b : Bool) → one_if b ≤ 1
@@ -50,7 +50,7 @@ pub few_by : (a : ℕ) (items : List Item) → length (acts_by a items) ≤ leng
 few_by a [] = omega arith
 few_by a (i ∷ is) = omega (
   arith,
-  one_own a i,
+  length-own_act a i,
   at_most_one (nat_eq i.analyst a),
   few_by a is,
   length-append (own_act a i) (acts_by a is),

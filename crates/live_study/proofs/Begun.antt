@@ -24,7 +24,7 @@ use Rattle.live_study.specs.Asking.{decisions_asked, decisions_in, total_todo}
 use Rattle.live_study.specs.Engines.{InStep}
 use Rattle.live_study.specs.Lives.{IsAllAsked}
 use Rattle.live_study.specs.Scripts.{IsJournalOf, acts_by, each_acts, own_act}
-use Rattle.live_study.proofs.Beginning.{at_most_one, length-each_acts, one_if, one_own}
+use Rattle.live_study.proofs.Beginning.{at_most_one, length-each_acts, length-own_act, one_if}
 use Rattle.live_study.proofs.Counting.{accounts_are}
 
 -- ---- new_passes, each_acts
@@ -112,7 +112,7 @@ total_of-item i is (suc n) =
       arith,
       next,
       total_of-item i is n,
-      one_own (n + 1) i,
+      length-own_act (n + 1) i,
       length-append (own_act (n + 1) i) (acts_by (n + 1) is),
       total_of-push (each_acts (i ∷ is) n) (acts_by (n + 1) (i ∷ is)),
       total_of-push (each_acts is n) (acts_by (n + 1) is),
@@ -204,10 +204,10 @@ journal_of_script desk net s passes analysts book are new todo asked =
     record {
       net_is = asked.net_is;
       legal = asked.legal;
-      asked_all = λ a low high.
-          let back : a - 1 + 1 ≡ a = omega (arith, low) in
+      asked_all = λ a is.
+          let back : a - 1 + 1 ≡ a = omega (arith, is.low) in
           let p : PassView = new_pass desk net 0 in
-          let below : a - 1 < n = omega (arith, low, high) in
+          let below : a - 1 < n = omega (arith, is.low, is.high) in
           let caller : (get_or (map (λ (x : SeatedAnalyst). x.0.pass) analysts) (a - 1) p).account.caller ≡ a =
           ap (λ (q : PassView). q.account.caller) (ap (λ ps. get_or ps (a - 1) p) (are ∙ new)
           ∙ new_passes-at desk net n (a - 1) p below) ∙ back in

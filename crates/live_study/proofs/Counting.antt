@@ -8,10 +8,10 @@ use Rattle.net_model.specs.Net.{Net}
 use Rattle.decision_book.specs.declared.call.Call.{Call}
 use Rattle.decision_book.specs.declared.call.TheConstants.{MOST_CALLS}
 use Rattle.decision_book.specs.Books.{BookView}
-use Rattle.decision_book.specs.Journal.{Event, NewCall, calls_of, after}
+use Rattle.decision_book.specs.Journal.{Event, NewCall, calls_of, after, front_of}
 use Rattle.decision_book.specs.Right.{IsRight}
 use Rattle.decision_book.proofs.JournalScripts.{closed_changes_nothing}
-use Rattle.decision_desk.specs.Accounts.{Account, AreAccounts, accounts_of, calls_from, calls_by, front_of}
+use Rattle.decision_desk.specs.Accounts.{Account, AreAccounts, accounts_of, calls_from, calls_by}
 use Rattle.decision_desk.specs.Legal.{FrontsAreNext, IsLegal}
 use Rattle.decision_desk.specs.Passes.{HelmView, IsFinalBook, PassView}
 use Rattle.decision_desk.proofs.Journals.{front_calls}
@@ -136,12 +136,12 @@ all_asked desk events others' all right others few =
     )) (omega (arith, few))
 
 -- the index form of a fact on each analyst
-pub all_done : (desk : TableId) (others' : List SeatedAnalyst)
+pub AllDone-each : (desk : TableId) (others' : List SeatedAnalyst)
     → ((i : ℕ) (d : SeatedAnalyst) → i < length others' → IsDone desk (slice_index_or others' i d).0)
     → AllDone desk others'
-all_done desk [] each = tt
-all_done desk (a ∷ others') each =
-    (each 0 a (omega arith), all_done desk others' (λ i d less. each (suc i) d (omega (arith, less))))
+AllDone-each desk [] each = tt
+AllDone-each desk (a ∷ others') each =
+    (each 0 a (omega arith), AllDone-each desk others' (λ i d less. each (suc i) d (omega (arith, less))))
 
 -- ---- SameAt
 -- at each place is the same analyst, before a run and after it
@@ -189,12 +189,12 @@ todo_before (a ∷ old) (b ∷ new) len same =
 
 -- ---- a run that is closed
 -- the passes of analysts that have asked all are of the desk
-pub of_desk : (desk : TableId) (analysts : List SeatedAnalyst) → AllDone desk analysts → (k : ℕ) (d : PassView)
+pub AllDone-desk : (desk : TableId) (analysts : List SeatedAnalyst) → AllDone desk analysts → (k : ℕ) (d : PassView)
     → k < length (map (λ (a : SeatedAnalyst). a.0.pass) analysts)
     → (slice_index_or (map (λ (a : SeatedAnalyst). a.0.pass) analysts) k d).desk ≡ desk
-of_desk desk [] all k d less = absurd (omega (arith, less))
-of_desk desk (a ∷ more) all zero d less = all.0.desk_is
-of_desk desk (a ∷ more) all (suc k) d less = of_desk desk more all.1 k d (omega (arith, less))
+AllDone-desk desk [] all k d less = absurd (omega (arith, less))
+AllDone-desk desk (a ∷ more) all zero d less = all.0.desk_is
+AllDone-desk desk (a ∷ more) all (suc k) d less = AllDone-desk desk more all.1 k d (omega (arith, less))
 
 -- the accounts of the analysts' passes are the accounts of the analysts
 pub accounts_are : (analysts : List SeatedAnalyst)
@@ -237,7 +237,7 @@ pub asked_in : (desk : TableId) (helm0 helm1 : HelmView) (old new : List SeatedA
     → IsAllAsked helm0.net old book
 asked_in desk helm0 helm1 old new passes book steers fresh are closed right fronts len done same few =
     let l = all_asked_in desk helm0 helm1 new passes book steers fresh are closed
-    (all_done desk new (λ i d less. done i d (omega (arith, less, len))))
+    (AllDone-each desk new (λ i d less. done i d (omega (arith, less, len))))
     (omega (arith, few, todo_before old new len same)) right fronts in
     record {
       net_is = l.net_is;

@@ -1,5 +1,5 @@
 -- What one act more does to what was asked and looked at.
-use Rattle.std.proofs.Common.{◌≡◌, ℕ, ◌+◌, ◌<◌, ◌≤◌, List, [], ◌∷◌, ◌++◌, length, map, Option, Some}
+use Rattle.std.proofs.Common.{◌≡◌, ℕ, ◌<◌, ◌≤◌, List, [], ◌∷◌, ◌++◌, length, map, Option, Some}
 use Rattle.std.proofs.Common.{None, IfSome, sym, ap, ap₂, ◌∙◌, subst, arith}
 use Rattle.std.proofs.Common.{length-append, append-nil}
 use Rattle.std.specs.List.{AllByRecursion}
@@ -8,7 +8,7 @@ use Rattle.std.proofs.lemmas.List.Concat.{flat_map-append}
 use Rattle.std.proofs.lemmas.Option.{same_Some}
 use mathlib.Core.List.{IsPrefix}
 use Rattle.atomic_table.specs.Seated.{TableId}
-use Rattle.sim_base.proofs.ListLaws.{all_push, all_weaker}
+use Rattle.sim_base.proofs.ListLaws.{all_push, all_weaker, prefix_trans}
 use Rattle.sim_base.specs.declared.decision.Decision.{Decision}
 use Rattle.net_model.specs.Net.{Net, station_named}
 use Rattle.decision_script.specs.declared.item.Act.{Act}
@@ -21,7 +21,6 @@ use Rattle.phys_proc.specs.Racks.{RackView}
 use Rattle.phys_proc.specs.declared.rack.Glance.{Glance}
 use Rattle.shelf.specs.Racks.{AreLegal, IsGlance, latest}
 use Rattle.shelf.proofs.Legals.{front-later, HasRack-later}
-use Rattle.shelf.proofs.Prefixes.{prefix_trans}
 use Rattle.journal_text.specs.declared.looked.Looked.{Looked}
 use Rattle.live_study.specs.declared.analyst.Analyst.{Analyst}
 use Rattle.live_study.specs.Asking.{AreAsked, HasAsked, IsSameAnalyst, decisions_asked}
@@ -165,8 +164,8 @@ free_for_one net acts a read most h less enough =
 
 -- ---- what stays
 -- an analyst that stays the same, and then once more, stays the same
-pub same_on : (a b c : Analyst) → IsSameAnalyst a b → IsSameAnalyst b c → IsSameAnalyst a c
-same_on a b c s t = record {
+pub IsSameAnalyst-trans : (a b c : Analyst) → IsSameAnalyst a b → IsSameAnalyst b c → IsSameAnalyst a c
+IsSameAnalyst-trans a b c s t = record {
   todo = t.todo ∙ s.todo;
   caller = t.caller ∙ s.caller;
   number = t.number ∙ s.number;

@@ -5,13 +5,12 @@ use Rattle.std.proofs.Common.{append_assoc, append-nil}
 use Rattle.std.specs.List.{AllByRecursion}
 use Rattle.std.proofs.lemmas.Bool.{cases_lt}
 use Rattle.std.proofs.lemmas.Bool.Decides.{nat_tests}
+use mathlib.Core.List.{IsPrefix}
 use Rattle.sim_base.specs.Clones.{Clone, base}
-use Rattle.sim_base.proofs.ListLaws.{all_push, all_weaker}
+use Rattle.sim_base.proofs.ListLaws.{all_push, all_weaker, prefix_trans}
 use Rattle.net_model.specs.Net.{Net, HasStation}
 use Rattle.decision_book.specs.Journal.{Event, NewFront, NewCall, after}
-use Rattle.decision_desk.specs.Accounts.{Begins}
 use Rattle.decision_desk.specs.Passes.{HelmView}
-use Rattle.decision_desk.proofs.Journals.{begins_on}
 use Rattle.phys_proc.specs.Racks.{RackView}
 use Rattle.shelf.specs.Racks.{HasRack, MayBePublished, if_this, latest}
 use Rattle.shelf.proofs.Legals.{HasRack-push, latest-with}
@@ -23,23 +22,24 @@ use Rattle.live_study.proofs.Stepping.{front_after}
 
 -- ---- journals that go on
 -- the clones at a front of a journal are those at that front of a journal that goes on from it
-at_later : (net : Net) (es fs : List Event) (front : ℕ) (clones : List Clone) → Begins es fs
+at_later : (net : Net) (es fs : List Event) (front : ℕ) (clones : List Clone) → IsPrefix es fs
     → AreAtFront net es front clones → AreAtFront net fs front clones
 at_later net es fs front clones p h = ⊎_elim
     (λ (z : (front ≡ 0) × (clones ≡ base ∷ [])). inl z)
-    (λ (z : (before : List Event) × Begins (before ++ NewFront front ∷ []) es × (clones ≡ (after net before).clones)).
-    inr (z.0, begins_on (z.0 ++ NewFront front ∷ []) es fs z.1 p, z.2))
+    (λ (z : (before : List Event) × IsPrefix (before ++ NewFront front ∷ []) es × (clones ≡ (after net before).clones)).
+    inr (z.0, prefix_trans (z.0 ++ NewFront front ∷ []) es fs z.1 p, z.2))
     h
 
 -- a rack of a journal is one of a journal that goes on from it
-pub rack_later : (net : Net) (es fs : List Event) (r : RackView) → Begins es fs → IsRackOf net es r → IsRackOf net fs r
+pub rack_later : (net : Net) (es fs : List Event) (r : RackView) → IsPrefix es fs → IsRackOf net es r
+    → IsRackOf net fs r
 rack_later net es fs r p h = record { net_is = h.net_is; at = at_later net es fs r.front r.clones p h.at }
 
 -- the journal of a helm that raised its front goes on from the one that it had
-raises_begin : (old new : HelmView) (front : ℕ) → Raises old new front → Begins old.helm new.helm
-raises_begin old new front r = (
+raises_prefix : (old new : HelmView) (front : ℕ) → Raises old new front → IsPrefix old.helm new.helm
+raises_prefix old new front r = (
   map NewCall r.calls ++ NewFront front ∷ [],
-  r.helm ∙ append_assoc old.helm (map NewCall r.calls) (NewFront front ∷ []),
+  sym (r.helm ∙ append_assoc old.helm (map NewCall r.calls) (NewFront front ∷ [])),
 )
 
 -- the world stands at the front that the helm has raised
@@ -49,7 +49,7 @@ at_raised old new w r i =
     let before : List Event = old.helm ++ map NewCall r.calls in
     let clones : w.clones ≡ (after new.net before).clones =
     i.clones ∙ ap (λ es. (after new.net es).clones) r.helm ∙ front_after new.net before w.front in
-    inr (before, ([], r.helm ∙ sym (append-nil (before ++ NewFront w.front ∷ []))), clones)
+    inr (before, ([], append-nil (before ++ NewFront w.front ∷ []) ∙ sym r.helm), clones)
 
 -- ---- a round of racks
 -- where the front was raised, no station had its turn yet
@@ -58,7 +58,7 @@ pub round_begins : (old new : HelmView) (w v : WorldView) (published : List Rack
 round_begins old new w v published h net r same rises = record {
   racks = all_weaker (IsRackOf old.net old.helm) (IsRackOf new.net new.helm) published
       (λ q k. subst (λ (n : Net). IsRackOf n new.helm q) (sym net)
-      (rack_later old.net old.helm new.helm q (raises_begin old new v.front r) k))
+      (rack_later old.net old.helm new.helm q (raises_prefix old new v.front r) k))
       h.racks;
   early = all_weaker (λ (q : RackView). q.front ≤ w.front) (λ (q : RackView). q.front ≤ v.front) published
       (λ q k. omega (arith, k, rises)) h.early;

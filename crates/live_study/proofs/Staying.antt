@@ -4,6 +4,7 @@ use Rattle.std.proofs.Common.{None, unwrap_or, slice_set, fold, refl, sym, ap, �
 use Rattle.std.proofs.lemmas.Bool.{cases_eq}
 use Rattle.std.proofs.lemmas.List.{length_push}
 use Rattle.std.proofs.lemmas.List.Sums.{fold-append}
+use mathlib.Core.List.{IsPrefix}
 use Rattle.sim_base.specs.Clones.{Clone, base, clone_at, clones_with_fork, fork_of, with_plan}
 use Rattle.sim_base.specs.Clones.{with_end}
 use Rattle.sim_base.specs.declared.decision.Decision.{Decision}
@@ -27,7 +28,6 @@ use Rattle.decision_book.specs.Right.{EachAfter, IsRight, MayFollow}
 use Rattle.decision_book.proofs.ClonesByName.{place_of-bounds}
 use Rattle.decision_book.proofs.JournalScripts.{ChangesNothing, each_later, accepted_or_refused, net_stays}
 use Rattle.decision_book.proofs.Rows.{IsOpen-accepted}
-use Rattle.decision_desk.specs.Accounts.{Begins}
 use Rattle.world_core.specs.Taking.{IsAccepted, situation}
 use Rattle.world_core.proofs.Accepted.{accepted_at, may_end, may_set}
 use Rattle.live_study.specs.Laws.{KeepLogs, LogsStay}
@@ -193,9 +193,9 @@ logs_stay net valid events front clones right at = ⊎_elim
     (λ (h : (front ≡ 0) × (clones ≡ base ∷ [])).
     subst (λ (cs : List Clone). KeepLogs net front cs (after net events).clones) (sym h.1)
     (keep_logs-after net valid front [] events (outset net) refl (omega (arith, h.0)) right))
-    (λ (h : (before : List Event) × Begins (before ++ NewFront front ∷ []) events
+    (λ (h : (before : List Event) × IsPrefix (before ++ NewFront front ∷ []) events
     × (clones ≡ (after net before).clones)).
     subst (λ (cs : List Clone). KeepLogs net front cs (after net events).clones) (sym h.2)
-    (subst (λ (es : List Event). KeepLogs net front (after net h.0).clones (after net es).clones) (sym h.1.1)
-    (keep_logs-behind net valid h.0 h.1.0 front (subst (IsRight net) h.1.1 right))))
+    (subst (λ (es : List Event). KeepLogs net front (after net h.0).clones (after net es).clones) h.1.1
+    (keep_logs-behind net valid h.0 h.1.0 front (subst (IsRight net) (sym h.1.1) right))))
     at

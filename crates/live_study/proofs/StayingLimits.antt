@@ -9,9 +9,9 @@ use Rattle.run_laws.specs.Queue.{In}
 use Rattle.stations.specs.Runs.{IsBeyond}
 use Rattle.decision_book.specs.declared.call.Call.{Call}
 use Rattle.decision_book.specs.Journal.{Event, Situation, NewFront, NewCall, after, after_event, fronts_of, outset}
+use Rattle.decision_book.specs.Journal.{front_of}
 use Rattle.decision_book.specs.Right.{IsRight, MayFollow}
 use Rattle.decision_book.proofs.JournalScripts.{each_later}
-use Rattle.decision_desk.specs.Accounts.{front_of}
 use Rattle.decision_desk.proofs.Journals.{front_calls}
 use Rattle.decision_desk.proofs.Leasts.{front_is}
 use Rattle.world_core.specs.Overs.{IsFirstBeyond, NoneBeyond}
@@ -35,7 +35,7 @@ module _ (net : Net) (front : ℕ) (old new : List Clone) (keep : KeepLogs net f
 
   -- where none was beyond it, none is
   none_beyond : NoneBeyond net old front → NoneBeyond net new front
-  none_beyond within s c is l h = (let was = beyond_before s c l h in within s was.0 is was.1 was.2)
+  none_beyond within c l s is h = (let was = beyond_before s c l h in within was.0 was.1 s is was.2)
 
   -- the first that is beyond the limit is the same
   first_beyond : (station who : ℕ) → IsFirstBeyond net old front station who → IsFirstBeyond net new front station who

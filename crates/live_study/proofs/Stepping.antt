@@ -1,28 +1,32 @@
 -- The world goes on as the helm's journal does.
-use Rattle.std.proofs.Common.{◌≡◌, ◌⊎◌, inl, inr, ⊎_elim, ℕ, ◌<◌, ◌≤◌, List, [], ◌∷◌, ◌++◌, length, map}
-use Rattle.std.proofs.Common.{nat_lt, sym, ap, ◌∙◌, subst, arith}
-use Rattle.std.proofs.lemmas.List.Sums.{count_by-le-length, fold-append, length-filter}
+use Rattle.std.proofs.Common.{◌≡◌, ◌⊎◌, inl, inr, ⊎_elim, ℕ, ◌<◌, ◌≤◌, List, [], ◌∷◌, ◌++◌, map}
+use Rattle.std.proofs.Common.{sym, ap, ◌∙◌, subst, arith}
+use Rattle.std.proofs.lemmas.List.Sums.{fold-append}
 use Rattle.sim_base.specs.Clones.{Clone, clone_at}
 use Rattle.net_model.specs.Net.{Net}
 use Rattle.net_model.specs.Rules.{IsNet}
 use Rattle.run_laws.specs.Queue.{In}
-use Rattle.run_laws.proofs.Fronts.{log_at_front}
-use Rattle.stations.specs.Runs.{log_at, next_front}
+use Rattle.run_laws.proofs.Gaining.{IsBeyond-later}
+use Rattle.stations.specs.Runs.{next_front}
 use Rattle.stations.proofs.GoodLaws.{lawful-stations}
 use Rattle.decision_book.specs.declared.call.Call.{Call}
 use Rattle.decision_book.specs.Journal.{Event, Situation, NewFront, NewCall, after, after_event, fronts_of, outset}
+use Rattle.decision_book.specs.Journal.{front_from, front_of}
 use Rattle.decision_book.specs.Right.{EachAfter, IsRight, MayFollow}
 use Rattle.decision_book.specs.Scripts.{accepted_of}
 use Rattle.decision_book.proofs.JournalScripts.{net_stays}
 use Rattle.decision_desk.specs.declared.helm.Turn.{Turn}
-use Rattle.decision_desk.specs.Accounts.{RisesFrom, front_from, front_of}
+use Rattle.decision_desk.specs.Accounts.{RisesFrom}
 use Rattle.decision_desk.specs.Passes.{HelmView, IsNextTurn}
 use Rattle.decision_desk.proofs.Journals.{front_asked, front_calls, front_from-above, front_raised}
 use Rattle.decision_desk.proofs.Leasts.{front_is}
-use Rattle.world_core.specs.Overs.{NoneBeyond}
+use Rattle.world_core.specs.Overs.{IsFault, IsFirstBeyond, NoneBeyond}
 use Rattle.world_core.specs.Taking.{AreAccepted, clones_after_calls}
 use Rattle.world_core.specs.Worlds.{WorldView}
-use Rattle.live_study.specs.Engines.{InStep, IsAhead}
+use Rattle.world_core.specs.declared.world.WorldFault.{WorldFault}
+use Rattle.world_core.specs.declared.world.WorldFault.TheVariants.{EventLimit, NoMemory}
+use Rattle.study_run.specs.Faults.{fault_of_window}
+use Rattle.live_study.specs.Engines.{InStep, IsAhead, StopsEngine}
 use Rattle.live_study.specs.Showing.{Raises}
 use Rattle.live_study.proofs.Taking.{taken_behind}
 
@@ -87,12 +91,8 @@ before_last net es last f right there less = ⊎_elim
 -- where no log is beyond the limit, none was at an earlier front
 none_earlier : (net : Net) (cs : List Clone) (f front : ℕ) → IsNet net → f ≤ front → NoneBeyond net cs front
     → NoneBeyond net cs f
-none_earlier net cs f front valid early none s c is there beyond =
-    let log = log_at net (clone_at cs c) s front in
-    let same = ap length (log_at_front (lawful-stations net valid) (clone_at cs c) s f front early) in
-    let passed = length-filter (λ e. nat_lt e.msg.key.time f) log in
-    let few = count_by-le-length (λ e. nat_lt e.msg.key.time f) log in
-    none s c is there (omega (arith, beyond, same, passed, few))
+none_earlier net cs f front valid early none c there s is beyond =
+    none c there s is (IsBeyond-later (lawful-stations net valid) (clone_at cs c) s f front early beyond)
 
 -- ---- a turn
 -- what the world takes in a turn, as the helm's journal tells it
@@ -130,9 +130,12 @@ may_take h w turn new cs fresh i t e =
 pub goes_ahead : (h : HelmView) (w : WorldView) (turn : Turn) (new : HelmView) (cs : List Call) (fresh : List Call)
     (w2 : WorldView)
     → InStep h w → IsNextTurn h turn new cs → fresh ≡ turn.fresh.items
-    → w2.net ≡ w.net → w2.front ≡ w.front → w2.clones ≡ clones_after_calls w.net w.clones fresh
+    → w2 ≡ record w { clones = clones_after_calls w.net w.clones fresh }
     → IsNet w2.net → NoneBeyond w2.net w2.clones w2.front → IsAhead new w2 turn.front
-goes_ahead h w turn new cs fresh w2 i t e net front clones valid none =
+goes_ahead h w turn new cs fresh w2 i t e taken valid none =
+    let net : w2.net ≡ w.net = ap (λ (v : WorldView). v.net) taken in
+    let front : w2.front ≡ w.front = ap (λ (v : WorldView). v.front) taken in
+    let clones : w2.clones ≡ clones_after_calls w.net w.clones fresh = ap (λ (v : WorldView). v.clones) taken in
     let j : List Event = h.helm ++ map NewCall cs in
     let of_net : w2.net ≡ h.net = net ∙ i.net in
     let of_front : w2.front ≡ front_of h.helm = front ∙ i.front in
@@ -159,6 +162,20 @@ goes_ahead h w turn new cs fresh w2 i t e net front clones valid none =
           let early = before_last h.net j turn.front f t.right there less in
           none_earlier w2.net w2.clones f w2.front valid (omega (arith, early, of_front, calls)) none;
     })
+
+-- the engine stops with the window's fault: where a log is beyond the limit at the bound, there
+pub stops_ahead : (h : HelmView) (w : WorldView) (bound old_steps new_steps : ℕ) (e : WorldFault) → IsAhead h w bound
+    → IsFault w.net w.clones w.front bound old_steps new_steps e → StopsEngine h.net h.helm (fault_of_window e)
+stops_ahead h w bound old_steps new_steps NoMemory ahead fault = tt
+stops_ahead h w bound old_steps new_steps (EventLimit station who kept) ahead fault =
+    let is = ahead.bound_is in
+    record {
+      first = subst (λ f. IsFirstBeyond h.net (after h.net h.helm).clones f station who) is
+          (subst (λ l. IsFirstBeyond h.net l bound station who) ahead.clones
+          (subst (λ (n : Net). IsFirstBeyond n w.clones bound station who) ahead.net fault.0));
+      none_before = λ f there less. subst (λ l. NoneBeyond h.net l f) ahead.clones
+          (subst (λ (n : Net). NoneBeyond n w.clones f) ahead.net (ahead.short f there (omega (arith, less, is))));
+    }
 
 -- the front is raised behind calls
 pub raises_next : (h new : HelmView) (turn : Turn) (cs : List Call) → IsNextTurn h turn new cs → Raises h new turn.front

@@ -7,7 +7,7 @@ use Rattle.sim_base.proofs.ListLaws.{all_append}
 use Rattle.decision_script.specs.declared.item.Act.{Act}
 use Rattle.decision_script.specs.declared.item.Act.TheVariants.{Decide, Look}
 use Rattle.decision_script.specs.declared.item.Item.{Item}
-use Rattle.decision_script.specs.Stating.{ScriptView}
+use Rattle.decision_script.specs.Stating.{ScriptView, IsAnalyst}
 use Rattle.decision_book.specs.declared.call.Call.{Call}
 use Rattle.decision_desk.specs.Accounts.{calls_from}
 use Rattle.journal_text.specs.declared.looked.Looked.{Looked}
@@ -26,33 +26,33 @@ up_to x many h = omega arith
 
 -- where none but those from 1 to so many have calls, each caller is one of them
 callers_from : (many n : ℕ) (calls : List Call) → ((x : ℕ) → (x ≡ 0) ⊎ (many < x) → calls_from x n calls ≡ [])
-    → AllByRecursion (λ (c : Call). (1 ≤ c.caller) × (c.caller ≤ many)) calls
+    → AllByRecursion (λ (c : Call). IsAnalyst many c.caller) calls
 callers_from many n [] others = tt
 callers_from many n (c ∷ cs) others =
     let own : (c.caller ≡ 0) ⊎ (many < c.caller) → ⊥ =
     λ h. not_empty (nat_eq c.caller c.caller) (n, c) (calls_from c.caller (n + 1) cs) (grind arith)
     (others c.caller h) in (
-      (from_one c.caller (λ h. own (inl h)), up_to c.caller many (λ h. own (inr h))),
+      record { low = from_one c.caller (λ h. own (inl h)); high = up_to c.caller many (λ h. own (inr h)) },
       callers_from many (n + 1) cs
           (λ x h. rest_empty (nat_eq c.caller x) (n, c) (calls_from x (n + 1) cs) (others x h)),
     )
 
 -- so where none but those from 1 to so many have calls, each call is of one of these
 pub callers_within : (many : ℕ) (calls : List Call) → ((x : ℕ) → (x ≡ 0) ⊎ (many < x) → calls_from x 0 calls ≡ [])
-    → All (λ (c : Call). (1 ≤ c.caller) × (c.caller ≤ many)) calls
+    → All (λ (c : Call). IsAnalyst many c.caller) calls
 callers_within many calls others =
-    All-from_recursion (λ (c : Call). (1 ≤ c.caller) × (c.caller ≤ many)) calls (callers_from many 0 calls others)
+    All-from_recursion (λ (c : Call). IsAnalyst many c.caller) calls (callers_from many 0 calls others)
 
 -- ---- lookers
 -- a look by one of so many analysts
 abbrev IsByOneOf : ℕ → AskedLook → Type 0
-IsByOneOf many t = (1 ≤ t.0) × (t.0 ≤ many)
+IsByOneOf many t = IsAnalyst many t.0
 
 -- the looks of an analyst who is one of so many
-looks_within : (many a : ℕ) (acts : List Act) → 1 ≤ a → a ≤ many → AllByRecursion (IsByOneOf many) (looks_in a acts)
-looks_within many a [] low high = tt
-looks_within many a (Decide d ∷ acts) low high = looks_within many a acts low high
-looks_within many a (Look who station ∷ acts) low high = ((low, high), looks_within many a acts low high)
+looks_within : (many a : ℕ) (acts : List Act) → IsAnalyst many a → AllByRecursion (IsByOneOf many) (looks_in a acts)
+looks_within many a [] is = tt
+looks_within many a (Decide d ∷ acts) is = looks_within many a acts is
+looks_within many a (Look who station ∷ acts) is = (is, looks_within many a acts is)
 
 -- the looks of the first n analysts, where n is at most so many
 each_within : (many : ℕ) (items : List Item) (n : ℕ) → n ≤ many → AllByRecursion (IsByOneOf many) (each_looks items n)
@@ -60,7 +60,8 @@ each_within many items zero high = tt
 each_within many items (suc n) high =
     all_append (IsByOneOf many) (each_looks items n) (looks_in (n + 1) (acts_by (n + 1) items))
     (each_within many items n (omega (arith, high)))
-    (looks_within many (n + 1) (acts_by (n + 1) items) (omega arith) (omega (arith, high)))
+    (looks_within many (n + 1) (acts_by (n + 1) items)
+    (record { low = omega arith; high = omega (arith, high) }))
 
 -- what holds of each image holds so of each element
 of_images : {A B : Type 0} (f : A → B) (P : B → Type 0) (xs : List A) → AllByRecursion P (map f xs)
@@ -70,9 +71,9 @@ of_images f P (x ∷ xs) all = (all.0, of_images f P xs all.1)
 
 -- each look that was made for a script is by one of its analysts
 pub lookers_within : (s : ScriptView) (looks : List Looked) → HasMadeLooks s looks
-    → All (λ (l : Looked). (1 ≤ l.analyst) × (l.analyst ≤ length s.analysts)) looks
+    → All (λ (l : Looked). IsAnalyst (length s.analysts) l.analyst) looks
 lookers_within s looks made =
     let many = length s.analysts in
-    All-from_recursion (λ (l : Looked). (1 ≤ l.analyst) × (l.analyst ≤ many)) looks
+    All-from_recursion (λ (l : Looked). IsAnalyst many l.analyst) looks
     (of_images look_of (IsByOneOf many) looks
     (subst (AllByRecursion (IsByOneOf many)) (sym made) (each_within many s.items many (omega arith))))

@@ -2,11 +2,12 @@
 use Rattle.std.proofs.Common.{◌≡◌, ℕ, suc, ◌<◌, Bool, true, List, [], ◌∷◌, length, map}
 use Rattle.std.proofs.Common.{Result, Ok, Err, IfOk, refl, sym, ap, ap₂, ◌∙◌, subst, arith, slice_index_or}
 use Rattle.std.specs.List.{AllByRecursion}
+use mathlib.Core.List.{IsPrefix}
 use Rattle.sim_base.specs.Reserved.{ReservedView}
 use Rattle.sim_base.proofs.ListLaws.{all_append, all_weaker}
 use Rattle.net_model.specs.Net.{Net}
 use Rattle.decision_book.specs.Journal.{Event, NewCall}
-use Rattle.decision_desk.specs.Accounts.{Begins, OnlyCalls}
+use Rattle.decision_desk.specs.Accounts.{OnlyCalls}
 use Rattle.decision_desk.specs.Passes.{HelmView}
 use Rattle.phys_proc.specs.Racks.{RackView}
 use Rattle.journal_text.specs.declared.looked.Looked.{Looked}
@@ -69,7 +70,7 @@ made_all net old new looks all len same are =
 
 -- all that they saw is true
 true_looks : (net : Net) (h : HelmView) (w : WorldView) (events : List Event) (published : List RackView)
-    (seated : List SeatedAnalyst) → h.net ≡ net → w.net ≡ net → w.front ≡ w.net.horizon → Begins h.helm events
+    (seated : List SeatedAnalyst) → h.net ≡ net → w.net ≡ net → w.front ≡ w.net.horizon → IsPrefix h.helm events
     → AreShownOf h w published → AllCaughtUp net published seated → AllLooked net seated
     → AllByRecursion (IsTrueLook net events) (all_looks (looks_of seated))
 true_looks net h w events published [] of world last begins shown up all = tt
@@ -92,7 +93,7 @@ told_at_horizon : (net : Net) (h : HelmView) (w : WorldView) (events : List Even
     → AllCaughtUp net published seated → AllLooked net seated → looks ≡ looks_of seated → AreTrueLooks net events looks
 told_at_horizon net h w events published seated looks of in_step last calls shown up all are = record {
   true_ones = subst (λ ls. AllByRecursion (IsTrueLook net events) (all_looks ls)) (sym are)
-      (true_looks net h w events published seated of (in_step.net ∙ of) last (map NewCall calls.0, calls.1) shown up
+      (true_looks net h w events published seated of (in_step.net ∙ of) last (map NewCall calls.0, sym calls.1) shown up
       all);
   rise = subst (λ ls. AllByRecursion (λ (r : ReservedView Looked). NeverFall r.items) ls) (sym are)
       (none_falls net seated all);

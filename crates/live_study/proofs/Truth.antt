@@ -7,18 +7,17 @@ use Rattle.std.proofs.lemmas.Bool.{cases_lt}
 use Rattle.std.proofs.lemmas.Bool.Decides.{nat_tests}
 use mathlib.Core.List.{IsPrefix}
 use Rattle.sim_base.specs.Clones.{Clone}
-use Rattle.sim_base.proofs.ListLaws.{all_left, all_right, all_weaker}
+use Rattle.sim_base.proofs.ListLaws.{all_left, all_right, all_weaker, prefix_trans}
 use Rattle.net_model.specs.Net.{Net, station_named}
 use Rattle.decision_book.specs.Journal.{Event}
 use Rattle.decision_book.proofs.Planned.{station_named-low}
-use Rattle.decision_desk.specs.Accounts.{Begins}
 use Rattle.decision_desk.specs.Passes.{HelmView}
 use Rattle.phys_proc.specs.Racks.{RackView, IsFoundOf}
 use Rattle.phys_proc.specs.declared.rack.Glance.{Glance}
 use Rattle.phys_proc.specs.declared.rack.Found.{Found}
 use Rattle.shelf.specs.Racks.{AreLegal, IsGlance, MayComeAfter, latest, or_this}
 use Rattle.shelf.proofs.Legals.{front-later, latest-all}
-use Rattle.shelf.proofs.Prefixes.{prefix_shorter, prefix_trans}
+use Rattle.shelf.proofs.Prefixes.{prefix_shorter}
 use Rattle.journal_text.specs.declared.looked.Looked.{Looked}
 use Rattle.world_core.specs.Worlds.{WorldView}
 use Rattle.live_study.specs.Looks.{AreAtFront, AreCaughtUp, IsAt, IsCaughtUp, IsRackOf}
@@ -127,7 +126,7 @@ true_glance net events s who r g of station is = record {
 
 -- a look that was read at a seat which came to the horizon with what was published
 pub true_look : (net : Net) (h : HelmView) (w : WorldView) (events : List Event) (published read : List RackView)
-    (l : Looked) → h.net ≡ net → w.net ≡ net → w.front ≡ w.net.horizon → Begins h.helm events
+    (l : Looked) → h.net ≡ net → w.net ≡ net → w.front ≡ w.net.horizon → IsPrefix h.helm events
     → AreShownOf h w published → AreCaughtUp net published read → IsReadLook net read l → IsTrueLook net events l
 true_look net h w events published read l of world last begins shown up r = record {
   unknown = r.unknown;

@@ -3,8 +3,7 @@ use Rattle.std.specs.Prelude.{◌≡◌, ℕ, ◌<◌, ◌≤◌, List}
 use Rattle.net_model.specs.Net.{Net}
 use Rattle.run_laws.specs.Queue.{In}
 use Rattle.stations.specs.Runs.{next_front}
-use Rattle.decision_book.specs.Journal.{Event, after, fronts_of}
-use Rattle.decision_desk.specs.Accounts.{front_of}
+use Rattle.decision_book.specs.Journal.{Event, after, fronts_of, front_of}
 use Rattle.decision_desk.specs.Passes.{HelmView}
 use Rattle.world_core.specs.Overs.{IsFirstBeyond, NoneBeyond}
 use Rattle.world_core.specs.Worlds.{WorldView}

@@ -1,8 +1,9 @@
 -- What a live run leaves.
-use Rattle.std.specs.Prelude.{◌≡◌, ℕ, List, [], map}
+use Rattle.std.specs.Prelude.{◌≡◌, ℕ, List, [], map, IfOk, IfErr}
 use Rattle.std.specs.List.{AllByRecursion, flat_map}
 use Rattle.sim_base.specs.Reserved.{ReservedView}
 use Rattle.net_model.specs.Net.{Net}
+use Rattle.decision_script.specs.Stating.{ScriptView}
 use Rattle.decision_book.specs.Journal.{Event, after}
 use Rattle.decision_book.specs.Books.{BookView}
 use Rattle.decision_desk.specs.Accounts.{accounts_of, calls_by}
@@ -10,8 +11,10 @@ use Rattle.decision_desk.specs.Legal.{IsLegal}
 use Rattle.journal_text.specs.declared.looked.Looked.{Looked}
 use Rattle.world_core.specs.Worlds.{WorldView}
 use Rattle.live_study.specs.Asking.{AllAsked, SeatedAnalyst, accounts_in}
-use Rattle.live_study.specs.Looks.{IsTrueLook, NeverFall, look_of}
-use Rattle.live_study.specs.Scripts.{AskedLook}
+use Rattle.live_study.specs.Engines.{StopsEngine}
+use Rattle.live_study.specs.Looks.{AreLooks, HasMadeLooks, IsTrueLook, NeverFall, look_of}
+use Rattle.live_study.specs.Scripts.{AskedLook, IsJournalOf}
+use Rattle.live_study.specs.declared.run.LiveRun.{LiveRun}
 
 -- a journal in which all was asked: it is legal, each analyst's calls in it are its decisions, in order, and nobody
 -- else has calls
@@ -39,3 +42,16 @@ pub record AreTrueLooks (net : Net) (events : List Event) (looks : List (Reserve
 pub record IsAtHorizon (net : Net) (book : BookView) (world : WorldView) : Type 0 where
   pub last : (after net book.events).front ≡ net.horizon
   pub world_is : world ≡ record { net = net; clones = (after net book.events).clones; front = net.horizon }
+
+-- the live run of a script
+pub record IsLiveRun (net : Net) (script : ScriptView) (run : LiveRun) : Type 0 where
+  -- however it ends: one legal journal, in which each analyst's decisions stand in order, and no others
+  pub journal : IsJournalOf net script run.book
+  -- and all looks of the script, in order
+  pub made : HasMadeLooks script (all_looks run.looks.items)
+  -- at the horizon: what was seen at each of them is true of the journal's clones at a front
+  pub looks : IfOk run.run (λ w. AreLooks net script run.book.events (all_looks run.looks.items))
+  -- and the world has the journal's clones
+  pub finished : IfOk run.run (λ w. IsAtHorizon net run.book w)
+  -- or why the engine stopped, over the journal
+  pub stopped : IfErr run.run (λ e. StopsEngine net run.book.events e)

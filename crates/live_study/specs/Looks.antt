@@ -6,7 +6,6 @@ use Rattle.sim_base.specs.Clones.{Clone, base, place_of}
 use Rattle.net_model.specs.Net.{HasStation, Net, station_named}
 use Rattle.decision_script.specs.Stating.{ScriptView}
 use Rattle.decision_book.specs.Journal.{Event, NewFront, after}
-use Rattle.decision_desk.specs.Accounts.{Begins}
 use Rattle.phys_proc.specs.Racks.{RackView, IsFoundOf}
 use Rattle.phys_proc.specs.declared.rack.Glance.{Glance}
 use Rattle.shelf.specs.Racks.{AreLegal, HasRack, IsGlance, latest}
@@ -23,7 +22,7 @@ look_of l = (l.analyst, l.who, l.station)
 -- before the journal's line of that front
 abbrev pub AreAtFront : Net → List Event → ℕ → List Clone → Type 0
 AreAtFront net events front clones = ((front ≡ 0) × (clones ≡ base ∷ []))
-    ⊎ ((before : List Event) × Begins (before ++ NewFront front ∷ []) events × (clones ≡ (after net before).clones))
+    ⊎ ((before : List Event) × IsPrefix (before ++ NewFront front ∷ []) events × (clones ≡ (after net before).clones))
 
 -- a glance at a station is true: at its front of the journal there are so many clones; it finds the clone of the name
 -- exactly where there is one, and tells how many messages are in its log before the front, and of how many clones the

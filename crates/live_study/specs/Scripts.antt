@@ -1,12 +1,12 @@
 -- The analysts of a script, and what each of them does.
-use Rattle.std.specs.Prelude.{◌≡◌, ◌⊎◌, ℕ, zero, suc, ◌+◌, ◌<◌, ◌≤◌, nat_eq, if◌then◌else◌, List, [], ◌∷◌, ◌++◌, length}
+use Rattle.std.specs.Prelude.{◌≡◌, ◌⊎◌, ℕ, zero, suc, ◌+◌, ◌<◌, nat_eq, if◌then◌else◌, List, [], ◌∷◌, ◌++◌, length}
 use Rattle.std.specs.List.{flat_map}
 use Rattle.sim_base.specs.declared.decision.Decision.{Decision}
 use Rattle.net_model.specs.Net.{Net}
 use Rattle.decision_script.specs.declared.item.Act.{Act}
 use Rattle.decision_script.specs.declared.item.Act.TheVariants.{Decide, Look}
 use Rattle.decision_script.specs.declared.item.Item.{Item}
-use Rattle.decision_script.specs.Stating.{ScriptView}
+use Rattle.decision_script.specs.Stating.{ScriptView, IsAnalyst}
 use Rattle.decision_book.specs.Books.{BookView}
 use Rattle.decision_desk.specs.Accounts.{calls_by}
 use Rattle.decision_desk.specs.Legal.{IsLegal}
@@ -52,6 +52,6 @@ each_looks items (suc n) = each_looks items n ++ looks_in (n + 1) (acts_by (n + 
 pub record IsJournalOf (net : Net) (s : ScriptView) (book : BookView) : Type 0 where
   pub net_is : book.net ≡ net
   pub legal : IsLegal net book.events
-  pub asked_all : (a : ℕ) → 1 ≤ a → a ≤ length s.analysts →
+  pub asked_all : (a : ℕ) → IsAnalyst (length s.analysts) a →
       decisions_in (calls_by a book.events) ≡ decisions_by a s.items
   pub others : (x : ℕ) → (x ≡ 0) ⊎ (length s.analysts < x) → calls_by x book.events ≡ []

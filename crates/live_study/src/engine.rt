@@ -16,8 +16,8 @@ use std::marker::Brand;
 use std::sync::Wait;
 use std::sync::ledger::{Blank, Ledger};
 use std::thread::Threads;
-use study_run::StudyFault;
-use world_core::{World, WorldFault};
+use study_run::{StudyFault, fault_of_window};
+use world_core::World;
 
 // The least time that is due in each clone.
 fn least_due_times(alloc: Global, world: &World) -> Result<Vec<Option<u64>>, NoMemory>
@@ -123,10 +123,7 @@ fn take_window<C: Crew, G: Gate, L: Ledger, R: Threads + Wait + Sync>(
     };
     match world.window(rt, alloc, crew, gate, bound, steps) {
         Ok(world) => Ok(world),
-        Err(WorldFault::NoMemory) => Err(StudyFault::NoMemory),
-        Err(WorldFault::EventLimit { station, who, .. }) => {
-            Err(StudyFault::LimitMet { station, who })
-        }
+        Err(fault) => Err(fault_of_window(fault)),
     }
 }
 

@@ -5,11 +5,9 @@ ghost use Rattle.net_model.specs.declared.limits.TheConstants.{MOST_STATIONS};
 ghost use Rattle.decision_desk.specs.Passes.{new_helm, new_passes};
 ghost use Rattle.shelf.specs.Racks.{MayOpen};
 ghost use Rattle.world_core.specs.Worlds.{opening_world, total_handled};
-ghost use Rattle.live_study.specs.Engines.{StopsEngine};
-ghost use Rattle.live_study.specs.Lives.{IsAtHorizon, all_looks};
-ghost use Rattle.live_study.specs.Looks.{AreLooks, HasMadeLooks};
+ghost use Rattle.live_study.specs.Lives.{IsLiveRun};
 ghost use Rattle.live_study.specs.Opening.{AreOpeningRacks, HasReservedFor, IsFresh, IsPrepared, numbers_to};
-ghost use Rattle.live_study.specs.Scripts.{IsJournalOf, each_acts};
+ghost use Rattle.live_study.specs.Scripts.{each_acts};
 
 use crate::analyst::Analyst;
 use crate::begin::{analysts_of, opening_racks, watched_in};
@@ -133,15 +131,7 @@ fn run_prepared<
 ) -> Result<LiveRun, NoMemory>
     requires name { opened.seen.book ≡ J.book }
     requires prepared { IsPrepared model.now (length script.now.analysts) prepared }
-    // however the run ends: a journal of the script, and each of the looks made
-    ensures journal { IfOk result (λ r. IsJournalOf model.now script.now r.book) }
-    ensures made { IfOk result (λ r. HasMadeLooks script.now (all_looks r.looks.items)) }
-    // at the horizon: the looks are true of the journal, and the world has the clones that it leaves
-    ensures looks { IfOk result (λ r. IfOk r.run (λ w.
-        AreLooks model.now script.now r.book.events (all_looks r.looks.items))) }
-    ensures finished { IfOk result (λ r. IfOk r.run (λ w. IsAtHorizon model.now r.book w)) }
-    // or why the engine stopped, over the journal
-    ensures stopped { IfOk result (λ r. IfErr r.run (λ e. StopsEngine model.now r.book.events e)) }
+    ensures live_run { IfOk result (λ r. IsLiveRun model.now script.now r) }
 {
     let Prepared {
         world,
@@ -182,16 +172,9 @@ pub fn live_study<C: Crew + Sync, G: Gate, L: Ledger, R: Threads + Wait + Sync>(
     script: &Script,
     steps: &mut Steps<L>,
 ) -> Result<LiveRun, NoMemory>
-    // One legal journal, in which each analyst's decisions stand in order, and no others.
-    ensures journal { IfOk result (λ r. IsJournalOf model.now.value script.now r.book) }
-    // All looks of the script were made, in order.
-    ensures made { IfOk result (λ r. HasMadeLooks script.now (all_looks r.looks.items)) }
-    // At the horizon: what was seen at each of them is true of the journal's clones at a front.
-    ensures looks { IfOk result (λ r. IfOk r.run (λ w.
-        AreLooks model.now.value script.now r.book.events (all_looks r.looks.items))) }
-    // The engine came to the horizon, and its world has the journal's clones; or it met the limit at the last front.
-    ensures finished { IfOk result (λ r. IfOk r.run (λ w. IsAtHorizon model.now.value r.book w)) }
-    ensures stopped { IfOk result (λ r. IfErr r.run (λ e. StopsEngine model.now.value r.book.events e)) }
+    // One legal journal and all looks of the script. At the horizon the looks are true of the journal, whose clones the
+    // world has; or the engine met the limit at the last front.
+    ensures live_run { IfOk result (λ r. IsLiveRun model.now.value script.now r) }
     // At the horizon, what clones share was counted once; else nothing was.
     ensures steps { IfOk result (λ r. IfOk r.run (λ w.
         steps.new ≡ steps.old + total_handled model.now.value w.clones model.now.value.horizon)) }

@@ -104,6 +104,10 @@ module _ {T A : Type 0} where
   abbrev pub IsSent : T → Hand T A → Type 0
   IsSent t m = m ≡ (Sent t, [])
 
+  -- the caller has a task out
+  abbrev pub HasTaskOut : Hand T A → Type 0
+  HasTaskOut m = (t : T) × IsSent t m
+
   -- the worker has nothing to do
   abbrev pub IsIdle : Hand T A → Type 0
   IsIdle m = m ≡ (Idle, [])

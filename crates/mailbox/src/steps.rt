@@ -1,7 +1,7 @@
 //! The steps of the two seats: each is one atomic step on the word, and most move a letter while the seat has the slot.
 //! A letter is laid down before the word tells of it, and taken out after the word was won.
 ghost use Rattle.std.specs.Prelude.{◌≡◌, [], Some, None, MatchOption};
-ghost use Rattle.mailbox.specs.Mail.{IsSeatOf, IsHolding, IsSent, IsIdle, IsWorking};
+ghost use Rattle.mailbox.specs.Mail.{IsSeatOf, IsHolding, IsSent, HasTaskOut, IsIdle, IsWorking};
 ghost use Rattle.mailbox.specs.declared.mail.MailView.TheVariants.{Opening};
 
 use crate::errand::Errand;
@@ -67,7 +67,7 @@ pub(crate) fn undo<T: Drop, A: Drop, E: Errand<T, A>>(
     seat: &mut Chair<T, A>,
 ) -> Option<T>
     requires table { IsSeatOf board.now.table_id seat.old.table_id }
-    requires sent { (task : T) × IsSent task seat.old.me }
+    requires sent { HasTaskOut seat.old.me }
     ensures table { seat.new.table_id ≡ seat.old.table_id }
     ensures value { MatchOption result (seat.new.me ≡ seat.old.me)
         (λ task. IsSent task seat.old.me × IsHolding seat.new.me) }
@@ -85,7 +85,7 @@ pub(crate) fn collect_now<T: Drop, A: Drop, E: Errand<T, A>>(
     seat: &mut Chair<T, A>,
 ) -> Option<A>
     requires table { IsSeatOf board.now.table_id seat.old.table_id }
-    requires sent { (task : T) × IsSent task seat.old.me }
+    requires sent { HasTaskOut seat.old.me }
     ensures table { seat.new.table_id ≡ seat.old.table_id }
     ensures value { MatchOption result (seat.new.me ≡ seat.old.me)
         (λ answer. ((task : T) → IsSent task seat.old.me → E.answers task answer) × IsHolding seat.new.me) }
@@ -104,7 +104,7 @@ pub(crate) fn wait_for_answer<T: Drop, A: Drop, E: Errand<T, A>, R: Wait>(
     seat: &mut Chair<T, A>,
 ) -> A
     requires table { IsSeatOf board.now.table_id seat.old.table_id }
-    requires sent { (task : T) × IsSent task seat.old.me }
+    requires sent { HasTaskOut seat.old.me }
     ensures table { seat.new.table_id ≡ seat.old.table_id }
     ensures answer { (task : T) → IsSent task seat.old.me → E.answers task result }
     ensures holding { IsHolding seat.new.me }

@@ -10,24 +10,24 @@ use Rattle.std.proofs.lemmas.Str.{IsUtf8-from_ascii}
 use Rattle.std.proofs.Math.Seq.{drop-append_seam}
 use Rattle.sim_base.specs.Names.{is_name_byte}
 use Rattle.sim_base.proofs.ListLaws.{take-append}
-use Rattle.net_model.specs.KeyTexts.{display_byte, is_shown, key_text, IsKeyText}
+use Rattle.net_model.specs.KeyTexts.{shown_byte, is_shown, key_text, IsKeyText}
 use Rattle.net_model.specs.declared.key_text.TheConstants.{LONGEST_KEY_TEXT}
 use Rattle.net_model.proofs.AsciiTexts.{IsAscii-list_all}
 
 -- ---- is_shown
 
 -- what a byte is shown as is shown
-is_shown-display_byte : (b : ℕ) → is_shown (display_byte b) ≡ true
-is_shown-display_byte b =
+is_shown-shown_byte : (b : ℕ) → is_shown (shown_byte b) ≡ true
+is_shown-shown_byte b =
     elim (cases_Bool (is_name_byte b)) [
       | inl is ↦ rw (is, is) refl
       | inr is ↦ rw is refl
     ]
 
 -- so is each byte of what is shown
-list_all-is_shown : (bs : List ℕ) → list_all is_shown (map display_byte bs) ≡ true
+list_all-is_shown : (bs : List ℕ) → list_all is_shown (map shown_byte bs) ≡ true
 list_all-is_shown [] = refl
-list_all-is_shown (b ∷ bs) = rw (is_shown-display_byte b) (list_all-is_shown bs)
+list_all-is_shown (b ∷ bs) = rw (is_shown-shown_byte b) (list_all-is_shown bs)
 
 -- a shown byte is ASCII
 is_shown-small : (b : ℕ) → is_shown b ≡ true → b < 128
@@ -49,7 +49,7 @@ drop-append xs ys n h = ap (λ k. drop k (xs ++ ys)) (sym h) ∙ drop-append_sea
 module _ (key : List ℕ) (len : ℕ) (copied prefix : List ℕ)
     (size : len ≡ min (length key) LONGEST_KEY_TEXT)
     (copy : copied ≡ take len key)
-    (show : prefix ≡ map display_byte (take len (copied ++ drop len (replicate LONGEST_KEY_TEXT 0)))) where
+    (show : prefix ≡ map shown_byte (take len (copied ++ drop len (replicate LONGEST_KEY_TEXT 0)))) where
   -- they are not too many
   len-bounds : len ≤ LONGEST_KEY_TEXT
   len-bounds = omega (arith, size)
@@ -58,14 +58,14 @@ module _ (key : List ℕ) (len : ℕ) (copied prefix : List ℕ)
   copied_len : length copied ≡ len
   copied_len = ap length copy ∙ length-take-le len key (omega (arith, size))
 
-  -- what is shown is the display of the copied bytes
-  prefix-shown : prefix ≡ map display_byte copied
+  -- what is shown is what the copied bytes are shown as
+  prefix-shown : prefix ≡ map shown_byte copied
   prefix-shown =
-      show ∙ ap (map display_byte) (take-append copied (drop len (replicate LONGEST_KEY_TEXT 0)) len copied_len)
+      show ∙ ap (map shown_byte) (take-append copied (drop len (replicate LONGEST_KEY_TEXT 0)) len copied_len)
 
   -- and is as long
   prefix-length : length prefix ≡ len
-  prefix-length = ap length prefix-shown ∙ (length-map copied display_byte ∙ copied_len)
+  prefix-length = ap length prefix-shown ∙ (length-map copied shown_byte ∙ copied_len)
 
   -- zeros stand behind the copied bytes
   drop-copied : drop len (copied ++ drop len (replicate LONGEST_KEY_TEXT 0)) ≡ replicate (LONGEST_KEY_TEXT - len) 0
@@ -79,13 +79,15 @@ module _ (key : List ℕ) (len : ℕ) (copied prefix : List ℕ)
       let first : take len key ≡ take LONGEST_KEY_TEXT key =
       ap (λ n. take n key) (size ∙ omega arith) ∙ take_min LONGEST_KEY_TEXT key in
       take-append prefix (drop len (copied ++ drop len (replicate LONGEST_KEY_TEXT 0))) len prefix-length
-      ∙ (prefix-shown ∙ ap (map display_byte) (copy ∙ first))
+      ∙ (prefix-shown ∙ ap (map shown_byte) (copy ∙ first))
 
   -- and all the bytes are a key text, with zeros behind it
   pub key_text_padded : IsKeyText (prefix ++ drop len (copied ++ drop len (replicate LONGEST_KEY_TEXT 0))) len
   key_text_padded = record {
-    free = len-bounds;
-    size = length-append prefix _ ∙ rw (prefix-length, drop-copied, length-replicate) (omega (arith, len-bounds));
-    zeros = drop-append prefix _ len prefix-length ∙ drop-copied;
+    behind = record {
+      short = len-bounds;
+      size = length-append prefix _ ∙ rw (prefix-length, drop-copied, length-replicate) (omega (arith, len-bounds));
+      zeros = drop-append prefix _ len prefix-length ∙ drop-copied;
+    };
     shown = ap (list_all is_shown) (take-append prefix _ len prefix-length ∙ prefix-shown) ∙ list_all-is_shown copied;
   }

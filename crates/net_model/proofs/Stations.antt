@@ -1,14 +1,16 @@
 -- What is known of the stations that are read, before their links are resolved.
 use Rattle.std.proofs.Common.{◌≡◌, ◌≢◌, refl, ap, sym, ◌∙◌, subst, ℕ, ◌+◌, ◌≤◌, ◌==◌, nat_lt, eq-eqb, Bool, true, false}
 use Rattle.std.proofs.Common.{codes, if◌then◌else◌, List, [], ◌∷◌, ◌++◌, length, map, Option, Some, None, Ok, arith}
-use Rattle.std.specs.List.{AllByRecursion, IsDistinct}
+use Rattle.std.specs.List.{AllByRecursion}
 use Rattle.std.specs.Str.{bytes_eq}
 use Rattle.std.proofs.lemmas.Bool.{false≢true, or_parts, ltb-false}
 use Rattle.std.proofs.lemmas.List.Folds.{list_any-append}
-use Rattle.std.proofs.lemmas.Map.Keys.{IsDistinct-cons}
+use Rattle.std.proofs.lemmas.List.Elements.{All-from_recursion}
+use Rattle.std.proofs.lemmas.List.Kept.{AllPairs-cons}
 use Rattle.std.proofs.lemmas.Slice.Eq.{bytes_eq-Decides}
 use Rattle.toml.specs.Data.{Data, get}
-use Rattle.sim_base.specs.Names.{is_name}
+use Rattle.sim_base.specs.Names.{is_name, AreDistinct}
+use Rattle.sim_base.specs.Weights.{IsWeight}
 use Rattle.net_model.specs.declared.fault.ModelFault.TheVariants.{BadName, NameTwice, TooMany}
 use Rattle.net_model.specs.declared.field.Field.TheVariants.{Name, Stream, Every, Jobs, Class, Servers, Room, Service}
 use Rattle.net_model.specs.declared.field.Field.TheVariants.{Order, Hold, By, Link, To, Delay as DelayField, Weight}
@@ -28,7 +30,7 @@ use Rattle.net_model.specs.Kinds.{known_word, order_at, router_of, server_of, so
 use Rattle.net_model.specs.NamedLinks.{few_enough, each_link, link_of, link_tables, links_of}
 use Rattle.net_model.specs.Reading.{integer_at, name_at, span_at, tables_of, text_at}
 use Rattle.net_model.specs.Net.{is_sink}
-use Rattle.net_model.specs.Rules.{IsKind, IsOfFormat1, IsWeight}
+use Rattle.net_model.specs.Rules.{IsKind, IsOfFormat1}
 use Rattle.net_model.proofs.Bounds.{if-Err, Ok-injective, integer_at-required, integer_at-usual}
 use Rattle.net_model.proofs.Bounds.{name_at-is_name, span_at-IsRange}
 use Rattle.sim_base.proofs.Chain.{bind-Ok}
@@ -332,13 +334,19 @@ has_name-append earlier draft (x ∷ rest) h =
 pub record AreDrafts (format : ℕ) (earlier drafts : List DraftSite) (n : ℕ) : Type 0 where
   pub all : AllByRecursion (IsDraft format) drafts
   pub new : AllByRecursion (λ x. has_name x.name earlier ≡ false) drafts
-  pub distinct : IsDistinct bytes_eq (map (λ x. x.name) drafts)
+  pub distinct : AreDistinct (map (λ x. x.name) drafts)
   pub count : length drafts ≡ n
 
 -- an empty list of names has no two that are equal
-IsDistinct-empty : IsDistinct bytes_eq []
-unfolding IsDistinct
-IsDistinct-empty = tt
+AreDistinct-empty : AreDistinct []
+AreDistinct-empty = λ i j d below within. absurd (omega arith)
+
+-- a name that is equal to none of others that are distinct, and these
+AreDistinct-cons : (name : List ℕ) (names : List (List ℕ)) → AllByRecursion (λ x. bytes_eq name x ≡ false) names
+    → AreDistinct names → AreDistinct (name ∷ names)
+AreDistinct-cons name names other distinct =
+    AllPairs-cons (λ a b. bytes_eq a b ≡ false) name names
+    (All-from_recursion (λ x. bytes_eq name x ≡ false) names other) distinct
 
 -- stations whose numbers may be those of their streams keep to the rules and have new and distinct names, one a table
 pub drafts_of-holds : (format : ℕ) (earlier : List DraftSite) (station : ℕ) (ds : List Data) (drafts : List DraftSite)
@@ -346,7 +354,7 @@ pub drafts_of-holds : (format : ℕ) (earlier : List DraftSite) (station : ℕ) 
     → AreDrafts format earlier drafts (length ds)
 drafts_of-holds format earlier station [] drafts near h =
     subst (λ (xs : List DraftSite). AreDrafts format earlier xs 0) (Ok-injective [] drafts h)
-    (record { all = tt; new = tt; distinct = IsDistinct-empty; count = refl })
+    (record { all = tt; new = tt; distinct = AreDistinct-empty; count = refl })
 drafts_of-holds format earlier station (d ∷ ds) drafts near h =
     let (draft, e1, h1) = bind-Ok (draft_of format earlier station d)
     (λ draft. drafts_of format (earlier ++ draft ∷ []) (station + 1) ds >>= (λ drafts. Ok (draft ∷ drafts))) drafts
@@ -361,6 +369,6 @@ drafts_of-holds format earlier station (d ∷ ds) drafts near h =
     (record {
       all = (first.0, others.all);
       new = (first.1, olds);
-      distinct = IsDistinct-cons bytes_eq draft.name (map (λ x. x.name) rest) own others.distinct;
+      distinct = AreDistinct-cons draft.name (map (λ x. x.name) rest) own others.distinct;
       count = omega (arith, others.count);
     })

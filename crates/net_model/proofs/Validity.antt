@@ -2,7 +2,7 @@
 use Rattle.std.proofs.Common.{◌≡◌, ◌≢◌, refl, ap, sym, ◌∙◌, subst, ℕ, zero, suc, ◌+◌, ◌<◌, ◌≤◌, ◌==◌, ◌||◌, nat_lt, not}
 use Rattle.std.proofs.Common.{true, false, codes, if◌then◌else◌, List, [], ◌∷◌, length, map, slice_get, option_map}
 use Rattle.std.proofs.Common.{unwrap_or, position, Option, Some, None, Ok, Err, ◌⊎◌, inl, inr, arith}
-use Rattle.std.specs.List.{AllByRecursion, IsDistinct}
+use Rattle.std.specs.List.{AllByRecursion}
 use Rattle.std.specs.Str.{bytes_eq}
 use Rattle.std.proofs.lemmas.Bool.{false≢true, ltb-false}
 use Rattle.std.proofs.lemmas.Bool.Decides.{nat_tests}
@@ -10,7 +10,8 @@ use Rattle.std.proofs.lemmas.List.{length-map}
 use Rattle.std.proofs.lemmas.List.Quantifiers.{position-Some}
 use Rattle.std.proofs.lemmas.Option.{slice_get-map}
 use Rattle.toml.specs.Data.{Data}
-use Rattle.sim_base.specs.Names.{is_name}
+use Rattle.sim_base.specs.Names.{is_name, AreDistinct}
+use Rattle.sim_base.specs.Weights.{IsWeight}
 use Rattle.net_model.specs.declared.fault.ModelFault.TheVariants.{UnknownStation, IntoSource, ShortDelay}
 use Rattle.net_model.specs.declared.fault.ModelFault.TheVariants.{NoWayOut, OutOfRange, TooMany}
 use Rattle.net_model.specs.declared.field.Field.TheVariants.{Format, Lookahead, Horizon, Seed, Limit, Station}
@@ -26,7 +27,7 @@ use Rattle.net_model.specs.Net.{Net, Site, is_sink, is_source, no_site, site_of}
 use Rattle.net_model.specs.Reading.{integer_at, tables_of, value_at}
 use Rattle.net_model.specs.Resolving.{links_of_named, kind_after, link_along, link_of_named}
 use Rattle.net_model.specs.Resolving.{site_of_draft, sites_of, with_way_out}
-use Rattle.net_model.specs.Rules.{HasWayOut, IsKind, IsLink, IsNet, IsOfFormat1, IsSite, IsWeight}
+use Rattle.net_model.specs.Rules.{HasWayOut, IsKind, IsLink, IsNet, IsOfFormat1, IsSite}
 use Rattle.net_model.specs.Sites.{with_sites}
 use Rattle.net_model.specs.Text.{model_of, sites_of_tables}
 use Rattle.net_model.specs.Top.{in_number, stations_at, top_of}
@@ -371,7 +372,7 @@ sites_of_tables-holds top ds sites is count h =
       short = is.short;
       some = omega (arith, size, read.count, count.0);
       few = omega (arith, size, read.count, count.1);
-      distinct = subst (λ (names : List (List ℕ)). IsDistinct bytes_eq names) (sym placed.names) read.distinct;
+      distinct = subst (λ (names : List (List ℕ)). AreDistinct names) (sym placed.names) read.distinct;
       sites = sites_are top drafts sites placed;
     }
 

@@ -1,18 +1,18 @@
 -- How an unknown key is shown: its first LONGEST_KEY_TEXT bytes, with `?` for each byte that no key has.
-use Rattle.std.specs.Prelude.{◌≡◌, ◌||◌, ◌==◌, ℕ, ◌-◌, ◌≤◌, ◌++◌, Bool}
-use Rattle.std.specs.Prelude.{true, if◌then◌else◌, List, length, map, take, drop, replicate}
+use Rattle.std.specs.Prelude.{◌≡◌, ◌||◌, ◌==◌, ℕ, ◌-◌, ◌++◌, Bool}
+use Rattle.std.specs.Prelude.{true, if◌then◌else◌, List, length, map, take, replicate}
 use Rattle.std.specs.List.{list_all}
 use Rattle.sim_base.specs.Names.{is_name_byte}
-use Rattle.sim_base.specs.Padding.{zeros_back}
+use Rattle.sim_base.specs.Padding.{HasZerosBehind, zeros_back}
 use Rattle.net_model.specs.declared.key_text.TheConstants.{LONGEST_KEY_TEXT}
 
 -- a byte as it is shown: itself where a key may have it, and else `?`
-abbrev pub display_byte : ℕ → ℕ
-display_byte b = if is_name_byte b then b else 63
+abbrev pub shown_byte : ℕ → ℕ
+shown_byte b = if is_name_byte b then b else 63
 
 -- what is shown of a key
 abbrev pub key_text : List ℕ → List ℕ
-key_text key = map display_byte (take LONGEST_KEY_TEXT key)
+key_text key = map shown_byte (take LONGEST_KEY_TEXT key)
 
 -- a byte that a key may have, or `?`
 abbrev pub is_shown : ℕ → Bool
@@ -20,13 +20,11 @@ is_shown b = is_name_byte b || (b == 63)
 
 -- the shown bytes, and zeros behind them
 pub record IsKeyText (bytes : List ℕ) (len : ℕ) : Type 0 where
-  pub free : len ≤ LONGEST_KEY_TEXT
-  pub size : length bytes ≡ LONGEST_KEY_TEXT
-  pub zeros : drop len bytes ≡ replicate (LONGEST_KEY_TEXT - len) 0
+  pub behind : HasZerosBehind LONGEST_KEY_TEXT bytes len
   pub shown : list_all is_shown (take len bytes) ≡ true
 
 -- a key text's bytes are the shown ones with zeros behind them, and the shown ones are as many as its length
 pub key_text_back : (bytes : List ℕ) (len : ℕ) → IsKeyText bytes len
     → (take len bytes ++ replicate (LONGEST_KEY_TEXT - length (take len bytes)) 0 ≡ bytes)
     × (length (take len bytes) ≡ len)
-key_text_back bytes len h = zeros_back LONGEST_KEY_TEXT bytes len h.free h.size h.zeros
+key_text_back bytes len h = zeros_back LONGEST_KEY_TEXT bytes len h.behind

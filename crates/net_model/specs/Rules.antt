@@ -1,15 +1,15 @@
 -- The rules that every model meets.
 use Rattle.std.specs.Prelude.{◌≡◌, ◌≢◌, ℕ, ◌≤◌, ◌&&◌, nat_le, Bool, List, length, map, codes, true, false, ◌⊎◌}
-use Rattle.std.specs.List.{AllByRecursion, IsDistinct}
-use Rattle.std.specs.Str.{bytes_eq}
-use Rattle.sim_base.specs.Names.{is_name}
+use Rattle.std.specs.List.{AllByRecursion}
+use Rattle.sim_base.specs.Names.{is_name, AreDistinct}
+use Rattle.sim_base.specs.Weights.{IsWeight}
 use Rattle.net_model.specs.declared.station.Kind.{Kind}
 use Rattle.net_model.specs.declared.station.Kind.TheVariants.{Source, Server, Delay, Router, Sink}
 use Rattle.net_model.specs.declared.station.Link.{Link}
 use Rattle.net_model.specs.Net.{Net, Site, HasStation, site_of, is_source}
 use Rattle.net_model.specs.declared.limits.TheConstants.{MOST_TIME, MOST_HORIZON, MOST_SEED, MOST_LIMIT}
 use Rattle.net_model.specs.declared.limits.TheConstants.{MOST_STATIONS, MOST_LINKS, MOST_JOBS, MOST_CLASS}
-use Rattle.net_model.specs.declared.limits.TheConstants.{MOST_SERVERS, MOST_ROOM, MOST_WEIGHT}
+use Rattle.net_model.specs.declared.limits.TheConstants.{MOST_SERVERS, MOST_ROOM}
 
 -- whether n is from low to high
 abbrev pub is_within : ℕ → ℕ → ℕ → Bool
@@ -53,11 +53,6 @@ IsOfFormat1 (Source lo hi jobs class) = class ≡ 1
 IsOfFormat1 (Server servers room lo hi by_class) = by_class ≡ false
 IsOfFormat1 _ = Unit {0}
 
--- a weight is from 1 to the most
-pub record IsWeight (weight : ℕ) : Type 0 where
-  pub heavy : 1 ≤ weight
-  pub light : weight ≤ MOST_WEIGHT
-
 -- a link leads to a station that takes jobs, and is no faster than the lookahead
 pub record IsLink (net : Net) (link : Link) : Type 0 where
   pub is_station : HasStation net link.to
@@ -94,5 +89,5 @@ pub record IsNet (net : Net) : Type 0 where
   pub short : net.limit ≤ MOST_LIMIT
   pub some : 1 ≤ length net.sites
   pub few : length net.sites ≤ MOST_STATIONS
-  pub distinct : IsDistinct bytes_eq (map (λ site. site.name) net.sites)
+  pub distinct : AreDistinct (map (λ site. site.name) net.sites)
   pub sites : AllByRecursion (IsSite net) net.sites

@@ -3,12 +3,13 @@
 //! The texts stand in `specs/Examples.antt`. Each function's contract is a theorem; there is nothing
 //! to run.
 ghost use Rattle.std.specs.Prelude.{◌≡◌, ◌++◌, [], Ok, Err, codes};
+ghost use Rattle.sim_base.specs.declared.limits.TheConstants.{MOST_FILE_BYTES};
 ghost use Rattle.net_model.specs.Text.{model};
 ghost use Rattle.net_model.specs.Examples.{cut_text, linked_desk, linked_out, named_desk, sinks, small};
 ghost use Rattle.net_model.specs.Examples.{small_text, timed_desk, top_text, top_with, with_top, without_link};
 ghost use Rattle.net_model.specs.declared.field.Field.TheVariants.{Lookahead, Horizon, Service};
 ghost use Rattle.net_model.specs.declared.key_text.TheConstants.{LONGEST_KEY_TEXT};
-ghost use Rattle.net_model.specs.declared.limits.TheConstants.{MOST_BYTES, MOST_CLASS, MOST_HORIZON, MOST_JOBS};
+ghost use Rattle.net_model.specs.declared.limits.TheConstants.{MOST_CLASS, MOST_HORIZON, MOST_JOBS};
 ghost use Rattle.net_model.specs.declared.limits.TheConstants.{MOST_LIMIT, MOST_LINKS, MOST_ROOM, MOST_SEED};
 ghost use Rattle.net_model.specs.declared.limits.TheConstants.{MOST_SERVERS, MOST_STATIONS, MOST_TIME, MOST_WEIGHT};
 ghost use Rattle.net_model.specs.declared.limits.TheConstants.{USUAL_LIMIT};
@@ -50,7 +51,7 @@ pub fn refused_links()
 
 /// The limits in numbers, as the format of model files gives them.
 pub fn limits_in_numbers()
-    ensures bytes { MOST_BYTES ≡ 1048576 }
+    ensures bytes { MOST_FILE_BYTES ≡ 1048576 }
     ensures stations { MOST_STATIONS ≡ 64 }
     ensures links { MOST_LINKS ≡ 16 }
     ensures time { MOST_TIME ≡ 1000000 }

@@ -11,7 +11,7 @@ use std::alloc::{AllocError, AllocFailed};
 /// that breaks it, or 0 for the top of the file.
 #[derive(Clone, Copy, Debug, PartialEq, Eq)]
 pub enum ModelFault {
-    /// More bytes than [`MOST_BYTES`](crate::limits::MOST_BYTES).
+    /// More bytes than [`MOST_FILE_BYTES`](sim_base::MOST_FILE_BYTES).
     TooLong,
     /// No TOML text.
     NotToml,

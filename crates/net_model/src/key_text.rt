@@ -1,10 +1,10 @@
 //! The beginning of an unknown key.
 ghost use Rattle.std.specs.Prelude.{◌≡◌, ◌≤◌, length, map, take, true};
 ghost use Rattle.std.specs.List.{list_all};
-ghost use Rattle.net_model.specs.KeyTexts.{display_byte, is_shown, key_text};
+ghost use Rattle.net_model.specs.KeyTexts.{shown_byte as shown_byte', is_shown, key_text};
 ghost use Rattle.net_model.specs.declared.key_text.TheConstants.{LONGEST_KEY_TEXT};
 
-use sim_base::name::may_follow;
+use sim_base::name::is_name_byte;
 use std::marker::Model;
 use std::str;
 
@@ -38,13 +38,13 @@ impl Model for KeyText {
 }
 
 fn shown_byte(byte: u8) -> u8
-    ensures { result ≡ display_byte byte }
+    ensures { result ≡ shown_byte' byte }
 {
-    if may_follow(byte) { byte } else { b'?' }
+    if is_name_byte(byte) { byte } else { b'?' }
 }
 
 fn show(bytes: &mut [u8])
-    ensures { bytes.new ≡ map display_byte bytes.old }
+    ensures { bytes.new ≡ map shown_byte' bytes.old }
 {
     for byte in bytes.iter_mut() {
         *byte = shown_byte(*byte);

@@ -2,11 +2,8 @@
 ghost use Rattle.std.specs.Prelude.{◌≡◌};
 ghost use Rattle.net_model.specs.Rules.{is_range as is_range_of};
 
-use sim_base::MOST_FILE_BYTES;
 use sim_base::limits::MOST_HANDLED;
 
-/// Bytes of a model's text.
-pub const MOST_BYTES: usize = MOST_FILE_BYTES;
 /// Stations of a model.
 pub const MOST_STATIONS: usize = 64;
 /// Links of a station.
@@ -17,7 +14,7 @@ pub const MOST_TIME: u64 = sim_base::limits::MOST_TIME;
 pub const MOST_HORIZON: u64 = 1_000_000_000;
 /// The seed of all draws, and the number of a station's stream.
 pub const MOST_SEED: u64 = 9_223_372_036_854_775_807;
-/// The limit: messages that a station may handle in one clone.
+/// The greatest limit that a model may state, and so the most messages that a station handles in one clone.
 pub const MOST_LIMIT: u64 = MOST_HANDLED;
 /// The limit of a model that states none.
 pub const USUAL_LIMIT: u64 = 16_384;

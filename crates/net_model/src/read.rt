@@ -9,11 +9,11 @@ ghost use Rattle.net_model.specs.Text.{model, model_of, sites_of_tables, tree};
 use crate::draft::read_drafts;
 use crate::fault::ModelFault;
 use crate::keys::{only_fields, top_fields};
-use crate::limits::MOST_BYTES;
 use crate::model::Model;
 use crate::resolve::resolve_stations;
 use crate::station::Station;
 use crate::top::{Top, station_tables, top_numbers};
+use sim_base::MOST_FILE_BYTES;
 use std::alloc::Global;
 use toml::de::Error;
 use toml::{Table, Value};
@@ -81,7 +81,7 @@ pub fn read_model(alloc: Global, text: &[u8]) -> Result<Model, ModelFault>
     ensures ok { IfOk result (λ m. model text.now ≡ Ok m) }
     ensures refused { IfErr result (λ e. e ≢ ModelFault.NoMemory → model text.now ≡ Err e) }
 {
-    if text.len() > MOST_BYTES {
+    if text.len() > MOST_FILE_BYTES {
         return Err(ModelFault::TooLong);
     }
     match read_tree(alloc, text) {

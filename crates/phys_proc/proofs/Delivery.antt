@@ -25,6 +25,7 @@ use Rattle.std.proofs.lemmas.Bool.{cases_Bool, eqb-false, false≢true, false_fr
 use Rattle.phys_proc.specs.Own.{StationCopy, AreMarks, IsCopy, taken_at, with_message}
 use Rattle.phys_proc.proofs.Sends.{all_inserted, marks_inserted, marks_join}
 use Rattle.phys_proc.proofs.ComesFrom.{sets_join}
+use Rattle.phys_proc.proofs.Halves.{IsCopy-like}
 
 -- ---- IsGiven and IsCopy
 
@@ -59,19 +60,8 @@ module _ (net : Net) (ends : ℕ → ℕ) (m : Msg) (k : CloneSet) where
 
   -- and it is a copy still
   given_fits : (s : ℕ) (a : StationCopy) → m.to ≡ s → IsCopy net s a → IsCopy net s (with_message m k a)
-  given_fits s a e f = record {
-    valid = f.valid;
-    inhabited = f.inhabited;
-    fits = f.fits;
-    suits = f.suits;
-    station = f.station;
-    handled = f.handled;
-    short = f.short;
-    sorted = (is_given a f.sorted).sorted;
-    targets = targets_by (meet a.set k == empty);
-    replays = f.replays;
-    marks = marks_by (meet a.set k == empty) refl;
-  }
+  given_fits s a e f = IsCopy-like net s a (with_message m k a) f refl refl f.inhabited (is_given a f.sorted).sorted
+      (targets_by (meet a.set k == empty)) (marks_by (meet a.set k == empty) refl)
     where
       targets_by : (none : Bool) → AllByRecursion (λ x. x.0.to ≡ s)
           (cond none a.pending (insert_marked union msg_cmp m (meet a.set k) a.pending))

@@ -25,6 +25,7 @@ use Rattle.phys_proc.specs.Own.{StationCopy, MarkedMessages, AreMarks, IsCopy, I
 use Rattle.phys_proc.specs.Own.{IsLowerBoundOfAll, copy_after_fork, taken_at, all_clones, handled_alone_by}
 use Rattle.phys_proc.specs.Procs.{KeepsShares}
 use Rattle.phys_proc.proofs.Counting.{empty_within, size_disjoint}
+use Rattle.phys_proc.proofs.Halves.{IsCopy-like}
 
 -- ---- set_after_fork
 
@@ -188,19 +189,10 @@ module _ (old new : ℕ) where
 
     -- a copy of the station is one still with the new clone
     forked_copy-fits : (a : StationCopy) → has a.set new ≡ false → IsCopy net s a → IsCopy net s (forked_copy old new a)
-    forked_copy-fits a n f = record {
-      valid = f.valid;
-      inhabited = (f.inhabited.0, set_after_fork-has old new a.set f.inhabited.0 f.inhabited.1);
-      fits = f.fits;
-      suits = f.suits;
-      station = f.station;
-      handled = f.handled;
-      short = f.short;
-      sorted = sorted_spread old new a.pending f.sorted;
-      targets = all_spread old new (λ m. m.to ≡ s) a.pending f.targets;
-      replays = f.replays;
-      marks = marks_grow a.set a.pending n f.marks;
-    }
+    forked_copy-fits a n f = IsCopy-like net s a (forked_copy old new a) f refl refl
+        (f.inhabited.0, set_after_fork-has old new a.set f.inhabited.0 f.inhabited.1)
+        (sorted_spread old new a.pending f.sorted) (all_spread old new (λ m. m.to ≡ s) a.pending f.targets)
+        (marks_grow a.set a.pending n f.marks)
 
     -- copies of a station, none of which has the new clone, are copies of it still with that clone
     pub forked_fits : (xs : List StationCopy) → AllByRecursion (λ a. has a.set new ≡ false) xs

@@ -14,7 +14,7 @@ use Rattle.clone_sets.proofs.SetLaws.{common_none, common_some, common_is}
 use Rattle.net_model.specs.Net.{Net}
 use Rattle.stations.specs.Runs.{simulation}
 use Rattle.sim_base.specs.Marked.{SortedMarked}
-use Rattle.run_laws.specs.Copies.{IsNarrowed}
+use Rattle.run_laws.specs.Copies.{Carries, IsNarrowed}
 use Rattle.sim_base.proofs.OrderEqual.{msg-timed}
 use Rattle.sim_base.proofs.ListLaws.{all_weaker, all_right}
 use Rattle.run_laws.proofs.Parts.{part_no, all_part_of}
@@ -153,6 +153,26 @@ none_of : (q : MarkedMessages) → None ≡ slice_get q 0 → q ≡ []
 none_of [] e = refl
 none_of (y ∷ ys) e = absurd (cc)
 
+-- ---- IsCopy
+
+-- what has the state and the log of a copy of the station is a copy of it, where its clones and what is pending fit
+pub IsCopy-like : (net : Net) (s : ℕ) (a b : StationCopy) → IsCopy net s a → b.state ≡ a.state → b.log ≡ a.log
+    → ((c : ℕ) × Carries has b c) → SortedMarked msg_cmp b.pending → AllByRecursion (λ x. x.0.to ≡ s) b.pending
+    → AllByRecursion (λ x. AreMarks b.set x.1) b.pending → IsCopy net s b
+IsCopy-like net s a b f state log some sorted targets marks = record {
+  valid = f.valid;
+  inhabited = some;
+  fits = rw state f.fits;
+  suits = rw state f.suits;
+  station = rw state f.station;
+  handled = rw (state, log) f.handled;
+  short = rw log f.short;
+  sorted = sorted;
+  targets = targets;
+  replays = rw (state, log) f.replays;
+  marks = marks;
+}
+
 -- ---- NothingDue and IsSameToClones
 
 module _ (ends : ℕ → ℕ) where
@@ -214,22 +234,13 @@ module _ (ends : ℕ → ℕ) where
   module _ (net : Net) (s : ℕ) where
     -- it is a copy like the first
     pub copy_same : (a b : StationCopy) → IsCopy net s a → IsSameToClones ends a b → IsCopy net s b
-    copy_same a b f h = record {
-      valid = f.valid;
-      inhabited = (f.inhabited.0, subst (λ k. has k f.inhabited.0 ≡ true) (sym h.copy.set) f.inhabited.1);
-      fits = rw h.copy.state f.fits;
-      suits = rw h.copy.state f.suits;
-      station = rw h.copy.state f.station;
-      handled = rw (h.copy.state, h.copy.log) f.handled;
-      short = rw h.copy.log f.short;
-      sorted = sorted_rest h.passed b.pending (subst (SortedMarked msg_cmp) h.pending f.sorted);
-      targets = all_right (λ x. x.0.to ≡ s) h.passed b.pending
-          (subst (AllByRecursion (λ x. x.0.to ≡ s)) h.pending f.targets);
-      replays = rw (h.copy.state, h.copy.log) f.replays;
-      marks = all_right (λ x. AreMarks b.set x.1) h.passed b.pending
-          (subst (AllByRecursion (λ x. AreMarks b.set x.1)) h.pending
-          (subst (λ k. AllByRecursion (λ x. AreMarks k x.1) a.pending) (sym h.copy.set) f.marks));
-    }
+    copy_same a b f h = IsCopy-like net s a b f h.copy.state h.copy.log
+        (f.inhabited.0, subst (λ k. has k f.inhabited.0 ≡ true) (sym h.copy.set) f.inhabited.1)
+        (sorted_rest h.passed b.pending (subst (SortedMarked msg_cmp) h.pending f.sorted))
+        (all_right (λ x. x.0.to ≡ s) h.passed b.pending (subst (AllByRecursion (λ x. x.0.to ≡ s)) h.pending f.targets))
+        (all_right (λ x. AreMarks b.set x.1) h.passed b.pending
+        (subst (AllByRecursion (λ x. AreMarks b.set x.1)) h.pending
+        (subst (λ k. AllByRecursion (λ x. AreMarks k x.1) a.pending) (sym h.copy.set) f.marks)))
 
     -- and its clones see what they saw
     pub narrowed_same : (a b : StationCopy) → IsSameToClones ends a b → IsNarrowed (simulation net) has ends a b
@@ -243,19 +254,8 @@ module _ (ends : ℕ → ℕ) where
     -- a copy for some of the clones is a copy
     pub copy_half : (a : StationCopy) (some : CloneSet) → IsCopy net s a → (c : ℕ) × (has some c ≡ true)
         → IsCopy net s (half a some)
-    copy_half a some f any = record {
-      valid = f.valid;
-      inhabited = any;
-      fits = f.fits;
-      suits = f.suits;
-      station = f.station;
-      handled = f.handled;
-      short = f.short;
-      sorted = sorted_cut some a.pending f.sorted;
-      targets = all_cut some (λ m. m.to ≡ s) a.pending f.targets;
-      replays = f.replays;
-      marks = marks_cut some a.pending;
-    }
+    copy_half a some f any = IsCopy-like net s a (half a some) f refl refl any (sorted_cut some a.pending f.sorted)
+        (all_cut some (λ m. m.to ≡ s) a.pending f.targets) (marks_cut some a.pending)
 
     -- whose clones see what they saw
     pub narrowed_half : (a : StationCopy) (some : CloneSet) → ((c : ℕ) → has some c ≡ true → has a.set c ≡ true)

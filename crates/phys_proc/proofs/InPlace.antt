@@ -206,7 +206,7 @@ module _ (net : Net) (valid : IsNet net) (s : ℕ) (ends : ℕ → ℕ) (bound :
   }
 
   -- a copy that the loop comes to
-  module _ (all cs more : List StationCopy) (i : ℕ) (sent : MarkedMessages) (over : CloneSet) (steps0 steps : ℕ)
+  module _ {all cs more : List StationCopy} {i : ℕ} {sent : MarkedMessages} {over : CloneSet} {steps0 steps : ℕ}
       (h : IsSteppedTo net s ends bound all i cs more sent over steps0 steps) (there : i < length cs)
       (x : StationCopy) (is : x ≡ get_or cs i x) where
     -- the copies behind it
@@ -287,11 +287,11 @@ module _ (net : Net) (valid : IsNet net) (s : ℕ) (ends : ℕ → ℕ) (bound :
         }
 
   -- all are done
-  pub stepped_to-end : (all cs more : List StationCopy) (i : ℕ) (sent : MarkedMessages) (over : CloneSet)
-      (steps0 steps : ℕ)
+  pub stepped_to-end : {all cs more : List StationCopy} {i : ℕ} {sent : MarkedMessages} {over : CloneSet}
+      {steps0 steps : ℕ}
       → IsSteppedTo net s ends bound all i cs more sent over steps0 steps → length cs ≤ i
       → IsStepResult net s ends bound all (cs ++ more) sent over steps0 steps
-  stepped_to-end all cs more i sent over steps0 steps h end =
+  stepped_to-end {all} {cs} {more} {i} {sent} {over} {steps0} {steps} h end =
       subst (λ k. IsStepResult net s ends bound k (cs ++ more) sent over steps0 steps)
       (sym (h.whole ∙ ap (λ k. h.passed ++ k) (drop_of_length-le cs {i = i} end) ∙ append-nil h.passed))
       (subst (λ k. IsStepResult net s ends bound h.passed (k ++ more) sent over steps0 steps) (take_all i cs end) h.far)

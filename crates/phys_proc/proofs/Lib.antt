@@ -14,4 +14,4 @@ pub mod LeastTimes
 pub mod RackViews
 pub mod Finishing
 pub mod InPlace
-pub mod CopyLeasts
+pub mod CopyBounds

@@ -4,6 +4,7 @@ use Rattle.std.specs.Prelude.{List, [], ◌∷◌, ◌++◌, true, length, map}
 use Rattle.std.specs.List.{AllByRecursion, AllZip}
 use Rattle.sim_base.specs.Order.{msg_cmp}
 use Rattle.sim_base.specs.Pending.{cut_by, insert_marked, spread_marks}
+use Rattle.sim_base.specs.declared.lists.TheConstants.{MOST_CLONES}
 use Rattle.sim_base.specs.declared.message.Msg.{Msg}
 use Rattle.sim_base.specs.declared.entry.Line.{Line}
 use Rattle.clone_sets.specs.Sets.{has, one, with, union, meet, common, empty, size}
@@ -18,7 +19,7 @@ use Rattle.run_laws.specs.World.{to_it}
 use Rattle.run_laws.specs.Window.{to_others}
 use Rattle.sim_base.specs.Marked.{SortedMarked}
 use Rattle.run_laws.specs.Copies.{Copy, insert_marked_all, handled_by, sends_aside, ComesTo, SoFar, GainTogether}
-use Rattle.run_laws.specs.Copies.{Disjoint, IsSameCopy}
+use Rattle.run_laws.specs.Copies.{Carries, Disjoint, IsSameCopy}
 pub use Rattle.msg_route.specs.Laws.{takes_at, taken_at}
 
 -- a copy of a station of a network
@@ -37,7 +38,7 @@ pub record AreMarks (set k : CloneSet) : Type 0 where
 -- a copy of station s: its state is the replay of its log
 pub record IsCopy (net : Net) (s : ℕ) (a : StationCopy) : Type 0 where
   pub valid : IsNet net
-  pub inhabited : (c : ℕ) × (has a.set c ≡ true)
+  pub inhabited : (c : ℕ) × Carries has a c
   pub fits : FitsState a.state
   pub suits : SuitsNet net a.state
   pub station : a.state.sender.station ≡ s
@@ -57,9 +58,9 @@ abbrev pub IsLowerBoundOfAll : ℕ → List StationCopy → Type 0
 IsLowerBoundOfAll t copies = AllByRecursion (IsLowerBound t) copies
 
 -- a message may be given to these copies: no clone is in two of them, and nothing of each is pending before its time
-pub record MayDeliver (leasts : List ℕ) (copies : List StationCopy) : Type 0 where
+pub record MayDeliver (bounds : List ℕ) (copies : List StationCopy) : Type 0 where
   pub disjoint : Disjoint has copies
-  pub each : AllZip IsLowerBound leasts copies
+  pub each : AllZip IsLowerBound bounds copies
 
 -- the clones of all copies together
 abbrev pub all_clones : List StationCopy → CloneSet
@@ -93,7 +94,7 @@ but_pending a = record a { pending = [] }
 -- the copy b is a without messages that none of its clones takes
 pub record IsSameToClones (ends : ℕ → ℕ) (a b : StationCopy) : Type 0 where
   pub copy : IsSameCopy a b
-  pub parts : (c : ℕ) → has a.set c ≡ true → taken_at ends c b.pending ≡ taken_at ends c a.pending
+  pub parts : (c : ℕ) → Carries has a c → taken_at ends c b.pending ≡ taken_at ends c a.pending
   pub passed : MarkedMessages
   pub pending : a.pending ≡ passed ++ b.pending
 
@@ -110,7 +111,7 @@ pub record NextDue (ends : ℕ → ℕ) (bound : ℕ) (a b : StationCopy) (m : M
 -- or nothing that its clones take comes before the bound
 pub record NothingDue (ends : ℕ → ℕ) (bound : ℕ) (a b : StationCopy) : Type 0 where
   pub same : IsSameToClones ends a b
-  pub settled : (c : ℕ) → has a.set c ≡ true → AllByRecursion (λ m. bound ≤ m.key.time) (taken_at ends c b.pending)
+  pub settled : (c : ℕ) → Carries has a c → AllByRecursion (λ m. bound ≤ m.key.time) (taken_at ends c b.pending)
 
 -- what a station sends to itself becomes pending to these clones
 abbrev pub pending_after : ℕ → CloneSet → List Msg → MarkedMessages → MarkedMessages
@@ -160,6 +161,11 @@ abbrev pub with_message : Msg → CloneSet → StationCopy → StationCopy
 with_message m k a = record a {
   pending = if meet a.set k == empty then a.pending else insert_marked union msg_cmp m (meet a.set k) a.pending;
 }
+
+-- the numbers that two clones may have, one that is there and one beside it
+pub record AreCloneNumbers (old new : ℕ) : Type 0 where
+  pub old_below : old < MOST_CLONES
+  pub new_below : new < MOST_CLONES
 
 -- the copy with the clone `new` beside the clone `old`, where it has that one
 abbrev pub copy_after_fork : ℕ → ℕ → StationCopy → StationCopy

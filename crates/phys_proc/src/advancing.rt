@@ -6,7 +6,7 @@ ghost use Rattle.phys_proc.specs.Stops.{IsStop};
 ghost use Rattle.phys_proc.specs.Ends.{ends_in};
 
 use crate::clone_ends::CloneEnds;
-use crate::copies::{Copies, earliest};
+use crate::copies::{Copies, lower_bound_of};
 use crate::copy::{PhysCopy, handle_least, next_due};
 use arrayvec::ArrayVec;
 use clone_sets::CloneSet;
@@ -126,8 +126,8 @@ pub(crate) fn bring_to_bound<L: Ledger>(
 {
     match stop {
         Stop::Settled => {
-            let least = earliest(&copy);
-            stage.done.put(copy, least)?;
+            let lower_bound = lower_bound_of(&copy);
+            stage.done.put(copy, lower_bound)?;
         }
         Stop::Full => {
             stage.over = stage.over.union(copy.set);

@@ -1,14 +1,13 @@
 //! The physical processes of a station, with lower bounds of the time stamps of their pending messages.
-ghost use Rattle.std.specs.Prelude.{◌≡◌, ◌<◌, ◌∷◌, ◌++◌, [], OnOk, IfOk, IsTrue, map};
+ghost use Rattle.std.specs.Prelude.{◌≡◌, ◌∷◌, ◌++◌, [], OnOk, IfOk, IsTrue, map};
 ghost use Rattle.std.specs.List.{AllZip};
 ghost use Rattle.sim_base.specs.Marked.{SortedMarked};
 ghost use Rattle.sim_base.specs.Order.{msg_cmp};
-ghost use Rattle.sim_base.specs.declared.lists.TheConstants.{MOST_CLONES};
 ghost use Rattle.clone_sets.specs.Sets.{has};
 ghost use Rattle.run_laws.specs.Copies.{Disjoint};
 ghost use Rattle.phys_proc.specs.Racks.{view_of_copy};
 ghost use Rattle.phys_proc.specs.Own.{with_message, copy_after_fork, but_pending, IsLowerBound, IsLowerBoundOfAll};
-ghost use Rattle.phys_proc.specs.Own.{MayDeliver};
+ghost use Rattle.phys_proc.specs.Own.{MayDeliver, AreCloneNumbers};
 
 use crate::copy::PhysCopy;
 use crate::rack::RackCopy;
@@ -23,9 +22,9 @@ use std::mem;
 pub(crate) struct Copies {
     copies: Vec<PhysCopy>,
     // for each copy, at the same place, a time that nothing of it is pending before: asking it reads no copy's memory
-    leasts: Vec<u64>,
+    bounds: Vec<u64>,
     // nothing is pending before it
-    least: u64,
+    lower_bound: u64,
 }
 
 impl Model for Copies {
@@ -37,12 +36,12 @@ impl Model for Copies {
 
     ghost view = { λ p. p.copies.items };
 
-    ghost invariant = { λ p. IsLowerBoundOfAll p.least p.copies.items ×
-        AllZip IsLowerBound p.leasts.items p.copies.items };
+    ghost invariant = { λ p. IsLowerBoundOfAll p.lower_bound p.copies.items ×
+        AllZip IsLowerBound p.bounds.items p.copies.items };
 }
 
 // A time that nothing of the copy is pending before.
-pub(crate) fn earliest(copy: &PhysCopy) -> u64
+pub(crate) fn lower_bound_of(copy: &PhysCopy) -> u64
     requires sorted { SortedMarked msg_cmp copy.now.pending }
     ensures lower { IsLowerBound result copy.now }
 {
@@ -52,17 +51,17 @@ pub(crate) fn earliest(copy: &PhysCopy) -> u64
     }
 }
 
-// Gives a message to those clones of the copy that are in the set. Nothing of it is pending before `least`.
-fn give(copy: &mut PhysCopy, least: &mut u64, msg: Msg, set: CloneSet) -> Result<(), NoMemory>
-    requires lower { IsLowerBound least.old copy.old }
+// Gives a message to those clones of the copy that are in the set. Nothing of it is pending before `lower_bound`.
+fn give(copy: &mut PhysCopy, lower_bound: &mut u64, msg: Msg, set: CloneSet) -> Result<(), NoMemory>
+    requires lower { IsLowerBound lower_bound.old copy.old }
     ensures given { OnOk result (copy.new ≡ with_message msg set copy.old) }
     ensures same { but_pending copy.new ≡ but_pending copy.old }
-    ensures lower { IsLowerBound least.new copy.new }
+    ensures lower { IsLowerBound lower_bound.new copy.new }
 {
     let shared = copy.set.meet(set);
     if !shared.is_empty() {
         copy.pending.insert(msg, shared)?;
-        *least = (*least).min(msg.key.time);
+        *lower_bound = (*lower_bound).min(msg.key.time);
     }
     Ok(())
 }
@@ -71,14 +70,14 @@ fn give(copy: &mut PhysCopy, least: &mut u64, msg: Msg, set: CloneSet) -> Result
 // behind the last that shares clones with the set. Returns its place.
 fn deliver(
     copies: &mut Vec<PhysCopy>,
-    leasts: &mut Vec<u64>,
+    bounds: &mut Vec<u64>,
     msg: Msg,
     set: CloneSet,
 ) -> Result<usize, NoMemory>
-    requires may_deliver { MayDeliver leasts.old.items copies.old.items }
+    requires may_deliver { MayDeliver bounds.old.items copies.old.items }
     ensures given { OnOk result (copies.new.items ≡ map (with_message msg set) copies.old.items) }
     ensures same { map but_pending copies.new.items ≡ map but_pending copies.old.items }
-    ensures each { AllZip IsLowerBound leasts.new.items copies.new.items }
+    ensures each { AllZip IsLowerBound bounds.new.items copies.new.items }
 {
     // those that no copy so far stands for
     let mut rest = set;
@@ -87,7 +86,7 @@ fn deliver(
             return Ok(i.saturating_sub(1));
         }
         rest = rest.minus(copies[i].set);
-        give(&mut copies[i], &mut leasts[i], msg, set)?;
+        give(&mut copies[i], &mut bounds[i], msg, set)?;
     }
     Ok(copies.len().saturating_sub(1))
 }
@@ -95,32 +94,31 @@ fn deliver(
 // The same, where the copy at `guess` gets it first.
 fn deliver_from(
     copies: &mut Vec<PhysCopy>,
-    leasts: &mut Vec<u64>,
+    bounds: &mut Vec<u64>,
     msg: Msg,
     set: CloneSet,
     guess: usize,
 ) -> Result<usize, NoMemory>
-    requires may_deliver { MayDeliver leasts.old.items copies.old.items }
+    requires may_deliver { MayDeliver bounds.old.items copies.old.items }
     ensures given { OnOk result (copies.new.items ≡ map (with_message msg set) copies.old.items) }
     ensures same { map but_pending copies.new.items ≡ map but_pending copies.old.items }
-    ensures each { AllZip IsLowerBound leasts.new.items copies.new.items }
+    ensures each { AllZip IsLowerBound bounds.new.items copies.new.items }
 {
     if guess >= copies.len() {
-        return deliver(copies, leasts, msg, set);
+        return deliver(copies, bounds, msg, set);
     }
     let rest = set.minus(copies[guess].set);
-    give(&mut copies[guess], &mut leasts[guess], msg, set)?;
+    give(&mut copies[guess], &mut bounds[guess], msg, set)?;
     if rest.is_empty() {
         return Ok(guess);
     }
-    let place = deliver(copies, leasts, msg, rest)?;
+    let place = deliver(copies, bounds, msg, rest)?;
     Ok(place)
 }
 
 // Puts the clone `new` beside the clone `old`, if the copy has that one.
 fn fork_copy(copy: &mut PhysCopy, old: u32, new: u32)
-    requires old { old < MOST_CLONES }
-    requires new { new < MOST_CLONES }
+    requires numbers { AreCloneNumbers old new }
     ensures forked { copy.new ≡ copy_after_fork old new copy.old }
 {
     if copy.set.has(old) {
@@ -131,8 +129,7 @@ fn fork_copy(copy: &mut PhysCopy, old: u32, new: u32)
 
 // Puts the clone `new` beside the clone `old`.
 fn fork(copies: &mut Vec<PhysCopy>, old: u32, new: u32)
-    requires old { old < MOST_CLONES }
-    requires new { new < MOST_CLONES }
+    requires numbers { AreCloneNumbers old new }
     ensures forked { copies.new.items ≡ map (copy_after_fork old new) copies.old.items }
 {
     for i in 0..copies.len() {
@@ -160,46 +157,46 @@ impl Copies {
     {
         Copies {
             copies: Vec::new(alloc),
-            leasts: Vec::new(alloc),
-            least: u64::MAX,
+            bounds: Vec::new(alloc),
+            lower_bound: u64::MAX,
         }
     }
 
-    /// One copy more, of which nothing is pending before `least`.
-    pub fn put(&mut self, copy: PhysCopy, least: u64) -> Result<(), NoMemory>
-        requires lower { IsLowerBound least copy }
+    /// One copy more, of which nothing is pending before `lower_bound`.
+    pub fn put(&mut self, copy: PhysCopy, lower_bound: u64) -> Result<(), NoMemory>
+        requires lower { IsLowerBound lower_bound copy }
         ensures more { OnOk result (self.new ≡ self.old ++ copy ∷ []) }
     {
-        self.leasts.reserve(1)?;
+        self.bounds.reserve(1)?;
         self.copies.reserve(1)?;
-        self.leasts.push_reserved(least);
+        self.bounds.push_reserved(lower_bound);
         self.copies.push_reserved(copy);
-        self.least = self.least.min(least);
+        self.lower_bound = self.lower_bound.min(lower_bound);
         Ok(())
     }
 
-    /// Puts copies before these, of which nothing is pending before `least`, and of each nothing before its time in
-    /// `leasts`. Out of memory, all are gone.
+    /// Puts copies before these, of which nothing is pending before `lower_bound`, and of each nothing before its time
+    /// in `bounds`. Out of memory, all are gone.
     pub fn put_before(
         &mut self,
         alloc: Global,
         copies: Vec<PhysCopy>,
-        leasts: Vec<u64>,
-        least: u64,
+        bounds: Vec<u64>,
+        lower_bound: u64,
     ) -> Result<(), NoMemory>
-        requires lower { IsLowerBoundOfAll least copies.items }
-        requires each { AllZip IsLowerBound leasts.items copies.items }
+        requires lower { IsLowerBoundOfAll lower_bound copies.items }
+        requires each { AllZip IsLowerBound bounds.items copies.items }
         ensures all { OnOk result (self.new ≡ copies.items ++ self.old) }
     {
         let mut copies = copies;
-        let mut leasts = leasts;
+        let mut bounds = bounds;
         let mut last = mem::replace(&mut self.copies, Vec::new(alloc));
-        let mut last_leasts = mem::replace(&mut self.leasts, Vec::new(alloc));
+        let mut last_bounds = mem::replace(&mut self.bounds, Vec::new(alloc));
         copies.append(&mut last)?;
-        leasts.append(&mut last_leasts)?;
+        bounds.append(&mut last_bounds)?;
         self.copies = copies;
-        self.leasts = leasts;
-        self.least = self.least.min(least);
+        self.bounds = bounds;
+        self.lower_bound = self.lower_bound.min(lower_bound);
         Ok(())
     }
 
@@ -210,18 +207,17 @@ impl Copies {
         ensures given { OnOk result (self.new ≡ map (with_message msg set) self.old) }
         ensures same { map but_pending self.new ≡ map but_pending self.old }
     {
-        let least = self.least.min(msg.key.time);
+        let lower_bound = self.lower_bound.min(msg.key.time);
         // also where memory is refused
-        self.least = 0;
-        let place = deliver_from(&mut self.copies, &mut self.leasts, msg, set, guess)?;
-        self.least = least;
+        self.lower_bound = 0;
+        let place = deliver_from(&mut self.copies, &mut self.bounds, msg, set, guess)?;
+        self.lower_bound = lower_bound;
         Ok(place)
     }
 
     /// Puts the clone `new` beside the clone `old`.
     pub fn fork(&mut self, old: u32, new: u32)
-        requires old { old < MOST_CLONES }
-        requires new { new < MOST_CLONES }
+        requires numbers { AreCloneNumbers old new }
         ensures forked { self.new ≡ map (copy_after_fork old new) self.old }
     {
         fork(&mut self.copies, old, new);
@@ -237,17 +233,17 @@ impl Copies {
     }
 
     /// A time that nothing of the copies is pending before.
-    pub fn earliest(&self) -> u64
+    pub fn lower_bound(&self) -> u64
         ensures lower { IsLowerBoundOfAll result self.now }
     {
-        self.least
+        self.lower_bound
     }
 
     /// Whether nothing is pending before the bound.
     pub fn is_idle(&self, bound: u64) -> bool
         ensures lower { IsTrue result → IsLowerBoundOfAll bound self.now }
     {
-        bound <= self.least
+        bound <= self.lower_bound
     }
 
     /// The copies, one by one, and for each a time that nothing of it is pending before.
@@ -257,17 +253,17 @@ impl Copies {
     {
         let Copies {
             copies,
-            leasts,
-            least: _,
+            bounds,
+            lower_bound: _,
         } = self;
-        (copies, leasts)
+        (copies, bounds)
     }
 
     /// For each copy, at the same place, a time that nothing of it is pending before.
-    pub fn leasts(&self) -> &[u64]
+    pub fn bounds(&self) -> &[u64]
         ensures each { AllZip IsLowerBound result.now self.now }
     {
-        self.leasts.as_slice()
+        self.bounds.as_slice()
     }
 
     /// The copies.

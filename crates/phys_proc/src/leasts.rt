@@ -1,10 +1,11 @@
 //! The least time stamps among the pending messages that clones take.
-ghost use Rattle.std.specs.Prelude.{◌≡◌, ℕ, ◌<◌, true};
+ghost use Rattle.std.specs.Prelude.{◌≡◌, ℕ, ◌<◌};
 ghost use Rattle.sim_base.specs.Marked.{SortedMarked};
 ghost use Rattle.sim_base.specs.Order.{msg_cmp};
 ghost use Rattle.sim_base.specs.declared.lists.TheConstants.{MOST_CLONES};
 ghost use Rattle.clone_sets.specs.Sets.{has};
 ghost use Rattle.run_laws.specs.Queue.{In};
+ghost use Rattle.run_laws.specs.Copies.{Carries};
 ghost use Rattle.phys_proc.specs.Own.{IsLowerBound, taken_at};
 ghost use Rattle.phys_proc.specs.Procs.{IsProc, IsLeastTime, IsLeastOf, IsLeastOfCopy, IsLeast, IsWithCopy};
 ghost use Rattle.phys_proc.specs.Ends.{ends_in};
@@ -20,7 +21,7 @@ use stations::due::earlier;
 pub(crate) fn least_of_clone(copy: &PhysCopy, c: u32, end: u64) -> Option<u64>
     requires sorted { SortedMarked msg_cmp copy.now.pending }
     requires clone { c < MOST_CLONES }
-    ensures least { (ends : ℕ → ℕ) → end ≡ ends c → IsLeastTime (λ m. (has copy.now.set c ≡ true) ×
+    ensures least { (ends : ℕ → ℕ) → end ≡ ends c → IsLeastTime (λ m. Carries has copy.now c ×
         In m (taken_at ends c copy.now.pending)) result }
 {
     if !copy.set.has(c) {
@@ -54,20 +55,20 @@ pub(crate) fn least_of_copy(copy: &PhysCopy, ends: &CloneEnds, horizon: u64) -> 
 }
 
 // The lesser of a time that was found before, and the least time that any of its clones takes of the copy. Nothing of
-// it is pending before `least`: it is looked at only if that is before the other time.
+// it is pending before `lower_bound`: it is looked at only if that is before the other time.
 fn with_copy(
     copy: &PhysCopy,
-    least: u64,
+    lower_bound: u64,
     ends: &CloneEnds,
     horizon: u64,
     before: Option<u64>,
 ) -> Option<u64>
     requires sorted { SortedMarked msg_cmp copy.now.pending }
-    requires lower { IsLowerBound least copy.now }
+    requires lower { IsLowerBound lower_bound copy.now }
     ensures least { IsWithCopy (ends_in horizon ends.now) copy.now before result }
 {
     if let Some(time) = before {
-        if time <= least {
+        if time <= lower_bound {
             return before;
         }
     }
@@ -96,9 +97,9 @@ impl Proc {
     {
         let mut least = None;
         let copies = self.copies();
-        let leasts = self.leasts();
+        let bounds = self.bounds();
         for i in 0..copies.len() {
-            least = with_copy(&copies[i], leasts[i], ends, model.horizon(), least);
+            least = with_copy(&copies[i], bounds[i], ends, model.horizon(), least);
         }
         least
     }

@@ -345,10 +345,10 @@ impl Proc {
     }
 
     /// A time that nothing of the copies is pending before.
-    pub fn earliest(&self) -> u64
+    pub fn lower_bound(&self) -> u64
         ensures lower { IsLowerBoundOfAll result self.now.copies }
     {
-        self.copies.earliest()
+        self.copies.lower_bound()
     }
 
     /// How many messages were handled, each once for all clones of a copy.
@@ -359,10 +359,10 @@ impl Proc {
     }
 
     /// For each copy, at the same place, a time that nothing of it is pending before.
-    pub(crate) fn leasts(&self) -> &[u64]
+    pub(crate) fn bounds(&self) -> &[u64]
         ensures each { AllZip IsLowerBound result.now self.now.copies }
     {
-        self.copies.leasts()
+        self.copies.bounds()
     }
 
     /// The copies.

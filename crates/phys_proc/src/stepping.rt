@@ -7,7 +7,7 @@ ghost use Rattle.phys_proc.specs.Stages.{MayStepCopies, IsNewStage};
 
 use crate::advancing::{Stage, Stop, bring_to_bound, handle_together};
 use crate::clone_ends::CloneEnds;
-use crate::copies::{Copies, earliest};
+use crate::copies::{Copies, lower_bound_of};
 use crate::copy::PhysCopy;
 use arrayvec::ArrayVec;
 use net_model::Model;
@@ -18,11 +18,11 @@ use std::sync::ledger::Ledger;
 
 // Steps the copies in place, and returns a time that nothing is pending before. Those whose clones part are
 // taken out, and the copies that they become are put with the others that are done. A copy is looked at only if its
-// time in `leasts` is before the bound.
+// time in `bounds` is before the bound.
 fn step_in_place<L: Ledger>(
     alloc: Global,
     copies: &mut Vec<PhysCopy>,
-    leasts: &mut Vec<u64>,
+    bounds: &mut Vec<u64>,
     model: &Model,
     station: u32,
     ends: &CloneEnds,
@@ -32,23 +32,23 @@ fn step_in_place<L: Ledger>(
     steps: &mut Steps<L>,
 ) -> Result<u64, NoMemory>
     requires may_step { MayStepCopies model.now station bound copies.old.items }
-    requires each { AllZip IsLowerBound leasts.old.items copies.old.items }
+    requires each { AllZip IsLowerBound bounds.old.items copies.old.items }
     requires new { IsNewStage stage.old }
     // what it gives: the copies at the bound, in place or done, what they sent, and the clones over the limit
     ensures stepped { OnOk result (IsStepResult model.now station (ends_in model.now.horizon ends.now) bound
         copies.old.items (copies.new.items ++ stage.new.done) stage.new.sent.items stage.new.over steps.old steps.new) }
     // times that nothing is pending before: of all copies in place, and of each
     ensures lower { IfOk result (λ t. IsLowerBoundOfAll t copies.new.items) }
-    ensures each { OnOk result (AllZip IsLowerBound leasts.new.items copies.new.items) }
+    ensures each { OnOk result (AllZip IsLowerBound bounds.new.items copies.new.items) }
     // what is counted: the messages handled
     ensures handled { OnOk result (stage.new.handled + steps.old ≡ steps.new) }
 {
-    let mut least = u64::MAX;
+    let mut lower_bound = u64::MAX;
     let mut i = 0;
     while i < copies.len() {
-        let first = leasts[i];
+        let first = bounds[i];
         if bound <= first {
-            least = least.min(first);
+            lower_bound = lower_bound.min(first);
             i += 1;
             continue;
         }
@@ -64,21 +64,21 @@ fn step_in_place<L: Ledger>(
         )?;
         match stop {
             Stop::Settled => {
-                let now = earliest(&copies[i]);
-                leasts[i] = now;
-                least = least.min(now);
+                let now = lower_bound_of(&copies[i]);
+                bounds[i] = now;
+                lower_bound = lower_bound.min(now);
                 i += 1;
             }
             _ => {
                 let copy = copies.remove(i);
-                let _ = leasts.remove(i);
+                let _ = bounds.remove(i);
                 bring_to_bound(
                     alloc, copy, stop, model, station, ends, bound, out, stage, steps,
                 )?;
             }
         }
     }
-    Ok(least)
+    Ok(lower_bound)
 }
 
 /// Steps all copies of a station to the bound, each in place. Where memory is refused, they are gone.
@@ -104,11 +104,11 @@ pub(crate) fn step_copies<L: Ledger>(
         stage.done = copies;
         return Ok(());
     }
-    let (mut standing, mut leasts) = copies.into_parts();
-    let least = step_in_place(
+    let (mut standing, mut bounds) = copies.into_parts();
+    let lower_bound = step_in_place(
         alloc,
         &mut standing,
-        &mut leasts,
+        &mut bounds,
         model,
         station,
         ends,
@@ -117,6 +117,6 @@ pub(crate) fn step_copies<L: Ledger>(
         stage,
         steps,
     )?;
-    stage.done.put_before(alloc, standing, leasts, least)?;
+    stage.done.put_before(alloc, standing, bounds, lower_bound)?;
     Ok(())
 }

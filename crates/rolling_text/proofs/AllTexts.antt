@@ -6,7 +6,7 @@ use Rattle.sim_outer.specs.Bytes.{IsAppended, IsPrefixAppended}
 use Rattle.sim_outer.proofs.Appending.{appended_then, part_then}
 use Rattle.net_model.specs.Net.{Net}
 use Rattle.trace_report.specs.Outputs.{clone_text}
-use Rattle.rolling_text.proofs.Joined.{clone_is}
+use Rattle.rolling_text.proofs.Joined.{clone_text-clone_at}
 use Rattle.rolling_text.proofs.Pieces.{pieces_around, pieces_more}
 
 -- ---- IsAppended, IsPrefixAppended
@@ -19,7 +19,7 @@ module _ (net : Net) (cs : List Clone) (c : ℕ) (there : c < length cs) (old mi
   put_whole k =
       subst (λ t. IsAppended old t new) (sym (pieces_more (clone_text net) cs c nobody there))
       (appended_then (flat_map (clone_text net) (take c cs)) (clone_text net (get_or cs c nobody)) old mid new before
-      (subst (λ t. IsAppended mid t new) (clone_is net cs c) k))
+      (subst (λ t. IsAppended mid t new) (clone_text-clone_at net cs c) k))
 
   -- where it is cut off, all texts are
   pub put_part : IsPrefixAppended mid (clone_text net (clone_at cs c)) new
@@ -28,4 +28,4 @@ module _ (net : Net) (cs : List Clone) (c : ℕ) (there : c < length cs) (old mi
       subst (λ t. IsPrefixAppended old t new) (pieces_around (clone_text net) cs c nobody there)
       (part_then (flat_map (clone_text net) (take c cs)) (clone_text net (get_or cs c nobody))
       (flat_map (clone_text net) (drop (c + 1) cs)) old mid new before
-      (subst (λ t. IsPrefixAppended mid t new) (clone_is net cs c) k))
+      (subst (λ t. IsPrefixAppended mid t new) (clone_text-clone_at net cs c) k))

@@ -19,12 +19,14 @@ module _ (net : Net) (list : Clone) where
       omega (arith, a, c)
 
   -- one more, that begins where they end
-  pub one_more : (from : ℕ) (bs : List GivenSpan) (until : ℕ) (b : GivenSpan) → SpansAreJoined net list from bs until
+  pub SpansAreJoined-push : (from : ℕ) (bs : List GivenSpan) (until : ℕ) (b : GivenSpan)
+      → SpansAreJoined net list from bs until
       → IfSome b.mailbox (λ m. m ≡ Some (record { net = net; list = list; from = until; until = b.until }))
       → until ≤ b.until
       → SpansAreJoined net list from (bs ++ b ∷ []) b.until
-  one_more from [] until b h is order =
+  SpansAreJoined-push from [] until b h is order =
       subst (λ t. IfSome b.mailbox (λ m. m ≡ Some (record { net = net; list = list; from = t; until = b.until }))
       × (t ≤ b.until)
       × (b.until ≡ b.until)) (let e : until ≡ from = omega (arith, h) in e) (is, order, refl)
-  one_more from (b1 ∷ bs) until b h is order = (h.0, h.1, one_more b1.until bs until b h.2 is order)
+  SpansAreJoined-push from (b1 ∷ bs) until b h is order =
+      (h.0, h.1, SpansAreJoined-push b1.until bs until b h.2 is order)

@@ -116,6 +116,6 @@ text_is net k name piece lines rest e f h =
     ∙ ap (λ l. codes "clone " ++ (k.name ++ (codes "\n" ++ l))) h ∙ all
 
 -- the clone at a place, as lists of pieces have it
-pub clone_is : (net : Net) (cs : List Clone) (c : ℕ)
+pub clone_text-clone_at : (net : Net) (cs : List Clone) (c : ℕ)
     → clone_text net (clone_at cs c) ≡ clone_text net (get_or cs c nobody)
-clone_is net cs c = ap (clone_text net) (unwrap_or-slice_get cs c nobody)
+clone_text-clone_at net cs c = ap (clone_text net) (unwrap_or-slice_get cs c nobody)

@@ -5,6 +5,7 @@ use Rattle.std.specs.List.{flat_map}
 use Rattle.std.proofs.lemmas.Grind.{flat_map-append}
 use Rattle.std.proofs.lemmas.Bool.{le-ltb}
 use Rattle.sim_base.specs.Clones.{Clone, clone_at}
+use Rattle.sim_base.specs.Decisions.{same_plan}
 use Rattle.sim_base.specs.declared.entry.Entry.{Entry}
 use Rattle.sim_base.specs.declared.entry.Line.{Line}
 use Rattle.sim_base.specs.declared.message.Msg.{Msg}
@@ -22,7 +23,6 @@ use Rattle.stations.specs.Runs.{simulation, trace_of}
 use Rattle.stations.specs.Good.{IsGood, sender_of, number_of, next_number}
 use Rattle.stations.proofs.GoodLaws.{lawful-stations, stations-to_stations, fresh-stations}
 use Rattle.trace_report.specs.TraceText.{entry_line}
-use Rattle.rolling_text.specs.Sharing.{same_plan}
 use Rattle.rolling_text.specs.Texts.{body, body_before, rest, parting_with_last, parting_at, dropped_at}
 use Rattle.world_core.specs.Worlds.{AreInNet}
 use Rattle.rolling_text.proofs.SamePlans.{tells_plans}

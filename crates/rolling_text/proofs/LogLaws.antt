@@ -44,8 +44,8 @@ use Rattle.rolling_text.specs.WorldTraces.{IsOver, WorldTracesView}
 -- ---- from_time
 
 -- a list from a time on is no longer than the list
-pub from_short : (t : ℕ) (es : List (Entry Msg Line)) → length (from_time t es) ≤ length es
-from_short t es =
+pub length-from_time : (t : ℕ) (es : List (Entry Msg Line)) → length (from_time t es) ≤ length es
+length-from_time t es =
     let late : Entry Msg Line → Bool = λ e. not (nat_lt e.msg.key.time t) in
     let short : length (filter late es) ≤ length es =
     omega (arith, length-filter late es, count_by-le-length late es) in
@@ -177,7 +177,7 @@ module _ (world : WorldView) (over : IsOver world) (c : ℕ) (there : c < length
   counted = record {
     there = over.in_net.plans c there;
     short = over.short c there;
-    within = λ s here. over.within s c (record { low = here.0; high = here.1 }) there;
+    within = over.within c there;
   }
 
   -- the keys of its logs fit words

@@ -6,10 +6,10 @@ use Rattle.std.proofs.lemmas.Bool.{cases_lt}
 use Rattle.std.proofs.lemmas.Bool.Decides.{same_from_decides}
 use Rattle.std.proofs.lemmas.List.{drop_more}
 use Rattle.std.proofs.Math.ListN.{drop_of_length-le}
+use Rattle.sim_base.specs.Decisions.{same_plan}
 use Rattle.sim_base.specs.declared.decision.Planned.{Planned}
+use Rattle.sim_base.proofs.SamePlans.{same_plan-Decides}
 use Rattle.run_laws.specs.SharedTexts.{parting_time}
-use Rattle.rolling_text.specs.Sharing.{same_plan}
-use Rattle.rolling_text.proofs.SamePlans.{same_plan-Decides}
 
 -- ---- parting_time, by any test of two decisions
 

@@ -146,6 +146,24 @@ both_taken all left less p q r old mid new none h k =
     (ap (λ l. h.done ++ l) (sym (append-nil k.done) ∙ ap (λ l. k.done ++ l) (sym none) ∙ k.parts) ∙ h.parts)
     (taken_then h.done k.done old mid new h.taken k.taken)
 
+module _ (all left less : List ℕ) (p q r : PageView) (old mid new : SinkView) (h : IsPutTo true all left p q old mid)
+    (k : IsPutTo false left less q r mid new) where
+  -- then the page has what is kept behind its text
+  text_kept : r.text ≡ p.text ++ h.done
+  text_kept = k.page_is ∙ append-nil q.text ∙ h.page_is
+
+  -- with what came then this is all
+  pub both_text : r.text ++ left ≡ p.text ++ all
+  both_text = ap (λ t. t ++ left) text_kept ∙ append_assoc p.text h.done left ∙ ap (λ l. p.text ++ l) h.parts
+
+  -- its text is no shorter than before
+  pub both_longer : length p.text ≤ length r.text
+  both_longer = let a = ap length text_kept in let b = length-append p.text h.done in omega (arith, a, b)
+
+  -- and no fewer bytes are reserved
+  pub both_reserved : p.reserved ≤ r.reserved
+  both_reserved = let a = h.reserved in let b = k.reserved in omega (arith, a, b)
+
 -- ---- the parts of a text, without a page
 
 -- of what is to be put this is left

@@ -5,6 +5,7 @@ use Rattle.std.proofs.lemmas.Bool.{cases_lt, le-ltb}
 use Rattle.std.proofs.lemmas.List.Sums.{sum_by-cons}
 use Rattle.std.specs.declared.cmp.Ordering.{Ordering}
 use Rattle.sim_base.specs.Clones.{Clone, clone_at}
+use Rattle.sim_base.specs.Decisions.{same_plan}
 use Rattle.sim_base.specs.declared.entry.Entry.{Entry}
 use Rattle.sim_base.specs.declared.entry.Line.{Line}
 use Rattle.sim_base.specs.declared.message.Msg.{Msg}
@@ -29,11 +30,10 @@ use Rattle.trace_cursor.specs.Rests.{merge_of_rests}
 use Rattle.trace_cursor.specs.Words.{by_key}
 use Rattle.world_core.specs.Worlds.{AreInNet, WorldView}
 use Rattle.rolling_text.specs.Lengths.{log_length, first_lengths}
-use Rattle.rolling_text.specs.Sharing.{same_plan}
 use Rattle.rolling_text.specs.Texts.{HaveShortLines, body, parting_at, parting_with_last}
 use Rattle.rolling_text.specs.WorldTraces.{IsOver}
 use Rattle.rolling_text.proofs.Keeping.{rest_from_0}
-use Rattle.rolling_text.proofs.LogLaws.{all_measured, from_short, log_measured, lengths_more}
+use Rattle.rolling_text.proofs.LogLaws.{all_measured, length-from_time, log_measured, lengths_more}
 use Rattle.rolling_text.proofs.SamePlans.{tells_plans}
 
 -- ---- HaveShortLines
@@ -103,7 +103,7 @@ module _ (world : WorldView) (over : IsOver world) (c : ℕ) (there : c < length
       subst (λ l. In x l) (e ∙ ap (log_at net clone s) over.done) j in
       (in_filter (λ y. y.msg.to == s) (trace_of net clone) x k).0 in
       let b = sum_short net (from_time 0 log) (record { each = λ x i. h.each x (in_trace x i) }) in
-      let d = from_short 0 log in
+      let d = length-from_time 0 log in
       omega (arith, a, b, d)
 
   -- so with one log more the bound grows by as many for each entry

@@ -1,6 +1,6 @@
 -- A call adds one decision to one list at most. Where there is no clone, its list is empty.
 use Rattle.std.proofs.Common.{ℕ, zero, suc, ◌+◌, ◌≤◌, List}
-use Rattle.std.proofs.Common.{[], ◌∷◌, ◌++◌, arith, length, length-append, slice_set, Some, None}
+use Rattle.std.proofs.Common.{[], ◌∷◌, ◌++◌, arith, length, length-append, slice_set, Some}
 use Rattle.sim_base.specs.Clones.{Clone, base, clone_at, clones_with_plan, clones_with_end, clones_with_fork, fork_of}
 use Rattle.sim_base.specs.Clones.{with_plan}
 use Rattle.sim_base.specs.declared.message.TheConstants.{WORD_NUMBERS}

@@ -1,4 +1,3 @@
-pub mod Sharing
 pub mod Pages
 pub mod Lengths
 pub mod WorldTraces

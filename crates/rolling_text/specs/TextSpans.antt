@@ -1,5 +1,5 @@
 -- Spans of a clone's text.
-use Rattle.std.specs.Prelude.{◌≡◌, ◌+◌, ◌<◌, ◌≤◌, true, length}
+use Rattle.std.specs.Prelude.{◌≡◌, ◌+◌, ◌<◌, ◌≤◌, true, length, Result, OnOk, OnErr}
 use Rattle.sim_base.specs.Clones.{clone_at}
 use Rattle.sim_outer.specs.Views.{SinkView}
 use Rattle.rolling_text.specs.Orders.{Span, span_between}
@@ -31,3 +31,10 @@ IsSpanPut traces span page page_now old new = IsPutTo span.keeps
 -- it is cut off, or the lines behind it are
 abbrev pub IsSpanCutOff : WorldTracesView → TextSpan → SinkView → SinkView → Type 0
 IsSpanCutOff traces span old new = IsCutOff (rest traces.net (clone_at traces.clones span.c) span.from) old new
+
+-- what the put of a span leaves: it is put, or cut off, and in any case the texts can put more
+pub record PutsSpan {E : Type 0} (traces : WorldTracesView) (span : TextSpan) (old_texts new_texts : Texts)
+    (old_sink new_sink : SinkView) (result : Result (Unit {0}) E) : Type 0 where
+  pub ok : OnOk result (IsSpanPut traces span old_texts.page new_texts.page old_sink new_sink)
+  pub err : OnErr result (IsSpanCutOff traces span old_sink new_sink)
+  pub can : CanPut traces.net new_texts

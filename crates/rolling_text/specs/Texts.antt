@@ -2,6 +2,7 @@
 use Rattle.std.specs.Prelude.{◌≡◌, ℕ, zero, suc, ◌+◌, ◌-◌, ◌<◌, ◌≤◌, List, [], ◌++◌, length}
 use Rattle.std.specs.List.{flat_map}
 use Rattle.sim_base.specs.Clones.{Clone, clone_at}
+use Rattle.sim_base.specs.Decisions.{same_plan}
 use Rattle.sim_base.specs.declared.entry.Entry.{Entry}
 use Rattle.sim_base.specs.declared.entry.Line.{Line}
 use Rattle.sim_base.specs.declared.message.Msg.{Msg}
@@ -11,7 +12,6 @@ use Rattle.run_laws.specs.SharedTexts.{entries_from, parting_of}
 use Rattle.stations.specs.Runs.{simulation, trace_of}
 use Rattle.trace_report.specs.declared.line.TheConstants.{MOST_LINE}
 use Rattle.trace_report.specs.TraceText.{entry_line}
-use Rattle.rolling_text.specs.Sharing.{same_plan}
 use Rattle.rolling_text.specs.WorldTraces.{IsWalk}
 use Rattle.rolling_text.specs.declared.texts.TheConstants.{MARGIN}
 use Rattle.rolling_text.specs.declared.texts.Texts.{Texts}

@@ -1,8 +1,8 @@
 //! The lines of a clone in a span of time, put by one worker or beside makers.
-ghost use Rattle.std.specs.Prelude.{◌≡◌, ◌<◌, length, OnOk, OnErr};
-ghost use Rattle.rolling_text.specs.TextSpans.{IsSpanCutOff, IsSpanPut, MayPut, span_of};
-ghost use Rattle.rolling_text.specs.Texts.{CanPut};
+ghost use Rattle.std.specs.Prelude.{◌≡◌, ◌<◌, length};
 ghost use Rattle.rolling_text.specs.GivenSpans.{IsNextSpan};
+ghost use Rattle.rolling_text.specs.Orders.{IsMade};
+ghost use Rattle.rolling_text.specs.TextSpans.{MayPut, PutsSpan, span_of};
 
 use crate::given_spans::{GivenSpans, NextSpan};
 use crate::logs::count_from;
@@ -20,6 +20,21 @@ use std::thread::{Threads, join_mut};
 // One worker puts what has fewer lines, since a thread costs more.
 const LONG: u64 = 32_768;
 
+// Puts the lines of a span that a maker has made. The traces are read by the contract alone.
+fn put_made<O: Sink>(
+    _traces: &WorldTraces<'_>,
+    texts: &mut Texts<'_>,
+    lines: &[u8],
+    span: TextSpan,
+    out: &mut O,
+) -> Result<(), PutFailed>
+    requires made { IsMade (span_of _traces.now span) lines.now }
+    requires may { MayPut _traces.now span texts.old }
+    ensures put { PutsSpan _traces.now span texts.old texts.new (O.view out.old) (O.view out.new) result }
+{
+    texts.page.put_part(lines, span.keeps, out)
+}
+
 // Puts the next span: the lines that a maker has made, or else those that this worker makes itself.
 fn put_next<'a, O: Sink>(
     traces: &WorldTraces<'a>,
@@ -30,16 +45,10 @@ fn put_next<'a, O: Sink>(
 ) -> Result<(), PutFailed>
     requires next { IsNextSpan (span_of traces.now span) next }
     requires may { MayPut traces.now span texts.old }
-    ensures ok { OnOk result (IsSpanPut traces.now span texts.old.page texts.new.page
-        (O.view out.old) (O.view out.new)) }
-    ensures err { OnErr result (IsSpanCutOff traces.now span (O.view out.old) (O.view out.new)) }
-    ensures can { CanPut traces.now.net texts.new }
+    ensures put { PutsSpan traces.now span texts.old texts.new (O.view out.old) (O.view out.new) result }
 {
     match next {
-        NextSpan::Made(lines) => match texts.page.put_part(&lines, span.keeps, out) {
-            Ok(()) => Ok(()),
-            Err(failed) => Err(failed),
-        },
+        NextSpan::Made(lines) => put_made(traces, texts, &lines, span, out),
         NextSpan::Own => put_span(traces, texts, span, out),
     }
 }
@@ -57,10 +66,7 @@ fn put_given<'a, O: Sink, R: Wait>(
 ) -> Result<(), PutFailed>
     requires given { given.old ≡ span_of traces.now span }
     requires may { MayPut traces.now span texts.old }
-    ensures ok { OnOk result (IsSpanPut traces.now span texts.old.page texts.new.page
-        (O.view out.old) (O.view out.new)) }
-    ensures err { OnErr result (IsSpanCutOff traces.now span (O.view out.old) (O.view out.new)) }
-    ensures can { CanPut traces.now.net texts.new }
+    ensures put { PutsSpan traces.now span texts.old texts.new (O.view out.old) (O.view out.new) result }
 {
     let mut made = span.from;
     for _ in 0..given.count() {
@@ -96,20 +102,15 @@ fn put_beside<'a, O: Sink, R: Threads + Wait + Sync>(
 ) -> Result<(), PutFailed>
     requires given { given.old ≡ span_of traces.now span }
     requires may { MayPut traces.now span texts.old }
-    ensures ok { OnOk result (IsSpanPut traces.now span texts.old.page texts.new.page
-        (O.view out.old) (O.view out.new)) }
-    ensures err { OnErr result (IsSpanCutOff traces.now span (O.view out.old) (O.view out.new)) }
-    ensures can { CanPut traces.now.net texts.new }
+    ensures put { PutsSpan traces.now span texts.old texts.new (O.view out.old) (O.view out.new) result }
 {
     let ended = AtomicBool::new(false);
     let mut makers = Some(makers);
     let mut make = || serve_once(rt, alloc, &ended, &mut makers);
     let mut put = || -> Result<(), PutFailed>
         requires { (given.now ≡ span_of traces.now span) × MayPut traces.now span texts.now }
-        ensures { OnOk result (IsSpanPut traces.entry.now span texts.entry.now.page texts.exit.now.page
-            (O.view out.entry.now) (O.view out.exit.now))
-            × OnErr result (IsSpanCutOff traces.entry.now span (O.view out.entry.now) (O.view out.exit.now))
-            × CanPut traces.entry.now.net texts.exit.now }
+        ensures { PutsSpan traces.entry.now span texts.entry.now texts.exit.now
+            (O.view out.entry.now) (O.view out.exit.now) result }
     {
         let done = put_given(rt, alloc, traces, given, texts, span, out);
         ended.store(true, Ordering::SeqCst);
@@ -138,10 +139,7 @@ pub(crate) fn put_lines<'a, O: Sink, R: Threads + Wait + Sync>(
     out: &mut O,
 ) -> Result<(), PutFailed>
     requires may { MayPut traces.now span texts.old }
-    ensures ok { OnOk result (IsSpanPut traces.now span texts.old.page texts.new.page
-        (O.view out.old) (O.view out.new)) }
-    ensures err { OnErr result (IsSpanCutOff traces.now span (O.view out.old) (O.view out.new)) }
-    ensures can { CanPut traces.now.net texts.new }
+    ensures put { PutsSpan traces.now span texts.old texts.new (O.view out.old) (O.view out.new) result }
 {
     if workers <= 1 || is_short(traces, span) {
         return put_span(traces, texts, span, out);

@@ -3,13 +3,14 @@
 //! No line is longer than `MOST_LINE`, since its numbers are words and names have at most 16 bytes. A clone's entries
 //! from where it parts from the one before it are met once each, which shows it of them; those before are the other
 //! clone's.
-ghost use Rattle.std.specs.Prelude.{◌≡◌, ℕ, ◌^◌, ◌<◌, ◌≤◌, length};
+ghost use Rattle.std.specs.Prelude.{◌≡◌, ℕ, ◌<◌, ◌≤◌, length};
 ghost use Rattle.sim_base.specs.Clones.{clone_at};
 ghost use Rattle.stations.specs.Runs.{simulation, trace_of};
 ghost use Rattle.run_laws.specs.SharedTexts.{entries_from};
 ghost use Rattle.log_chain.specs.Times.{RiseByTime, from_time};
 ghost use Rattle.trace_report.specs.Slots.{AreNames};
 ghost use Rattle.rolling_text.specs.Texts.{HaveShortLines, body, parting_at};
+ghost use Rattle.rolling_text.specs.declared.texts.TheConstants.{MOST_TEXT};
 ghost use Rattle.rolling_text.specs.WorldTraces.{IsOverWith, MayTrace};
 
 use crate::world_traces::WorldTraces;
@@ -48,7 +49,7 @@ fn bound_of(world: &World, c: u32) -> usize
     requires clone { IsOverWith world.now c }
     requires short { HaveShortLines world.now.net (trace_of world.now.net (clone_at world.now.clones c)) }
     ensures bound { length (body world.now.net (clone_at world.now.clones c)) ≤ result }
-    ensures few { result ≤ 2 ^ 40 }
+    ensures few { result ≤ MOST_TEXT }
 {
     let mut bound = 0;
     for s in 0..world.model().len() {
@@ -72,7 +73,7 @@ pub(crate) fn parts_at(traces: &WorldTraces<'_>, c: u32) -> u64
 pub(crate) fn greatest_bound(traces: &WorldTraces<'_>) -> usize
     ensures bound { (c : ℕ) → c < length traces.now.clones
         → length (body traces.now.net (clone_at traces.now.clones c)) ≤ result }
-    ensures few { result ≤ 2 ^ 40 }
+    ensures few { result ≤ MOST_TEXT }
 {
     let mut most = 0usize;
     for c in 0..traces.len() {

@@ -1,5 +1,5 @@
 //! How long the lines of a clone are, and how many, out of the logs of a world at the horizon.
-ghost use Rattle.std.specs.Prelude.{◌≡◌, ◌+◌, ◌*◌, ◌^◌, ◌<◌, ◌≤◌, length, sum_by};
+ghost use Rattle.std.specs.Prelude.{◌≡◌, ◌+◌, ◌*◌, ◌<◌, ◌≤◌, length, sum_by};
 ghost use Rattle.sim_base.specs.Clones.{clone_at};
 ghost use Rattle.log_chain.specs.Times.{RiseByTime, from_time};
 ghost use Rattle.net_model.specs.declared.limits.TheConstants.{MOST_LIMIT};
@@ -9,6 +9,7 @@ ghost use Rattle.trace_report.specs.TraceText.{entry_line};
 ghost use Rattle.run_laws.specs.SharedTexts.{entries_from};
 ghost use Rattle.stations.specs.Runs.{simulation, trace_of};
 ghost use Rattle.rolling_text.specs.Texts.{rest};
+ghost use Rattle.rolling_text.specs.declared.texts.TheConstants.{MOST_TEXT};
 ghost use Rattle.rolling_text.specs.WorldTraces.{IsOverWith, MayTrace};
 
 use log_chain::Log;
@@ -44,7 +45,7 @@ pub(crate) fn len_between(world: &World, names: &Names, c: u32, from: u64, until
     requires order { from ≤ until }
     ensures value { result + length (rest world.now.net (clone_at world.now.clones c) until)
         ≡ length (rest world.now.net (clone_at world.now.clones c) from) }
-    ensures short { result ≤ 2 ^ 39 }
+    ensures short { result ≤ MOST_TEXT }
 {
     let model = world.model();
     let mut sum = 0;

@@ -1,7 +1,7 @@
 //! Where the decision lists of two clones part.
 ghost use Rattle.std.specs.Prelude.{◌≡◌, []};
+ghost use Rattle.sim_base.specs.Decisions.{same_plan as same_plan'};
 ghost use Rattle.run_laws.specs.SharedTexts.{parting_time as parting_time'};
-ghost use Rattle.rolling_text.specs.Sharing.{same_plan as same_plan'};
 
 use sim_base::{Planned, same_plan};
 

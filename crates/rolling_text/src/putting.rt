@@ -14,7 +14,7 @@ use crate::bounds::parts_at;
 use crate::logs::len_between;
 use crate::page::Page;
 use crate::text_span::TextSpan;
-use crate::texts::Texts;
+use crate::texts::{FEED, Texts};
 use crate::world_traces::WorldTraces;
 use sim_base::Name;
 use sim_outer::{PutFailed, Sink};
@@ -33,8 +33,8 @@ fn put_head(page: &mut Page, name: &Name) -> usize
     ensures reserved { page.new.reserved ≡ page.old.reserved }
 {
     let bytes = name.as_bytes();
-    let at = 31 - bytes.len();
-    page.put_at(31, b"\n");
+    let at = FEED - bytes.len();
+    page.put_at(FEED, b"\n");
     page.put_at(at, bytes);
     page.put_at(at - 6, b"clone ");
     at - 6

@@ -1,11 +1,10 @@
 //! The lines of a clone in a span of time: put, or in a buffer of their own.
-ghost use Rattle.std.specs.Prelude.{◌≡◌, ◌≤◌, length, drop, IfOk, OnOk, OnErr};
+ghost use Rattle.std.specs.Prelude.{◌≡◌, ◌≤◌, length, drop, IfOk};
 ghost use Rattle.sim_base.specs.Clones.{clone_at};
 ghost use Rattle.stations.specs.Runs.{simulation, trace_of};
 ghost use Rattle.run_laws.specs.SharedTexts.{entries_from};
 ghost use Rattle.rolling_text.specs.Orders.{HasSpan, IsMade, span_between};
-ghost use Rattle.rolling_text.specs.TextSpans.{IsSpanCutOff, IsSpanPut, MayPut};
-ghost use Rattle.rolling_text.specs.Texts.{CanPut};
+ghost use Rattle.rolling_text.specs.TextSpans.{MayPut, PutsSpan};
 ghost use Rattle.rolling_text.specs.WorldTraces.{IsWalk};
 
 use crate::lines::{add_entries, fill_cursor, put_entries};
@@ -77,10 +76,7 @@ pub(crate) fn put_span<'a, O: Sink>(
     out: &mut O,
 ) -> Result<(), PutFailed>
     requires may { MayPut traces.now span texts.old }
-    ensures ok { OnOk result (IsSpanPut traces.now span texts.old.page texts.new.page
-        (O.view out.old) (O.view out.new)) }
-    ensures err { OnErr result (IsSpanCutOff traces.now span (O.view out.old) (O.view out.new)) }
-    ensures can { CanPut traces.now.net texts.new }
+    ensures put { PutsSpan traces.now span texts.old texts.new (O.view out.old) (O.view out.new) result }
 {
     let count = gather_span(traces, &mut texts.walk, span.c, span.from, span.until);
     let model = traces.world.model();

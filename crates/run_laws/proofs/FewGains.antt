@@ -10,7 +10,7 @@ use Rattle.std.proofs.lemmas.List.{length-map}
 use Rattle.std.proofs.lemmas.List.Sums.{sum_by-cons, sum_by-le}
 use Rattle.std.proofs.lemmas.Map.Made.{distinct_count-le}
 use Rattle.std.proofs.lemmas.List.Elements.{All-from_recursion}
-use Rattle.sim_base.specs.Clones.{Clone}
+use Rattle.sim_base.specs.Clones.{Clone, clone_at}
 use Rattle.sim_base.specs.declared.entry.Entry.{Entry}
 use Rattle.sim_base.specs.Marked.{SortedMarked}
 use Rattle.run_laws.specs.Queue.{In}
@@ -30,7 +30,7 @@ use Rattle.run_laws.proofs.Prefixes.{no_longer}
 use Rattle.run_laws.proofs.Places.{place_in}
 use Rattle.run_laws.proofs.Counts.{in_map, map_has, logs_have_prefix, few_prefixes, none_cut}
 use Rattle.run_laws.proofs.ComesTo.{until_lawful}
-use Rattle.run_laws.proofs.Gaining.{begins_somehow}
+use Rattle.run_laws.proofs.Gaining.{begins_somehow, not_beyond}
 use Rattle.run_laws.proofs.Queue.{all_from}
 
 -- ---- gains
@@ -112,7 +112,8 @@ module _ {S M N : Type 0} (sim : Simulation S M N) where
       let each : (l : List (Entry M N)) → In l logs → length l ≤ sim.limit = λ l i.
       let k = in_map (λ c. log_at sim c s front) cs l i in
       let c = place_in cs k.0 k.1 in
-      subst (λ t. length t ≤ sim.limit) (ap (λ k. log_at sim k s front) c.2 ∙ sym k.2) (short c.0 c.1) in
+      subst (λ t. length t ≤ sim.limit) (ap (λ k. log_at sim k s front) c.2 ∙ sym k.2)
+      (not_beyond sim (clone_at cs c.0) s front (short c.0 c.1)) in
       let few : length (flat_map prefixes logs) ≤ length logs * sim.limit =
       subst (λ t. length (flat_map prefixes t) ≤ length logs * sim.limit) (none_cut sim.limit logs each)
       (few_prefixes sim.limit logs) in

@@ -5,7 +5,7 @@ use Rattle.std.proofs.Common.{◌∷◌, ◌++◌, ◌⊎◌, inl, inr, Bool, tr
 use Rattle.std.proofs.Common.{ap, ◌∙◌, subst, arith, length, length-append, map, take, drop, append_assoc, append-nil}
 use Rattle.std.specs.List.{AllByRecursion, flat_map}
 use Rattle.std.specs.Set.{distinct_count}
-use Rattle.std.proofs.lemmas.Bool.{lt-ltb}
+use Rattle.std.proofs.lemmas.Bool.{cases_lt, lt-ltb}
 use Rattle.std.proofs.lemmas.List.{take-append-drop, length-map, append_cancel_left}
 use Rattle.std.proofs.lemmas.List.Elements.{filter-append}
 use Rattle.std.proofs.lemmas.Map.Made.{distinct_count-le}
@@ -71,6 +71,16 @@ one_goes_on (x ∷ xs) h (y ∷ p) rest e =
       | inr r ↦ let u = r.2 in inr (r.0, r.1, cc)
     ]
 
+-- ---- IsBeyond
+
+-- a log that is not beyond the limit is no longer than it
+pub not_beyond : {S M N : Type 0} (sim : Simulation S M N) (c : Clone) (s front : ℕ) → ¬ (IsBeyond sim s front c) →
+    length (log_at sim c s front) ≤ sim.limit
+not_beyond sim c s front h = elim (cases_lt sim.limit (length (log_at sim c s front))) [
+  | inl long ↦ absurd (h long)
+  | inr short ↦ short
+]
+
 -- ---- log_at, due_at
 
 module _ {S M N : Type 0} {sim : Simulation S M N} {Good : ℕ → S → Type 0} (law : HandlesLawfully sim Good) where
@@ -106,14 +116,13 @@ module _ {S M N : Type 0} {sim : Simulation S M N} {Good : ℕ → S → Type 0}
             (run_of sim c front).at.trace h.0,
       )
 
-  -- and is no longer there than it is later
-  pub shorter_before : (c : Clone) (s front bound n : ℕ) → front ≤ bound → length (log_at sim c s bound) ≤ n →
-      length (log_at sim c s front) ≤ n
-  shorter_before c s front bound n l short =
+  -- and is beyond the limit there, if it was before
+  pub IsBeyond-later : (c : Clone) (s front bound : ℕ) → front ≤ bound → IsBeyond sim s front c → IsBeyond sim s bound c
+  IsBeyond-later c s front bound l long =
       let h = log_at-goes_on c s front bound l in
       let e = ap length h.1 in
       let k = length-append (log_at sim c s front) h.0 in
-      omega (arith, e, k)
+      omega (arith, e, k, long)
 
   -- what is due at a front does not come before it
   due_at-from_front : (c : Clone) (s front : ℕ) → AllByRecursion (λ m. front ≤ sim.time m) (due_at sim c s front)
@@ -331,7 +340,7 @@ module _ {S M N K : Type 0} {sim : Simulation S M N} {Good : ℕ → S → Type 
             take sim.limit (log_at sim (clone_at cs c) s bound) ≡ log_at sim (clone_at cs c) s front
             ++ take (sim.limit - length (log_at sim (clone_at cs c) s front)) h
         cut_on c l h e = ap (take sim.limit) e ∙ cut_goes_on sim.limit (log_at sim (clone_at cs c) s front) h
-            (short c l)
+            (not_beyond sim (clone_at cs c) s front (short c l))
 
         -- no prefix of a log at the front was gained
         apart : (p : List (Entry M N)) → Early p → New p → ⊥
@@ -442,9 +451,10 @@ module _ {S M N K : Type 0} {sim : Simulation S M N} {Good : ℕ → S → Type 
         (sym (none_cut sim.limit (logs_at sim cs s bound) (λ l i.
         let k = in_map (λ k. log_at sim k s bound) cs l i in
         let c = place_in cs k.0 k.1 in
-        subst (λ t. length t ≤ sim.limit) (ap (λ k. log_at sim k s bound) c.2 ∙ sym k.2) (short c.0 c.1))))
+        subst (λ t. length t ≤ sim.limit) (ap (λ k. log_at sim k s bound) c.2 ∙ sym k.2)
+        (not_beyond sim (clone_at cs c.0) s bound (short c.0 c.1)))))
         ∙ handled_grows_to_limit same total decides
-        (λ c l. shorter_before law (clone_at cs c) s front bound sim.limit later (short c l)) together
+        (λ c l long. short c l (IsBeyond-later law (clone_at cs c) s front bound later long)) together
 
     -- and at most so much is handled once: as much as logs cut to the limit have
     pub handled_is_few : (same : Entry M N → Entry M N → Bool) (total : ℕ) →

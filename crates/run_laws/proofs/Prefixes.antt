@@ -166,18 +166,23 @@ module _ {E : Type 0} where
             prefix = c;
           }))
 
-  -- what is gained of some logs is gained of more
-  gained_of_more : (Log Log2 : List E → Type 0) (short p : List E) → ((l : List E) → Log l → Log2 l)
-      → IsGained Log short p → IsGained Log2 short p
-  gained_of_more Log Log2 short p f g = record {
+  -- what is gained of a log is so wherever that is one of the logs
+  gained_of : (Log Log2 : List E → Type 0) (short p : List E) (g : IsGained Log short p) → Log2 g.log
+      → IsGained Log2 short p
+  gained_of Log Log2 short p g is = record {
     log = g.log;
-    is_log = f g.log g.is_log;
+    is_log = is;
     first = g.first;
     more = g.more;
     rest = g.rest;
     longer = g.longer;
     prefix = g.prefix;
   }
+
+  -- and so of more logs
+  gained_of_more : (Log Log2 : List E → Type 0) (short p : List E) → ((l : List E) → Log l → Log2 l)
+      → IsGained Log short p → IsGained Log2 short p
+  gained_of_more Log Log2 short p f g = gained_of Log Log2 short p g (f g.log g.is_log)
 
   -- the logs of two sets that part at once
   pub gained_both : (Log1 Log2 : List E → Type 0) (short : List E) (m n : ℕ) →
@@ -190,24 +195,8 @@ module _ {E : Type 0} where
         | inr g ↦ gained_of_more Log2 (λ l. Log1 l ⊎ Log2 l) short p (λ l i. inr i) g
       ])
       (λ p g. elim g.is_log [
-        | inl l ↦ inl (record {
-          log = g.log;
-          is_log = l;
-          first = g.first;
-          more = g.more;
-          rest = g.rest;
-          longer = g.longer;
-          prefix = g.prefix;
-        })
-        | inr l ↦ inr (record {
-          log = g.log;
-          is_log = l;
-          first = g.first;
-          more = g.more;
-          rest = g.rest;
-          longer = g.longer;
-          prefix = g.prefix;
-        })
+        | inl l ↦ inl (gained_of (λ k. Log1 k ⊎ Log2 k) Log1 short p g l)
+        | inr l ↦ inr (gained_of (λ k. Log1 k ⊎ Log2 k) Log2 short p g l)
       ])
       (count_both (IsGained Log1 short) (IsGained Log2 short) m n (λ p g h.
       let c : g.first ∷ g.more ≡ h.first ∷ h.more =

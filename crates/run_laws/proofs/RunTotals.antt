@@ -8,7 +8,7 @@ use Rattle.run_laws.specs.Fronts.{least, next_front, AreFronts}
 use Rattle.run_laws.specs.Sharing.{handled_once}
 use Rattle.run_laws.specs.Handlers.{HandlesLawfully}
 use Rattle.run_laws.specs.CountLaws.{TellsEntries, AreWithinLimitAt, WindowsGain}
-use Rattle.run_laws.proofs.Gaining.{shorter_before, handled_grows}
+use Rattle.run_laws.proofs.Gaining.{IsBeyond-later, handled_grows}
 use Rattle.run_laws.proofs.NextFronts.{window_end-within, next_front-rises}
 use Rattle.run_laws.proofs.HandledStays.{handled-0}
 
@@ -31,7 +31,7 @@ module _ {S M N K : Type 0} {sim : Simulation S M N} {Good : ℕ → S → Type 
       let within : f ≤ next_front sim cs front = omega (arith, is) in
       let early : f ≤ sim.horizon = omega (arith, is, far) in
       let one = handled_grows law j cs s front f g.0 g.3 later within same g.1 decides
-      (λ c l. shorter_before law (clone_at cs c) s f sim.horizon sim.limit early (short c l)) g.4 in
+      (λ c l long. short c l (IsBeyond-later law (clone_at cs c) s f sim.horizon early long)) g.4 in
       let rest = windows-add_up f g.2 fs h.2 g.5 in
       let e = g.6 in
       omega (arith, one, rest, e)

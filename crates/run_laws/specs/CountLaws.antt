@@ -34,7 +34,7 @@ module _ {S M N K : Type 0} (has : K → ℕ → Bool) (size : K → ℕ) where
 module _ {S M N : Type 0} (sim : Simulation S M N) where
   -- no clone's log at a station is beyond the limit
   abbrev pub AreWithinLimitAt : List Clone → ℕ → ℕ → Type 0
-  AreWithinLimitAt cs s front = (c : ℕ) → c < length cs → length (log_at sim (clone_at cs c) s front) ≤ sim.limit
+  AreWithinLimitAt cs s front = (c : ℕ) → c < length cs → ¬ (IsBeyond sim s front (clone_at cs c))
 
   -- a report counts no more copies than clones, and no more messages than the limit allows for each clone
   pub record AreFew (same : Entry M N → Entry M N → Bool) (cs : List Clone) (s front : ℕ) : Type 0 where

@@ -1,5 +1,5 @@
 -- What is proved of due times and of fronts, in words that contracts cite.
-use Rattle.std.specs.Prelude.{◌≡◌, ℕ, zero, suc, ◌+◌, ◌<◌, ◌≤◌, List, ◌∷◌}
+use Rattle.std.specs.Prelude.{◌≡◌, ℕ, zero, suc, ◌<◌, ◌≤◌, List, ◌∷◌}
 use Rattle.std.specs.Prelude.{Bool, Option, Some, None, if◌then◌else◌, length, nat_lt}
 use Rattle.std.specs.List.{AllByRecursion}
 use Rattle.std.specs.Ordering.{nat_cmp}

@@ -10,7 +10,7 @@ use phys_proc::Rack;
 use std::marker::{Brand, Model, PhantomData};
 
 /// The most racks that a history may have.
-pub const MOST_RACKS: u64 = 1 << 61;
+pub const MOST_RACKS: u64 = 1 << 62;
 
 /// The rule of the history: its racks rise in front, station by station.
 pub struct HistoryRule;

@@ -3,9 +3,12 @@ use Rattle.std.proofs.Common.{◌≡◌, ℕ, zero, suc, ◌+◌, ◌-◌, ◌<�
 use Rattle.std.proofs.Common.{[], ◌∷◌, Bool, true, false, Ordering, length, take, drop, get_or, set, arith}
 use Rattle.std.specs.List.{insert}
 use Rattle.std.proofs.lemmas.List.{length-take, length-drop, get_or_read}
-use Rattle.sim_base.specs.Blocks.{block_at, halves_of, AreFilled, AreSized, StartsAfter, IsBlockOf}
+use Rattle.sim_base.specs.Blocks.{of_blocks, block_at, halves_of, AreFilled, AreSized, AreBlocks, StartsAfter}
+use Rattle.sim_base.specs.Blocks.{IsBlockOf}
+use Rattle.sim_base.specs.Marked.{SortedMarked}
 use Rattle.sim_base.specs.declared.pending.blocks.TheConstants.{MOST_IN_BLOCK, HALF}
-use Rattle.sim_base.proofs.Blocks.{length-halves, first_half, second_half, behind_halves}
+use Rattle.sim_base.proofs.Blocks.{of_blocks-halves, length-halves, first_half, second_half, behind_halves}
+use Rattle.sim_base.proofs.Blocks.{AreSized-halves}
 
 -- ---- halves_of
 
@@ -84,6 +87,17 @@ module _ {X : Type 0} where
   pub full_at : (at : ℕ) (first : List X) (later : List (List X)) (n : ℕ) → AreSized first later
       → n ≡ length (block_at first later at) → MOST_IN_BLOCK ≤ n → length (block_at first later at) ≡ MOST_IN_BLOCK
   full_at at first later n h is full = let small = small_at at first later h in omega arith
+
+-- ---- AreBlocks
+
+-- where a full block was cut, they are blocks as before
+pub AreBlocks-halves : {M K : Type 0} (cmp : M → M → Ordering) (at : ℕ) (first first' : List (M × K))
+    (later later' : List (List (M × K))) → (first' ∷ later') ≡ halves_of at (first ∷ later)
+    → length (block_at first later at) ≡ MOST_IN_BLOCK → AreBlocks cmp first later → AreBlocks cmp first' later'
+AreBlocks-halves cmp at first first' later later' cut full h = record {
+  sorted = subst (SortedMarked cmp) (sym (ap of_blocks cut ∙ of_blocks-halves at (first ∷ later))) h.sorted;
+  sized = AreSized-halves at first later first' later' h.sized full cut;
+}
 
 -- ---- StartsAfter and IsBlockOf
 

@@ -5,6 +5,7 @@ pub mod OrderLaws
 pub mod OrderEqual
 pub mod KeyWords
 pub mod SameEntry
+pub mod SamePlans
 pub mod Digits
 pub mod NameBytes
 pub mod Placing

@@ -1,7 +1,8 @@
 -- Lists: what holds of each element, and the first place that passes a test.
 use Rattle.std.proofs.Common.{◌≡◌, ℕ, ◌+◌, ◌<◌, ◌≤◌, zero, suc, List, [], ◌∷◌, ◌++◌, length}
 use Rattle.std.proofs.Common.{map, slice_set, Bool, not, cond, false, position, get_or, None, refl, sym, ap, ◌∙◌}
-use Rattle.std.proofs.Common.{take, arith}
+use Rattle.std.proofs.Common.{take, arith, append_assoc}
+use mathlib.Core.List.{IsPrefix}
 use Rattle.std.proofs.lemmas.Grind.{common_steps}
 use Rattle.std.specs.List.{AllByRecursion, prefix_len, position_or_len}
 use Rattle.std.proofs.lemmas.List.{length-map}
@@ -89,3 +90,9 @@ pub none_passes : {X : Type 0} (p : X → Bool) (xs : List X) → position p xs 
 none_passes p xs none k d b =
     let past : length xs ≤ position_or_len p xs = grind (arith, common_steps) in
     fails_before_first p xs k d (omega arith)
+
+-- ---- IsPrefix
+
+-- a beginning of a beginning is a beginning of the whole
+pub prefix_trans : {X : Type 0} (xs ys zs : List X) → IsPrefix xs ys → IsPrefix ys zs → IsPrefix xs zs
+prefix_trans xs ys zs p q = (p.0 ++ q.0, sym (append_assoc xs p.0 q.0) ∙ (ap (λ w. w ++ q.0) p.1 ∙ q.1))

@@ -29,10 +29,12 @@ pub padded_name : (text : List ℕ) → is_name text ≡ true
 padded_name text h =
     let short = short_name text h in
     record {
-      free = short;
-      size = simp (length-append, drop-replicate, length-replicate) (omega arith);
-      zeros = drop-append_seam text (drop (length text) (replicate LONGEST_NAME 0))
-          ∙ drop-replicate (length text) LONGEST_NAME 0;
+      behind = record {
+        short = short;
+        size = simp (length-append, drop-replicate, length-replicate) (omega arith);
+        zeros = drop-append_seam text (drop (length text) (replicate LONGEST_NAME 0))
+            ∙ drop-replicate (length text) LONGEST_NAME 0;
+      };
       named = rw (take-append_seam text (drop (length text) (replicate LONGEST_NAME 0))) h;
     }
 

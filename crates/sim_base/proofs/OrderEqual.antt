@@ -90,7 +90,7 @@ param_back Room = refl
 param_back Weight = refl
 
 -- changes that tie are equal
-change_same : (a b : Change) → change_cmp a b ≡ Equal → a ≡ b
+pub change_same : (a b : Change) → change_cmp a b ≡ Equal → a ≡ b
 change_same a b e =
     let parts = three_same (param_index a.param) a.a a.b (param_index b.param) b.a b.b e in
     let param : a.param ≡ b.param = sym (param_back a.param) ∙ (ap param_at parts.0 ∙ param_back b.param) in

@@ -5,6 +5,7 @@ pub mod Entries
 pub mod KeyWords
 pub mod Same
 pub mod Params
+pub mod Weights
 pub mod Decisions
 pub mod Chain
 pub mod Pending

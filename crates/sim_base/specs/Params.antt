@@ -1,5 +1,5 @@
--- The parameters of stations: their words in scripts and traces, and how many values each takes.
-use Rattle.std.specs.Prelude.{ℕ, List, [], ◌∷◌, codes, Option}
+-- The parameters of stations: their words in scripts and traces, how many values each takes, and the words of a change.
+use Rattle.std.specs.Prelude.{ℕ, ◌==◌, if◌then◌else◌, List, [], ◌∷◌, codes, decimal, Option}
 use Rattle.std.specs.List.{find}
 use Rattle.std.specs.Str.{bytes_eq}
 use Rattle.sim_base.specs.declared.message.Param.{Param}
@@ -22,6 +22,14 @@ param_values Hold = 2
 param_values Servers = 1
 param_values Room = 1
 param_values Weight = 2
+
+-- the values of a change as words: one value or two
+abbrev pub value_words : ℕ → ℕ → ℕ → List (List ℕ)
+value_words count a b = if count == 1 then decimal a ∷ [] else (decimal a ∷ decimal b ∷ [])
+
+-- the words of a change, in scripts and in traces: its parameter's and its values
+abbrev pub words_of_change : Param → ℕ → ℕ → List (List ℕ)
+words_of_change param a b = param_word param ∷ value_words (param_values param) a b
 
 -- all of them
 abbrev pub all_params : List Param

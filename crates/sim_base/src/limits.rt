@@ -6,7 +6,7 @@ pub const MOST_FILE_BYTES: usize = 1_048_576;
 pub const MOST_HANDLED: u64 = 65_536;
 /// How many links a station may have.
 pub const MOST_LINKS: usize = 16;
-/// The greatest weight of a link.
+/// The greatest weight of a link; the least is 1.
 pub const MOST_WEIGHT: u32 = 1_000;
 /// The greatest time of a range, the delay of a link, and the lookahead, in units of simulated time.
 pub const MOST_TIME: u64 = 1_000_000;

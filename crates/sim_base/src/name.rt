@@ -3,7 +3,7 @@ ghost use Rattle.std.specs.Prelude.{◌≡◌, ◌≤◌, length, take};
 ghost use Rattle.std.specs.Prelude.{MatchOption, true, false, position};
 ghost use Rattle.std.specs.List.{list_all};
 ghost use Rattle.std.specs.Str.{bytes_eq};
-ghost use Rattle.sim_base.specs.Names.{is_name, is_lower, is_name_byte};
+ghost use Rattle.sim_base.specs.Names.{is_name, is_lower, is_name_byte as is_name_byte'};
 ghost use Rattle.sim_base.specs.declared.name.TheConstants.{LONGEST_NAME};
 
 use std::marker::Model;
@@ -45,9 +45,9 @@ fn is_lower_byte(byte: u8) -> bool
     b'a' <= byte && byte <= b'z'
 }
 
-/// Whether the byte may stand in a name behind its first.
-pub fn may_follow(byte: u8) -> bool
-    ensures value { result ≡ is_name_byte byte }
+/// Whether the byte may stand in a name: one of a to z, a digit or `_`.
+pub fn is_name_byte(byte: u8) -> bool
+    ensures value { result ≡ is_name_byte' byte }
 {
     is_lower_byte(byte) || (b'0' <= byte && byte <= b'9') || byte == b'_'
 }
@@ -59,16 +59,16 @@ fn are_name(text: &[u8]) -> bool
     match text {
         [] => false,
         [first, rest @ ..] => is_lower_byte(*first)
-            && all_may_follow(rest)
+            && are_name_bytes(rest)
             && rest.len() < LONGEST_NAME,
     }
 }
 
-// Whether all of the bytes may stand there.
-fn all_may_follow(rest: &[u8]) -> bool
-    ensures value { result ≡ list_all is_name_byte rest.now }
+// Whether each of the bytes may stand in a name.
+fn are_name_bytes(rest: &[u8]) -> bool
+    ensures value { result ≡ list_all is_name_byte' rest.now }
 {
-    rest.iter().all(|b| may_follow(*b))
+    rest.iter().all(|b| is_name_byte(*b))
 }
 
 impl Name {

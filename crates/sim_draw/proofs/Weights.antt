@@ -5,14 +5,15 @@ use Rattle.std.specs.Prelude.{sum, take}
 use Rattle.std.proofs.lemmas.Bool.{ltb-false}
 use Rattle.std.proofs.lemmas.List.Sums.{sum_by-cons}
 use Rattle.std.specs.List.{AllByRecursion}
+use Rattle.sim_base.specs.Weights.{IsWeight}
 use Rattle.sim_draw.specs.Drawing.{index_of, IsFirstAbove}
 
 -- ---- sum
 
--- the sum of one weight or more, each 1 or more, is above 0
-pub sum-heavy : (ws : List ℕ) → 1 ≤ length ws → AllByRecursion (λ w. 1 ≤ w) ws → 0 < sum ws
-sum-heavy [] some heavy = absurd (omega arith)
-sum-heavy (w ∷ ws) some heavy = let one : 1 ≤ w = heavy.0 in omega (arith, sum_by-cons (λ (x : ℕ). x) w ws)
+-- the sum of one weight or more is above 0
+pub sum-heavy : (ws : List ℕ) → 1 ≤ length ws → AllByRecursion IsWeight ws → 0 < sum ws
+sum-heavy [] some all = absurd (omega arith)
+sum-heavy (w ∷ ws) some all = let one : 1 ≤ w = all.0.heavy in omega (arith, sum_by-cons (λ (x : ℕ). x) w ws)
 
 -- ---- IsFirstAbove
 

@@ -1,10 +1,11 @@
 -- The words of a seed and a stream, and what is drawn from them.
 use Rattle.std.specs.Prelude.{ℕ, ◌+◌, ◌-◌, ◌%◌, ◌<◌, ◌≤◌, nat_lt, if◌then◌else◌, List, [], ◌∷◌, length, sum, take}
 use Rattle.std.specs.List.{AllByRecursion}
+use Rattle.sim_base.specs.Weights.{IsWeight}
 use Rattle.rand_pcg.specs.Lcg.{Lcg, started, advance, increment_of}
 unfoldable pub use Rattle.rand_pcg.specs.Lcg.{state_after}
 use Rattle.rand_pcg.specs.Pcg.{multiplier_64, pcg32}
-use Rattle.sim_draw.specs.declared.draws.TheConstants.{MOST_WEIGHT, MOST_WEIGHTS}
+use Rattle.sim_draw.specs.declared.draws.TheConstants.{MOST_WEIGHTS}
 
 -- one stream of a seed, of which so many words were drawn
 pub record DrawsView : Type 0 where
@@ -36,8 +37,7 @@ range_of lo hi d = lo + next_of d % (hi - lo + 1)
 pub record AreWeights (weights : List ℕ) : Type 0 where
   pub some : 1 ≤ length weights
   pub few : length weights ≤ MOST_WEIGHTS
-  pub heavy : AllByRecursion (λ w. 1 ≤ w) weights
-  pub light : AllByRecursion (λ w. w ≤ MOST_WEIGHT) weights
+  pub all : AllByRecursion IsWeight weights
 
 -- the first index whose running sum of weights exceeds x
 abbrev pub index_of : List ℕ → ℕ → ℕ

@@ -14,8 +14,6 @@ use std::marker::Model;
 pub const MOST_DRAWS: u64 = 4_294_967_296;
 /// How many weights a pick may have.
 pub const MOST_WEIGHTS: usize = MOST_LINKS;
-/// The greatest weight.
-pub const MOST_WEIGHT: u32 = sim_base::limits::MOST_WEIGHT;
 
 /// Draws from one stream of a seed.
 ///

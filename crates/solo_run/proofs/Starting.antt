@@ -9,7 +9,7 @@ use Rattle.sim_base.specs.declared.message.Msg.{Msg}
 use Rattle.sim_base.specs.declared.decision.Planned.{Planned}
 use Rattle.run_laws.specs.Queue.{insert, insert_all, Sorted}
 use Rattle.run_laws.specs.Machine.{run_to}
-use Rattle.run_laws.specs.World.{first_messages, set_messages, and_first}
+use Rattle.run_laws.specs.World.{first_messages, first_world, set_messages, and_first}
 use Rattle.run_laws.specs.Handlers.{AreForStations}
 use Rattle.run_laws.proofs.Queue.{all_from, sorted_insert_all, insert_all-push}
 use Rattle.run_laws.proofs.ForStations.{pending_for_stations}
@@ -21,7 +21,7 @@ use Rattle.stations.specs.Handling.{StateView}
 use Rattle.stations.specs.Opening.{setup}
 use Rattle.stations.specs.Runs.{simulation}
 use Rattle.stations.proofs.GoodLaws.{lawful-stations, stations-to_stations}
-use Rattle.solo_run.specs.Beginning.{AreOpeningStates, with_first, start_of}
+use Rattle.solo_run.specs.Beginning.{AreOpeningStates, with_first}
 use Rattle.solo_run.specs.EventLists.{IsForStation}
 use Rattle.solo_run.specs.SoloView.{IsSolo, config_of, state_of}
 use Rattle.solo_run.proofs.OneTurn.{sum_most}
@@ -88,14 +88,15 @@ module _ (net : Net) (valid : IsNet net) (list : List Planned) (states : List St
     (first : firsts ≡ insert_all msg_cmp (first_messages (simulation net) (length net.sites)) [])
     (then_all : p ≡ insert_all msg_cmp (set_messages (simulation net) 0 list) firsts) where
   -- what is pending are the first messages and the decisions
-  pending_is : p ≡ (start_of net list).pending
+  pending_is : p ≡ (first_world (simulation net) list).pending
   pending_is = then_all ∙ (ap (insert_all msg_cmp (set_messages (simulation net) 0 list)) first
       ∙ sym (insert_all-append (first_messages (simulation net) (length net.sites))
       (set_messages (simulation net) 0 list)
       []))
 
   -- with the opening states and these messages, the run is where the world of the clone begins
-  pub config_of-start : config_of net (record { states = states; pending = p; trace = [] }) ≡ start_of net list
+  pub config_of-start : config_of net (record { states = states; pending = p; trace = [] })
+      ≡ first_world (simulation net) list
   config_of-start =
       ap (λ f. record { at = record { states = f; trace = [] }; pending = p })
       (fun_ext (state_of-opening net states opened))
@@ -128,7 +129,7 @@ module _ (net : Net) (valid : IsNet net) (list : List Planned) (states : List St
             (sorted_insert_all law.order.order
             (first_messages (simulation net) (length net.sites) ++ set_messages (simulation net) 0 list) [] tt);
         targets = subst (AllByRecursion (IsForStation (length net.sites))) (sym pending_is)
-            (all_from (IsForStation (length net.sites)) (start_of net list).pending
+            (all_from (IsForStation (length net.sites)) (first_world (simulation net) list).pending
             (λ z i. pending_for_stations law (stations-to_stations net valid) list 0 there z i));
         total = omega (arith, none);
         below = refl;

@@ -2,20 +2,11 @@
 use Rattle.std.specs.Prelude.{◌≡◌, ℕ, ◌+◌, List, length, slice_get, Option, Some, None}
 use Rattle.sim_base.specs.Order.{msg_cmp}
 use Rattle.run_laws.specs.Queue.{insert}
-use Rattle.sim_base.specs.declared.decision.Planned.{Planned}
 use Rattle.net_model.specs.Net.{Net}
-use Rattle.run_laws.specs.World.{World, first_world}
-use Rattle.run_laws.specs.Machine.{Config}
 use Rattle.sim_base.specs.declared.message.Msg.{Msg}
-use Rattle.sim_base.specs.declared.entry.Line.{Line}
 use Rattle.stations.specs.Fits.{FitsState, SuitsNet}
 use Rattle.stations.specs.Handling.{StateView}
 use Rattle.stations.specs.Opening.{setup}
-use Rattle.stations.specs.Runs.{simulation}
-
--- the world of a clone with these decisions, before anything was handled
-abbrev pub start_of : Net → List Planned → Config (World StateView Msg Line) Msg
-start_of net plans = first_world (simulation net) plans
 
 -- the state at place i is the opening state of the station of number i + 1
 pub record IsOpeningState (net : Net) (i : ℕ) (st : StateView) : Type 0 where

@@ -2,9 +2,8 @@
 //! (the stop time).
 ghost use Rattle.std.specs.Prelude.{◌≡◌, ◌+◌, ◌≤◌, ◌<◌, length, IfOk, IfErr};
 ghost use Rattle.run_laws.specs.Handlers.{AreForStations};
-ghost use Rattle.run_laws.specs.World.{log_of};
+ghost use Rattle.run_laws.specs.World.{first_world, log_of};
 ghost use Rattle.stations.specs.Runs.{simulation};
-ghost use Rattle.solo_run.specs.Beginning.{start_of};
 ghost use Rattle.solo_run.specs.Limit.{receiver};
 ghost use Rattle.solo_run.specs.SoloView.{IsSolo, config_of};
 ghost use Rattle.solo_run.specs.Turns.{Stops, run_from};
@@ -45,7 +44,7 @@ impl Solo {
     /// The decisions are for stations of the model; a change that a station does not take changes nothing.
     pub fn new(alloc: Global, model: &Model, list: &[Planned]) -> Result<Solo, NoMemory>
         requires stations { AreForStations (simulation model.now) list.now }
-        ensures begins { IfOk result (λ solo. config_of model.now solo ≡ start_of model.now list.now) }
+        ensures begins { IfOk result (λ solo. config_of model.now solo ≡ first_world (simulation model.now) list.now) }
         ensures solo { IfOk result (λ solo. IsSolo model.now solo) }
     {
         let mut pending = EventList::new(alloc, model.len())?;

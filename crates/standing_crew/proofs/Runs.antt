@@ -20,13 +20,13 @@ use Rattle.std.proofs.Common.{
 }
 use Rattle.std.proofs.lemmas.Bool.{cases_lt}
 use Rattle.std.proofs.lemmas.List.{get_or_append_left, get_or-append_right, get_or-append-add}
-use Rattle.crew_pool.specs.Tasks.{EachReady, AnswersTo, EachAnswers}
-use Rattle.standing_crew.specs.Parts.{EachReadyFrom, EachAnsweredFrom}
+use Rattle.crew_pool.specs.Tasks.{EachReady, MayRunAll, AnswersTo, EachAnswers}
+use Rattle.standing_crew.specs.Parts.{EachReadyFrom, MayRunFrom, EachAnsweredFrom}
 
 -- ---- EachReadyFrom
 
 -- where each item of a call is ready, so is each of a run of them
-pub EachReadyFrom-run : {X : Type 0} (ready : ℕ → X → Type 0) (before run after : List X)
+EachReadyFrom-run : {X : Type 0} (ready : ℕ → X → Type 0) (before run after : List X)
     → EachReady ready (before ++ (run ++ after)) → EachReadyFrom ready (length before) run
 EachReadyFrom-run ready before run after each i d less =
     let here : get_or (before ++ (run ++ after)) (length before + i) d ≡ get_or run i d =
@@ -34,6 +34,18 @@ EachReadyFrom-run ready before run after each i d less =
     subst (λ x. ready (length before + i) x) here
     (each (length before + i) d
     (omega (arith, less, length-append before (run ++ after), length-append run after)))
+
+-- ---- MayRunFrom
+
+-- where all tasks may be run, so may those of a run of their items
+pub MayRunFrom-run : {X : Type 0} (takes : ℕ → X → Type 0) (before run after : List X)
+    → MayRunAll takes (before ++ (run ++ after)) → MayRunFrom takes (length before) run
+MayRunFrom-run takes before run after may =
+    let few = may.few in
+    record {
+      few = omega (arith, few, length-append before (run ++ after), length-append run after);
+      ready = EachReadyFrom-run takes before run after may.ready;
+    }
 
 -- ---- EachAnsweredFrom
 

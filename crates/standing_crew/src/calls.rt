@@ -1,8 +1,7 @@
 //! What a call gives to the workers of a team, and what it takes back.
-ghost use Rattle.std.specs.Prelude.{◌≡◌, ◌+◌, ◌≤◌, ◌++◌, All, None, Some, length, IfOk};
-ghost use Rattle.crew_pool.specs.Tasks.{EachReady};
-ghost use Rattle.crew_pool.specs.declared.crew.TheConstants.{MOST_TASKS};
-ghost use Rattle.standing_crew.specs.Parts.{PartView, EachReadyFrom, EachAnsweredFrom};
+ghost use Rattle.std.specs.Prelude.{◌≡◌, ◌++◌, All, None, Some, length, IfOk};
+ghost use Rattle.crew_pool.specs.Tasks.{MayRunAll};
+ghost use Rattle.standing_crew.specs.Parts.{PartView, MayRunFrom, EachAnsweredFrom};
 ghost use Rattle.standing_crew.specs.Parts.{AreOutFrom, items_out, IsAnsweredBy};
 
 use crate::bell::Bell;
@@ -40,8 +39,7 @@ pub(crate) fn hand_out<W: Work + Send + Drop>(
     size: usize,
 ) -> Result<PartsOut<W>, NoMemory>
     // what it asks: items for at most `MOST_TASKS` tasks, each ready for its task, and lines that nothing is out on
-    requires few { length items.items ≤ MOST_TASKS }
-    requires ready { EachReady (W.ready work.now.value) items.items }
+    requires may_run { MayRunAll (W.ready work.now.value) items.items }
     requires idle { All (λ caller. caller ≡ None) callers.items }
     // what it gives: the parts that are out, one after the other from task 0 on, and callers that nothing is out on
     ensures out { IfOk result (λ r. AreOutFrom work.now.value 0 r.busy.items) }
@@ -82,8 +80,7 @@ fn give<W: Work + Send + Drop>(
     items: Vec<W::In>,
 ) -> Result<PartCaller<W>, NoMemory>
     requires idle { caller ≡ None }
-    requires few { first + length items.items ≤ MOST_TASKS }
-    requires ready { EachReadyFrom (W.ready work.now.value) first items.items }
+    requires may_run { MayRunFrom (W.ready work.now.value) first items.items }
     ensures given { IfOk result (λ r. r ≡ Some (record { work = work.now.value; first = first; items = items.items })) }
 {
     let work = work.clone()?;

@@ -1,7 +1,6 @@
 //! A part of a call: what a worker is given, what it answers, and how it is run.
-ghost use Rattle.std.specs.Prelude.{◌≡◌, ◌+◌, ◌≤◌, length, IfOk};
-ghost use Rattle.crew_pool.specs.declared.crew.TheConstants.{MOST_TASKS};
-ghost use Rattle.standing_crew.specs.Parts.{EachReadyFrom, EachAnsweredFrom, IsAnsweredBy};
+ghost use Rattle.std.specs.Prelude.{◌≡◌, IfOk};
+ghost use Rattle.standing_crew.specs.Parts.{MayRunFrom, EachAnsweredFrom, IsAnsweredBy};
 
 use crew_pool::{Gate, Work, add, run_with_own_counter};
 use mailbox::Errand;
@@ -20,16 +19,13 @@ pub struct Part<W: Work> {
 }
 
 impl<W: Work> std::marker::Model for Part<W> {
-    ghost use Rattle.std.specs.Prelude.{◌+◌, ◌≤◌, length};
-    ghost use Rattle.crew_pool.specs.declared.crew.TheConstants.{MOST_TASKS};
-    ghost use Rattle.standing_crew.specs.Parts.{PartView, EachReadyFrom};
+    ghost use Rattle.standing_crew.specs.Parts.{PartView, MayRunFrom};
 
     ghost Value = { PartView W W.In };
 
     ghost view = { λ p. record { work = p.work.value; first = p.first; items = p.items.items } };
 
-    ghost invariant = { λ p. (p.first + length p.items.items ≤ MOST_TASKS)
-        × EachReadyFrom (W.ready p.work.value) p.first p.items.items };
+    ghost invariant = { λ p. MayRunFrom (W.ready p.work.value) p.first p.items.items };
 }
 
 /// The answers to the items of a part, each at its item's place.
@@ -46,8 +42,7 @@ impl<W: Work> Errand<Part<W>, Answer<W>> for InParts {
 impl<W: Work + Drop> Part<W> {
     /// These items, for the tasks from `first` on.
     pub(crate) fn new(work: Arc<W>, first: u32, items: Vec<W::In>) -> Part<W>
-        requires few { first + length items.items ≤ MOST_TASKS }
-        requires ready { EachReadyFrom (W.ready work.value) first items.items }
+        requires may_run { MayRunFrom (W.ready work.value) first items.items }
         ensures value { result ≡ record { work = work.value; first = first; items = items.items } }
     {
         Part { work, first, items }
@@ -78,8 +73,7 @@ pub(crate) fn run_part<W: Work, G: Gate, R: Wait>(
     first: u32,
     items: Vec<W::In>,
 ) -> Result<Vec<W::Out>, NoMemory>
-    requires few { first + length items.items ≤ MOST_TASKS }
-    requires ready { EachReadyFrom (W.ready work.now) first items.items }
+    requires may_run { MayRunFrom (W.ready work.now) first items.items }
     ensures answers { IfOk result (λ outs. EachAnsweredFrom (W.answers work.now) first items.items outs.items) }
 {
     let mut outs = Vec::with_capacity(alloc, items.len())?;

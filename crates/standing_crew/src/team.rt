@@ -1,7 +1,6 @@
 //! The caller's end of a team.
-ghost use Rattle.std.specs.Prelude.{◌≡◌, ◌≤◌, ◌+◌, length, sum_by, IfOk};
-ghost use Rattle.crew_pool.specs.Tasks.{EachReady, AnswersTo, EachAnswers};
-ghost use Rattle.crew_pool.specs.declared.crew.TheConstants.{MOST_TASKS};
+ghost use Rattle.std.specs.Prelude.{IfOk};
+ghost use Rattle.crew_pool.specs.Tasks.{MayRunAll, HaveRunAll};
 
 use crate::bell::Bell;
 use crate::calls::{PartCaller, PartsOut, gather, hand_out};
@@ -65,13 +64,10 @@ impl<W: Work + Send + Drop> Team<W> {
         gate: &G,
         steps: &mut Steps<L>,
     ) -> Result<(Team<W>, Vec<W::Out>), NoMemory>
-        requires few { length items.items ≤ MOST_TASKS }
-        requires ready { EachReady (W.ready work.value) items.items }
-        // what it gives: an answer for each item, at the item's place
-        ensures count { IfOk result (λ r. length r.1.items ≡ length items.items) }
-        ensures answers { IfOk result (λ r. EachAnswers (AnswersTo (W.answers work.value) items.items) r.1.items) }
-        // what is counted: the steps that the answers took
-        ensures cost { IfOk result (λ r. steps.new ≡ steps.old + sum_by W.cost r.1.items) }
+        requires may_run { MayRunAll (W.ready work.value) items.items }
+        // an answer for each item, at the item's place, and the steps that the answers took are counted
+        ensures have_run { IfOk result (λ r. HaveRunAll (W.answers work.value) W.cost items.items steps.old steps.new
+            r.1.items) }
     {
         let Team { callers, bell } = self;
         let size = run_size(&*work, items.len(), callers.len());

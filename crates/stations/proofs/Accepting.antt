@@ -4,10 +4,11 @@ use Rattle.std.proofs.lemmas.Bool.{and_parts, false≢true}
 use Rattle.sim_base.specs.declared.message.Change.{Change}
 use Rattle.sim_base.specs.declared.message.Param.{Param}
 use Rattle.sim_base.specs.declared.message.Param.TheVariants.{Every, Service, Hold, Servers, Room, Weight}
+use Rattle.sim_base.specs.Weights.{IsWeight}
 use Rattle.net_model.specs.declared.station.Kind.{Kind}
 use Rattle.net_model.specs.declared.station.Kind.TheVariants.{Source, Server, Delay, Router, Sink}
 use Rattle.net_model.specs.Net.{Site, is_router}
-use Rattle.net_model.specs.Rules.{IsRange, IsWeight, is_within}
+use Rattle.net_model.specs.Rules.{IsRange, is_within}
 use Rattle.net_model.specs.declared.limits.TheConstants.{MOST_WEIGHT}
 use Rattle.net_model.proofs.Bounds.{is_range-bounds, is_within-bounds}
 use Rattle.stations.specs.Changes.{has_parameter, is_in_range, is_accepted}

@@ -3,9 +3,10 @@ use Rattle.std.proofs.Common.{◌≡◌, ℕ, zero, suc, ◌+◌, ◌<◌, ◌�
 use Rattle.std.proofs.Common.{length, refl, sym, ap, subst, Some, unwrap_or, arith}
 use Rattle.std.proofs.lemmas.List.{nil_from_length}
 use Rattle.std.proofs.lemmas.Option.{slice_get_within}
+use Rattle.sim_base.specs.Weights.{IsWeight}
 use Rattle.sim_base.proofs.ListLaws.{all_weaker}
 use Rattle.net_model.specs.Net.{Net, Site, HasStation, site_at, site_of, no_site}
-use Rattle.net_model.specs.Rules.{IsNet, IsSite, IsLink, IsWeight}
+use Rattle.net_model.specs.Rules.{IsNet, IsSite, IsLink}
 use Rattle.net_model.specs.declared.limits.TheConstants.{MOST_TIME}
 use Rattle.stations.specs.declared.kind_state.KindState.{KindState}
 use Rattle.stations.specs.Fits.{AreLinks, IsOfKind, SuitsNet, FitsState}

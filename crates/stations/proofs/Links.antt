@@ -2,10 +2,8 @@
 use Rattle.std.proofs.Common.{◌≡◌, ◌≤◌, List, [], ◌∷◌, length, arith}
 use Rattle.std.specs.List.{AllByRecursion}
 use Rattle.std.proofs.lemmas.List.{length-map}
-use Rattle.sim_base.proofs.ListLaws.{all_weaker}
-use Rattle.net_model.specs.declared.limits.TheConstants.{MOST_WEIGHT}
+use Rattle.sim_base.specs.Weights.{IsWeight}
 use Rattle.net_model.specs.declared.station.Link.{Link}
-use Rattle.net_model.specs.Rules.{IsWeight}
 use Rattle.sim_draw.specs.Drawing.{AreWeights}
 use Rattle.stations.specs.Fits.{AreLinks}
 use Rattle.stations.specs.Sending.{weights_of}
@@ -22,10 +20,8 @@ weights_of-IsWeight (l ∷ ls) all = (all.0, weights_of-IsWeight ls all.1)
 pub are_weights : (links : List Link) → AreLinks links → AreWeights (weights_of links)
 are_weights links are =
     let count : length (weights_of links) ≡ length links = length-map links (λ (l : Link). l.weight) in
-    let all = weights_of-IsWeight links are.weights in
     record {
       some = omega (arith, count, are.some);
       few = omega (arith, count, are.few);
-      heavy = all_weaker IsWeight (λ w. 1 ≤ w) (weights_of links) (λ w is. is.heavy) all;
-      light = all_weaker IsWeight (λ w. w ≤ MOST_WEIGHT) (weights_of links) (λ w is. is.light) all;
+      all = weights_of-IsWeight links are.weights;
     }

@@ -6,11 +6,11 @@ use Rattle.sim_base.specs.declared.message.Job.{Job as JobOf}
 use Rattle.sim_base.specs.declared.message.Change.{Change}
 use Rattle.sim_base.specs.declared.message.Payload.{Payload}
 use Rattle.sim_base.specs.declared.message.Payload.TheVariants.{Tick, Job, Done, Set}
+use Rattle.sim_base.specs.Weights.{IsWeight}
 use Rattle.sim_base.proofs.ListLaws.{all_set}
 use Rattle.sim_draw.specs.Drawing.{AreWeights}
 use Rattle.net_model.specs.Net.{Net, Site, HasStation, is_router, routes_by_turn}
-use Rattle.net_model.specs.Rules.{IsLink, IsWeight}
-use Rattle.net_model.specs.declared.limits.TheConstants.{MOST_WEIGHT}
+use Rattle.net_model.specs.Rules.{IsLink}
 use Rattle.stations.specs.declared.kind_state.RouterState.{RouterState}
 use Rattle.stations.specs.Changes.{is_accepted}
 use Rattle.stations.specs.Fits.{FitsRouter}
@@ -36,8 +36,7 @@ module _ (net : Net) (site : Site) (now : ℕ) (links : AllByRecursion (IsLink n
       record {
         some = omega (arith, count, are.some);
         few = omega (arith, count, are.few);
-        heavy = all_set (λ v. 1 ≤ v) ws i w are.heavy is.heavy;
-        light = all_set (λ v. v ≤ MOST_WEIGHT) ws i w are.light is.light;
+        all = all_set IsWeight ws i w are.all is;
       }
 
   -- after a change a router fits one message more, and still has a weight for each link

@@ -1,6 +1,7 @@
 -- What every state of a station keeps, and when it is one of a station of the network.
 use Rattle.std.specs.Prelude.{◌≡◌, ℕ, ◌+◌, ◌*◌, ◌≤◌, ◌⊎◌, List, length, Some}
 use Rattle.std.specs.List.{AllByRecursion}
+use Rattle.sim_base.specs.Weights.{IsWeight}
 use Rattle.sim_draw.specs.Drawing.{AreWeights}
 use Rattle.net_model.specs.declared.station.Kind.{Kind}
 use Rattle.net_model.specs.declared.station.Kind.TheVariants as kind
@@ -8,7 +9,7 @@ use Rattle.net_model.specs.declared.station.Link.{Link}
 use Rattle.net_model.specs.declared.limits.TheConstants.{MOST_JOBS, MOST_LINKS, MOST_ROOM}
 use Rattle.net_model.specs.declared.limits.TheConstants.{MOST_SERVERS, MOST_TIME}
 use Rattle.net_model.specs.Net.{Net, Site, site_at}
-use Rattle.net_model.specs.Rules.{IsRange, IsServer, IsWeight}
+use Rattle.net_model.specs.Rules.{IsRange, IsServer}
 use Rattle.stations.specs.declared.sender.Sender.{Sender}
 use Rattle.stations.specs.declared.kind_state.KindState.{KindState}
 use Rattle.stations.specs.declared.kind_state.KindState.TheVariants.{Source, Server, Delay, Router, Sink}

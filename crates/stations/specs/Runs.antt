@@ -60,8 +60,8 @@ abbrev pub state_at : Net → Clone → ℕ → ℕ → StateView
 state_at net c s front = runs.state_at (simulation net) c s front
 
 -- one station's window by itself, from what it is in a clone at a front, to a bound
-abbrev pub window_of : Net → Clone → ℕ → ℕ → ℕ → Config (LocalStation StateView Msg Line) Msg
-window_of net c s front bound = laws.window (simulation net) c s front bound
+abbrev pub window : Net → Clone → ℕ → ℕ → ℕ → Config (LocalStation StateView Msg Line) Msg
+window net c s front bound = laws.window (simulation net) c s front bound
 
 -- the next front of the clones
 abbrev pub next_front : Net → List Clone → ℕ → ℕ

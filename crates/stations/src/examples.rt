@@ -4,7 +4,7 @@
 //! as a line of a trace text reads. Each function's contract is a theorem; there is nothing to run.
 ghost use Rattle.std.specs.Prelude.{◌≡◌, [], ◌∷◌, true, false};
 ghost use Rattle.sim_base.specs.Clones.{base};
-ghost use Rattle.stations.specs.Runs.{trace_of, log_at, state_at, replay, window_of};
+ghost use Rattle.stations.specs.Runs.{trace_of, log_at, state_at, replay, window};
 ghost use Rattle.stations.specs.Runs.{copies, handled_once, handled_alone, AreFronts, IsBeyond};
 ghost use Rattle.stations.specs.Examples.OneDesk.{one_desk, one_desk_trace, fast, fast_trace, set_at_start, first_set};
 ghost use Rattle.stations.specs.Examples.OneDesk.{brief, brief_trace, two_branches, short_logs, fast_desk, quick_desk};
@@ -106,10 +106,10 @@ pub fn messages_that_stations_ignore()
 
 /// A station by itself, window after window, comes to the logs and states of the run.
 pub fn windows_of_one_station()
-    ensures first_log { (window_of one_desk base desk 5 7).at.log ≡ log_at one_desk base desk 7 }
-    ensures first_state { (window_of one_desk base desk 5 7).at.state ≡ state_at one_desk base desk 7 }
-    ensures third_log { (window_of one_desk fast desk 10 13).at.log ≡ log_at one_desk fast desk 13 }
-    ensures ended_log { (window_of one_desk brief desk 7 10).at.log ≡ log_at one_desk brief desk 20 }
+    ensures first_log { (window one_desk base desk 5 7).at.log ≡ log_at one_desk base desk 7 }
+    ensures first_state { (window one_desk base desk 5 7).at.state ≡ state_at one_desk base desk 7 }
+    ensures third_log { (window one_desk fast desk 10 13).at.log ≡ log_at one_desk fast desk 13 }
+    ensures ended_log { (window one_desk brief desk 7 10).at.log ≡ log_at one_desk brief desk 20 }
 {}
 
 /// The state of a station is the replay of its log.

@@ -138,14 +138,16 @@ within_is_not_full limit es = (
 pub not_both_alone : NotWithinAndMetAlone
 not_both_alone net c s h m =
     let long = first_beyond-Some net.limit [] (trace_of net c) s (found_at net.limit (trace_of net c) s m.first) in
-    let short = h s m.is_station in
-    absurd (omega (arith, long, short))
+    let is = m.is_station in
+    absurd (h s (is.low, is.high) long)
 
 -- ---- a clone's run
 
 -- the logs of a clone's run are within the limit where the walk over its trace finds none
 pub within_alone : (net : Net) (c : Clone) → first_beyond net.limit [] (trace_of net c) ≡ None → IsWithin net c
-within_alone net c none s is = first_beyond-None net.limit [] (trace_of net c) (λ t. omega arith) none s
+within_alone net c none s is long =
+    let short = first_beyond-None net.limit [] (trace_of net c) (λ t. omega arith) none s in
+    absurd (omega (arith, short, long))
 
 -- the limit is met where it finds one
 pub met_alone : (net : Net) (c : Clone) (s : ℕ) → HasStation net s

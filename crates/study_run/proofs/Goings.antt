@@ -1,5 +1,7 @@
 -- A run of all clones that goes on from a world.
-use Rattle.std.proofs.Common.{◌≡◌, ℕ, ◌+◌, ◌∙◌, ap, arith, length, subst, sym}
+use Rattle.std.proofs.Common.{◌≡◌, ℕ, ◌+◌, ◌∙◌, ap, arith, length, subst, sym, List}
+use Rattle.std.proofs.Common.{Result, Ok, Err, IfOk, OnOk}
+use Rattle.sim_base.specs.Clones.{Clone}
 use Rattle.net_model.specs.Net.{Net}
 use Rattle.net_model.specs.Rules.{IsNet}
 use Rattle.world_core.specs.Worlds.{WorldView, total_handled}
@@ -8,7 +10,6 @@ use Rattle.study_run.specs.Going.{HasGoneOn, HasStopped}
 use Rattle.study_run.specs.Limits.{AreWithin}
 use Rattle.study_run.specs.Overs.{HasCome}
 use Rattle.study_run.specs.declared.fault.StudyFault.{StudyFault}
-use Rattle.study_run.proofs.Meeting.{none_within}
 use Rattle.study_run.proofs.OverLaws.{comes_last, within_horizon}
 use Rattle.study_run.proofs.Worlds.{none_handled}
 
@@ -48,6 +49,12 @@ pub all_within : (net : Net) (w v : WorldView) (s t : ℕ) → IsNet net → v.f
     → AreWithin net w.clones
 all_within net w v s t valid last h =
     let come = h.under_way.come in
-    let within = none_within net v.clones (within_horizon net v.clones valid
-    (comes_last net v.clones v.front (omega (arith, last)) come)) in
+    let within = within_horizon net v.clones valid (comes_last net v.clones v.front (omega (arith, last)) come) in
     subst (AreWithin net) h.clones within
+
+-- the same of the world that a run gives, by another name of its network
+pub within_told : (net told : Net) (cs : List Clone) (r : Result WorldView StudyFault) → told ≡ net
+    → OnOk r (AreWithin told cs) → IfOk r (λ w. w.clones ≡ cs) → IfOk r (λ w. AreWithin net w.clones)
+within_told net told cs (Ok w) same within clones =
+    subst (AreWithin net) (sym clones) (subst (λ (n : Net). AreWithin n cs) same within)
+within_told net told cs (Err e) same within clones = tt

@@ -1,6 +1,6 @@
 -- Where the limit is met in a run of clones.
 use Rattle.std.proofs.Common.{◌≡◌, ◌⊎◌, inl, inr, ℕ, zero, suc, ◌<◌, ◌≤◌, refl, sym}
-use Rattle.std.proofs.Common.{ap, ◌∙◌, subst, arith, List, [], ◌∷◌, length, Option, Some, None}
+use Rattle.std.proofs.Common.{ap, ◌∙◌, subst, arith, List, [], ◌∷◌, Option, Some, None}
 use Rattle.std.proofs.lemmas.Bool.{cases_lt}
 use Rattle.std.specs.Option.{option_or}
 use Rattle.sim_base.specs.Clones.{Clone, clone_at}
@@ -8,9 +8,9 @@ use Rattle.net_model.specs.Net.{Net}
 use Rattle.net_model.specs.Rules.{IsNet}
 use Rattle.run_laws.specs.Queue.{In}
 use Rattle.run_laws.specs.Fronts.{least}
-use Rattle.run_laws.proofs.Gaining.{shorter_before}
+use Rattle.run_laws.proofs.Gaining.{IsBeyond-later}
 use Rattle.run_laws.proofs.NextFronts.{fronts-go_on, fronts-unique, window_end-within}
-use Rattle.stations.specs.Runs.{AreFronts, log_at, next_front, simulation}
+use Rattle.stations.specs.Runs.{AreFronts, next_front, simulation}
 use Rattle.stations.proofs.GoodLaws.{lawful-stations}
 use Rattle.world_core.specs.Overs.{IsFirstBeyond, NoneBeyond}
 use Rattle.study_run.specs.Limits.{AreWithin, MeetsLimit}
@@ -18,16 +18,6 @@ use Rattle.study_run.specs.Laws.{MeetingIsFound, MeetingIsOne, NotWithinAndMet, 
 use Rattle.study_run.specs.Overs.{first_overrun, first_overrun_of, overrun_at}
 use Rattle.study_run.proofs.OverLaws.{first_overrun-ended, is_first, no_windows, none_beyond, rises, window_more}
 use Rattle.study_run.proofs.OverLaws.{within_horizon}
-
--- ---- AreWithin
-
--- no log is longer where none is beyond the limit at the horizon
-pub none_within : (net : Net) (cs : List Clone) → NoneBeyond net cs net.horizon → AreWithin net cs
-none_within net cs h c there s is =
-    elim (cases_lt net.limit (length (log_at net (clone_at cs c) s net.horizon))) [
-      | inl long ↦ absurd (h s c is there long)
-      | inr short ↦ short
-    ]
 
 -- ---- fronts
 
@@ -138,10 +128,9 @@ module _ (net : Net) (valid : IsNet net) (cs : List Clone) where
       let e = m.is_end in
       let first = m.first in
       let early = in_horizon net valid cs 0 e.fronts e.are_fronts m.bound e.is_one in
-      let short = shorter_before (lawful-stations net valid) (clone_at cs c) s m.bound net.horizon net.limit early
-      (h c first.clone s first.is_station) in
-      let long = first.beyond in
-      absurd (omega (arith, short, long))
+      let is = first.is_station in
+      let long = IsBeyond-later (lawful-stations net valid) (clone_at cs c) s m.bound net.horizon early first.beyond in
+      absurd (h c first.clone s (is.low, is.high) long)
 
 -- at one bound there is one first
 first_is_one : (net : Net) (cs : List Clone) (bound s c t d : ℕ) → IsFirstBeyond net cs bound s c
@@ -171,10 +160,12 @@ first_is_one net cs bound s c t d a b = elim (cases_lt s t) [
 pub meeting_is_one : MeetingIsOne
 meeting_is_one net cs s c t d m k = elim (cases_lt m.bound k.bound) [
   | inl less ↦ let first = m.first in
-      absurd (k.before m.bound m.is_end less s c first.is_station first.clone first.beyond)
+      let is = first.is_station in
+      absurd (k.before m.bound m.is_end less c first.clone s (is.low, is.high) first.beyond)
   | inr most ↦ elim (cases_lt k.bound m.bound) [
     | inl less ↦ let first = k.first in
-        absurd (m.before k.bound k.is_end less t d first.is_station first.clone first.beyond)
+        let is = first.is_station in
+        absurd (m.before k.bound k.is_end less d first.clone t (is.low, is.high) first.beyond)
     | inr least ↦
         let same : k.bound ≡ m.bound = omega (arith, most, least) in
         first_is_one net cs m.bound s c t d m.first (subst (λ b. IsFirstBeyond net cs b t d) same k.first)
@@ -188,7 +179,7 @@ not_both net valid cs s c h m = not_within net valid cs s c h m
 -- all are within the limit, or it is met as the search finds it
 first_overrun_of-cases : (net : Net) → IsNet net → (cs : List Clone) (o : Option (ℕ × ℕ)) → first_overrun_of net cs ≡ o
     → AreWithin net cs ⊎ ((s : ℕ) × ((c : ℕ) × ((first_overrun_of net cs ≡ Some (s, c)) × MeetsLimit net cs s c)))
-first_overrun_of-cases net valid cs None e = inl (none_within net cs (within_horizon net cs valid e))
+first_overrun_of-cases net valid cs None e = inl (within_horizon net cs valid e)
 first_overrun_of-cases net valid cs (Some (s, c)) e = inr (s, (c, (e, found_met net valid cs s c e)))
 
 -- all logs are within the limit, or it is met
@@ -226,5 +217,5 @@ within_found net valid cs (Some (s, c)) e h = absurd (not_within net valid cs s 
 pub within_is_not_found : WithinIsNotFound
 within_is_not_found net valid cs = (
   within_found net valid cs (first_overrun_of net cs) refl,
-  λ none. none_within net cs (within_horizon net cs valid none),
+  λ none. within_horizon net cs valid none,
 )

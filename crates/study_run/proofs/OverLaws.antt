@@ -47,7 +47,7 @@ module _ (net : Net) (cs : List Clone) (front : ℕ) where
   none_over : NoneBeyond net cs front → overrun_at net cs front ≡ None
   none_over h = below_none (λ i. overrun_in net cs front (i + 1)) (length net.sites)
       (λ i l. below_none (overrun_of net cs front (i + 1)) (length cs)
-      (λ c k. short_is (i + 1) c (h (i + 1) c (record { low = omega arith; high = omega (arith, l) }) k)))
+      (λ c k. short_is (i + 1) c (h c k (i + 1) (omega arith, omega (arith, l)))))
 
   -- where none is found at a station, no clone's log there is beyond the limit
   none_here : (s c : ℕ) → overrun_in net cs front s ≡ None → c < length cs → ¬ (IsBeyond net s front (clone_at cs c))
@@ -58,9 +58,9 @@ module _ (net : Net) (cs : List Clone) (front : ℕ) where
 
   -- and the other way round
   pub none_beyond : overrun_at net cs front ≡ None → NoneBeyond net cs front
-  none_beyond h s c is there long =
-      let low = is.low in
-      let high = is.high in
+  none_beyond h c there s is long =
+      let low : 1 ≤ s = is.0 in
+      let high : s ≤ length net.sites = is.1 in
       let e : s - 1 + 1 ≡ s = omega (arith, low) in
       let here = none_below (λ i. overrun_in net cs front (i + 1)) (length net.sites) (s - 1) h
       (omega (arith, low, high)) in

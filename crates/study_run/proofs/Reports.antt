@@ -75,7 +75,7 @@ module _ (net : Net) (cs : List Clone) where
   pub few_at : AreWithin net cs → (s : ℕ) → 1 ≤ s → s ≤ length net.sites
       → AreFew (simulation net) same_entry cs s net.horizon
   few_at h s low high = counts_are_few (simulation net) same_entry cs s net.horizon
-      (λ c there. h c there s (record { low = low; high = high }))
+      (λ c there. h c there s (low, high))
 
   -- ---- the total
 

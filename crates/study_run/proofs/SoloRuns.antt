@@ -7,8 +7,8 @@ use Rattle.sim_base.specs.declared.decision.Planned.{Planned}
 use Rattle.net_model.specs.Net.{Net}
 use Rattle.run_laws.specs.Machine.{run_to}
 use Rattle.run_laws.specs.Runs.{run}
+use Rattle.run_laws.specs.World.{first_world}
 use Rattle.stations.specs.Runs.{simulation, trace_of}
-use Rattle.solo_run.specs.Beginning.{start_of}
 use Rattle.solo_run.specs.Limit.{first_beyond}
 use Rattle.solo_run.specs.SoloView.{IsSolo, SoloView, config_of}
 use Rattle.solo_run.specs.Turns.{Stops, run_from, step_of}
@@ -25,7 +25,7 @@ use Rattle.study_run.proofs.Fulls.{met_alone, within_alone}
 module _ (net : Net) (c : Clone) (plans : List Planned) (end : Option ℕ) (front : ℕ) (v : SoloView)
     (same_plans : plans ≡ c.plans) (same_end : end ≡ c.end)
     (is_last : front ≡ min net.horizon (unwrap_or end net.horizon))
-    (begins : config_of net v ≡ start_of net plans) where
+    (begins : config_of net v ≡ first_world (simulation net) plans) where
   -- the trace of the run from where it begins
   trace_from : (run_from net v front).at.trace ≡ trace_of net c
   trace_from = ap (λ k. (run_to msg_cmp (step_of net) (λ m. m.key.time) k front).at.trace) begins

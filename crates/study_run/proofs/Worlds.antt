@@ -9,8 +9,9 @@ use Rattle.run_laws.proofs.HandledStays.{handled-0}
 use Rattle.stations.specs.Runs.{handled_once, next_front, simulation}
 use Rattle.world_core.specs.Overs.{IsFault, NoneBeyond}
 use Rattle.world_core.specs.Worlds.{total_handled}
-use Rattle.world_core.specs.declared.world.WorldFault.TheVariants.{EventLimit}
-use Rattle.study_run.specs.Faults.{StopsAll}
+use Rattle.world_core.specs.declared.world.WorldFault.{WorldFault}
+use Rattle.world_core.specs.declared.world.WorldFault.TheVariants.{EventLimit, NoMemory}
+use Rattle.study_run.specs.Faults.{IsFaultOfAll, StopsAll, fault_of_window}
 use Rattle.study_run.proofs.Meeting.{found_met}
 use Rattle.study_run.specs.Overs.{HasCome}
 use Rattle.study_run.proofs.OverLaws.{comes_next, over_here, rises}
@@ -40,7 +41,7 @@ stops_at net cs front below valid start mid new station who kept come steps h =
       few = omega (arith, most, steps);
     }
 
--- ---- next_front, HasCome, total_handled, StopsAll, one window on
+-- ---- next_front, HasCome, total_handled, IsFaultOfAll, one window on
 module _ (net told : Net) (cs those : List Clone) (front bound : ℕ) (same_net : told ≡ net) (same_clones : those ≡ cs)
     (next : bound ≡ next_front told those front) (below : front < net.horizon) where
   -- the bound is the next front of this network and of these clones
@@ -72,11 +73,12 @@ module _ (net told : Net) (cs those : List Clone) (front bound : ℕ) (same_net 
       let c : total_handled net cs now ≡ total_handled net cs bound = ap (total_handled net cs) is in
       omega (arith, a, b, c, before, steps)
 
-  -- where a log is beyond the limit at the next front, the run of all clones ends there
-  pub stops_in : (start mid new station who kept : ℕ) → IsNet net → HasCome net cs front
+  -- the run of all clones ends with the window's fault: where a log is beyond the limit at the next front, there
+  pub stops_in : (start mid new : ℕ) (e : WorldFault) → IsNet net → HasCome net cs front
       → mid ≡ start + total_handled net cs front
-      → IsFault told those front bound mid new (EventLimit station who kept) → StopsAll net cs start new station who
-  stops_in start mid new station who kept valid come steps h =
+      → IsFault told those front bound mid new e → IsFaultOfAll net cs start new (fault_of_window e)
+  stops_in start mid new NoMemory valid come steps h = tt
+  stops_in start mid new (EventLimit station who kept) valid come steps h =
       let one : IsFault net those front bound mid new (EventLimit station who kept) =
       subst (λ (n : Net). IsFault n those front bound mid new (EventLimit station who kept)) same_net h in
       let two : IsFault net cs front bound mid new (EventLimit station who kept) =

@@ -2,10 +2,17 @@
 use Rattle.std.specs.Prelude.{◌≡◌, ℕ, List, length}
 use Rattle.sim_base.specs.Clones.{Clone, clone_at}
 use Rattle.net_model.specs.Net.{Net}
+use Rattle.world_core.specs.declared.world.WorldFault.{WorldFault}
+use Rattle.world_core.specs.declared.world.WorldFault.TheVariants as window
 use Rattle.study_run.specs.Limits.{MeetsLimit, MeetsLimitAlone}
 use Rattle.study_run.specs.Work.{IsFew}
 use Rattle.study_run.specs.declared.fault.StudyFault.{StudyFault}
 use Rattle.study_run.specs.declared.fault.StudyFault.TheVariants.{NoMemory, LimitMet}
+
+-- the fault of a run that has a window with this fault
+abbrev pub fault_of_window : WorldFault → StudyFault
+fault_of_window window.NoMemory = NoMemory
+fault_of_window (window.EventLimit station who kept) = LimitMet station who
 
 -- the run of all clones ends where the limit is met, and no more was handled than the limit allows
 pub record StopsAll (net : Net) (clones : List Clone) (old_steps new_steps station who : ℕ) : Type 0 where

@@ -1,23 +1,24 @@
 -- The limit of a log: when the logs of a run are within it, and where it is met first.
 use Rattle.std.specs.Prelude.{◌≡◌, ℕ, ◌<◌, ◌≤◌, List, ◌∷◌, ◌++◌, length}
-use Rattle.sim_base.specs.Clones.{Clone, clone_at}
+use Rattle.sim_base.specs.Clones.{Clone}
 use Rattle.sim_base.specs.declared.message.Msg.{Msg}
 use Rattle.sim_base.specs.declared.entry.Entry.{Entry}
 use Rattle.sim_base.specs.declared.entry.Line.{Line}
 use Rattle.net_model.specs.Net.{Net, HasStation}
 use Rattle.run_laws.specs.Queue.{In}
+use Rattle.run_laws.specs.Sharing.{IsWithinLimit}
 use Rattle.run_laws.specs.World.{log_of}
-use Rattle.stations.specs.Runs.{AreFronts, log_at, trace_of}
+use Rattle.stations.specs.Runs.{AreFronts, simulation, trace_of}
 use Rattle.solo_run.specs.Limit.{receiver}
 use Rattle.world_core.specs.Overs.{IsFirstBeyond, NoneBeyond}
 
--- no station's log of the clone's whole run is longer than the limit
+-- no log of the clone's whole run is beyond the limit
 abbrev pub IsWithin : Net → Clone → Type 0
-IsWithin net c = (s : ℕ) → HasStation net s → length (log_at net c s net.horizon) ≤ net.limit
+IsWithin net c = IsWithinLimit (simulation net) net.horizon c
 
--- nor of any of the clones
+-- nor one of any of the clones
 abbrev pub AreWithin : Net → List Clone → Type 0
-AreWithin net clones = (c : ℕ) → c < length clones → IsWithin net (clone_at clones c)
+AreWithin net clones = NoneBeyond net clones net.horizon
 
 -- a window of the clones' run ends at f: f is one of their next fronts from 0 on
 pub record IsWindowEnd (net : Net) (clones : List Clone) (f : ℕ) : Type 0 where

@@ -1,4 +1,8 @@
 //! Why the run of a study has no result: memory was refused, or a log would get longer than the model's limit.
+ghost use Rattle.std.specs.Prelude.{◌≡◌};
+ghost use Rattle.study_run.specs.Faults.{fault_of_window as fault_of_window'};
+
+use world_core::WorldFault;
 
 /// Why a run has no result.
 #[derive(Clone, Copy, Debug, PartialEq, Eq)]
@@ -7,4 +11,14 @@ pub enum StudyFault {
     NoMemory,
     /// A log would get longer than the limit: the station, and the place of the clone among all clones.
     LimitMet { station: u32, who: u32 },
+}
+
+/// Why a run has no result, where a window of it has this fault.
+pub fn fault_of_window(fault: WorldFault) -> StudyFault
+    ensures value { result ≡ fault_of_window' fault }
+{
+    match fault {
+        WorldFault::NoMemory => StudyFault::NoMemory,
+        WorldFault::EventLimit { station, who, .. } => StudyFault::LimitMet { station, who },
+    }
 }

@@ -34,6 +34,6 @@ pub mod study;
 
 pub use alone::run_alone;
 pub use crew::StudyCrew;
-pub use fault::StudyFault;
+pub use fault::{StudyFault, fault_of_window};
 pub use report::make_report;
 pub use study::run_study;

@@ -8,7 +8,7 @@ ghost use Rattle.study_run.specs.Faults.{IsFaultOfAll};
 ghost use Rattle.study_run.specs.Limits.{AreWithin};
 
 use crate::crew::begin_team;
-use crate::fault::StudyFault;
+use crate::fault::{StudyFault, fault_of_window};
 use crew_pool::{Crew, Gate};
 use decision_book::Call;
 use net_model::Model;
@@ -18,7 +18,7 @@ use std::alloc::Global;
 use std::sync::ledger::Ledger;
 use std::sync::{Arc, Wait};
 use std::thread::{Threads, join_mut};
-use world_core::{Window, World, WorldFault};
+use world_core::{Window, World};
 
 // The world of all clones that the calls make, before anything is handled.
 fn open_world(alloc: Global, model: &Arc<Model>, calls: &[Call]) -> Result<World, NoMemory>
@@ -57,10 +57,7 @@ fn run_windows<C: Crew, G: Gate, L: Ledger, R: Threads + Wait + Sync>(
         let bound = world.bound();
         world = match world.window(rt, alloc, crew, gate, bound, steps) {
             Ok(world) => world,
-            Err(WorldFault::NoMemory) => return Err(StudyFault::NoMemory),
-            Err(WorldFault::EventLimit { station, who, .. }) => {
-                return Err(StudyFault::LimitMet { station, who });
-            }
+            Err(fault) => return Err(fault_of_window(fault)),
         };
     }
     Ok(world)

@@ -1,8 +1,8 @@
 -- What a step of a cursor gives and leaves, by what the next walk gave; and what an added list leaves.
 use Rattle.std.proofs.Common.{◌≡◌, ℕ, ◌+◌, ◌%◌, ◌<◌, ◌≤◌, List, [], ◌∷◌, ◌++◌}
-use Rattle.std.proofs.Common.{sym, ap, ◌∙◌, subst, arith, length, get_or, set, Option, Some, None}
+use Rattle.std.proofs.Common.{refl, sym, ap, ◌∙◌, subst, arith, length, get_or, set, Option, Some, None}
 use Rattle.std.specs.Prelude.{IfSome, IfNone}
-use Rattle.std.proofs.lemmas.List.{get_or-set_same, get_or_default, set-get_or, length_push}
+use Rattle.std.proofs.lemmas.List.{get_or-set_same, get_or_default, set-get_or, length-set, length_push}
 use Rattle.sim_base.specs.declared.message.TheConstants.{WORD_PLACES}
 use Rattle.run_laws.specs.Merges.{merge}
 use Rattle.log_chain.specs.Packing.{FitWords}
@@ -63,27 +63,29 @@ module _ (ls : List (List E)) (words : List ℕ) (reserved most : ℕ) (c : IsCu
   some_of None some = tt
 
   -- an entry that is given is the first of what was left, and the others are left then
-  pub left-some : (v : CursorView) → view_of ls most ≡ v → IfSome r (λ e. v.left ≡ e ∷ merge_all (set ls i new))
-  left-some v is = by r (some_of r some)
+  pub view-some : (v : CursorView) → view_of ls most ≡ v
+      → IfSome r (λ e. v ≡ cursor_view (e ∷ merge_all (set ls i new)) (length (set ls i new)) most)
+  view-some v is = by r (some_of r some)
     where
       -- by whether there was an entry
       by : (r : Option E) → IfSome r (λ e. merge_all ls ≡ e ∷ merge_all (set ls i new)) →
-          IfSome r (λ e. v.left ≡ e ∷ merge_all (set ls i new))
-      by (Some e) k = sym (ap (λ (u : CursorView). u.left) is) ∙ k
+          IfSome r (λ e. v ≡ cursor_view (e ∷ merge_all (set ls i new)) (length (set ls i new)) most)
+      by (Some e) k = sym is ∙ cursor_view-same (merge_all ls) (e ∷ merge_all (set ls i new)) (length ls)
+          (length (set ls i new)) most most k (sym (length-set ls i new)) refl
       by None k = tt
 
-  -- or none, where nothing is left
-  pub left-none : (v : CursorView) → view_of ls most ≡ v → IfNone r ((v.left ≡ []) × (merge_all (set ls i new) ≡ []))
-  left-none v is = by r none
+  -- or none, where nothing is left, and then the cursor is as it was
+  pub view-none : (v : CursorView) → view_of ls most ≡ v → IfNone r ((v.left ≡ []) × (view_of (set ls i new) most ≡ v))
+  view-none v is = by r none
     where
       -- by whether there was an entry
       by : (r : Option E) → IfNone r ((old ≡ []) × (new ≡ [])) →
-          IfNone r ((v.left ≡ []) × (merge_all (set ls i new) ≡ []))
+          IfNone r ((v.left ≡ []) × (view_of (set ls i new) most ≡ v))
       by (Some e) k = tt
       by None k =
           let nothing : merge_all ls ≡ [] = merge_all-none w words ls reserved most c h (at_first ∙ k.0) in
           let same : set ls i new ≡ ls = ap (set ls i) (k.1 ∙ sym (at_first ∙ k.0)) ∙ set-get_or ls i [] in
-          (sym (ap (λ (u : CursorView). u.left) is) ∙ nothing, ap merge_all same ∙ nothing)
+          (sym (ap (λ (u : CursorView). u.left) is) ∙ nothing, ap (λ l. view_of l most) same ∙ is)
 
 -- ---- a cursor that has an entry
 

@@ -77,10 +77,8 @@ impl<'a> Cursor<'a> {
 
     /// The next entry, None exactly at the end.
     pub fn next(&mut self) -> Option<Entry>
-        ensures some { IfSome result (λ e. self.old.left ≡ e ∷ self.new.left) }
-        ensures none { IfNone result ((self.old.left ≡ []) × (self.new.left ≡ [])) }
-        ensures logs { self.new.logs ≡ self.old.logs }
-        ensures most { self.new.most ≡ self.old.most }
+        ensures some { IfSome result (λ e. self.old ≡ record self.new { left = e ∷ self.new.left }) }
+        ensures none { IfNone result ((self.old.left ≡ []) × (self.new ≡ self.old)) }
     {
         let place = self.tree.least() % WORD_PLACES;
         let i = place as usize;
@@ -96,9 +94,7 @@ impl<'a> Cursor<'a> {
     #[inline(always)]
     pub fn take(&mut self) -> StoredEntry<'a>
         requires some { 1 ≤ length self.old.left }
-        ensures value { self.old.left ≡ entry_in result ∷ self.new.left }
-        ensures logs { self.new.logs ≡ self.old.logs }
-        ensures most { self.new.most ≡ self.old.most }
+        ensures value { self.old ≡ record self.new { left = entry_in result ∷ self.new.left } }
     {
         let place = self.tree.least() % WORD_PLACES;
         let i = place as usize;

@@ -1,8 +1,8 @@
 -- The text of a clone's trace: a head, and then a line for each message that was handled.
 use Rattle.std.specs.Prelude.{◌==◌, ℕ, ◌++◌, if◌then◌else◌, List}
 use Rattle.std.specs.Prelude.{[], Option, Some, None, codes, decimal}
-use Rattle.std.specs.List.{flat_map}
-use Rattle.sim_base.specs.Params.{param_word, param_values}
+use Rattle.std.specs.List.{flat_map, join_with_byte}
+use Rattle.sim_base.specs.Params.{param_values, value_words, words_of_change}
 use Rattle.sim_base.specs.declared.entry.Entry.{Entry}
 use Rattle.sim_base.specs.declared.entry.Line.{Line}
 use Rattle.sim_base.specs.declared.entry.Line.TheVariants.{Source, Server, Passed, Sink}
@@ -33,12 +33,11 @@ job_text net job = station_name net job.source ++ codes "." ++ decimal job.count
 
 -- the one value of a change, or both of its values
 abbrev pub values_text : Change → List ℕ
-values_text change = if param_values change.param == 2 then decimal change.a ++ codes " "
-    ++ decimal change.b else decimal change.a
+values_text change = join_with_byte 32 (value_words (param_values change.param) change.a change.b)
 
 -- a change, as a script gives it
 abbrev pub change_text : Change → List ℕ
-change_text change = param_word change.param ++ codes " " ++ values_text change
+change_text change = join_with_byte 32 (words_of_change change.param change.a change.b)
 
 -- what a message tells its receiver
 abbrev pub payload_text : Net → Payload → List ℕ

@@ -1,9 +1,15 @@
 //! How many digits a number has.
 ghost use Rattle.std.specs.Prelude.{◌≡◌, ◌<◌, ◌≤◌, length, decimal};
-ghost use Rattle.trace_report.specs.declared.digits.TheConstants.{LONGEST_NUMBER};
+ghost use Rattle.trace_report.specs.declared.digits.TheConstants.{LEAST_LONG, LONGEST_NUMBER, SHORT_NUMBER};
 
 /// How many digits a number of 64 bits has at most.
 pub const LONGEST_NUMBER: usize = 20;
+
+/// How many digits a short number has at most.
+pub const SHORT_NUMBER: usize = 10;
+
+/// The least number that has more.
+pub const LEAST_LONG: u64 = 10_000_000_000;
 
 /// How many digits a number has.
 // A ladder, since the digits of a trace's numbers are few and seldom change from line to line.
@@ -12,19 +18,19 @@ pub fn digits(n: u64) -> usize
     ensures count { result ≡ length (decimal n) }
     ensures few { result ≤ LONGEST_NUMBER }
 {
-    if n < 10_000_000_000 {
+    if n < LEAST_LONG {
         few_digits(n)
     } else {
-        10 + few_digits(n / 10_000_000_000)
+        SHORT_NUMBER + few_digits(n / LEAST_LONG)
     }
 }
 
-// The same of a number with at most ten.
+// The same of a short number.
 #[inline(always)]
 fn few_digits(n: u64) -> usize
-    requires small { n < 10000000000 }
+    requires small { n < LEAST_LONG }
     ensures count { result ≡ length (decimal n) }
-    ensures few { result ≤ 10 }
+    ensures few { result ≤ SHORT_NUMBER }
 {
     if n < 100_000 {
         if n < 10 {

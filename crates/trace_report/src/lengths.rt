@@ -80,10 +80,10 @@ fn values_len(change: &Change) -> usize
     ensures value { result ≡ length (values_text change.now) }
     ensures short { result ≤ LONGEST_VALUES }
 {
-    if change.param.values() == 2 {
-        digits(change.a) + 1 + digits(change.b)
-    } else {
+    if change.param.values() == 1 {
         digits(change.a)
+    } else {
+        digits(change.a) + 1 + digits(change.b)
     }
 }
 

@@ -1,7 +1,7 @@
 //! How a trace line is worded, written forward: each function writes its part at a place and returns the place behind.
 //!
 //! `free` and `WritesPiece` say how long a part can be, by the constants of `lengths`.
-ghost use Rattle.std.specs.Prelude.{◌≡◌, ◌+◌, ◌≤◌, ◌++◌, length, take, codes};
+ghost use Rattle.std.specs.Prelude.{◌≡◌, ◌+◌, ◌≤◌, ◌++◌, length, codes};
 ghost use Rattle.sim_base.specs.declared.entry.Line.TheVariants.{Server};
 ghost use Rattle.trace_report.specs.Slots.{AreNames};
 ghost use Rattle.log_chain.specs.Packing.{unpacked_entry};
@@ -9,7 +9,7 @@ ghost use Rattle.log_chain.specs.Stored.{entry_in};
 ghost use Rattle.sim_base.specs.Params.{param_word};
 ghost use Rattle.trace_report.specs.TraceText.{station_name, class_text, job_text, values_text};
 ghost use Rattle.trace_report.specs.TraceText.{change_text, payload_text, counts_text, key_text, entry_line};
-ghost use Rattle.trace_report.specs.Writers.{WritesPiece};
+ghost use Rattle.trace_report.specs.Writers.{WritesAll, WritesPiece};
 ghost use Rattle.trace_report.specs.declared.line.TheConstants.{MOST_LINE};
 ghost use Rattle.sim_base.specs.declared.name.TheConstants.{LONGEST_NAME};
 ghost use Rattle.trace_report.specs.declared.lengths.TheConstants.{LONGEST_CLASS, LONGEST_JOB, LONGEST_WORD};
@@ -72,10 +72,10 @@ fn put_values(bytes: &mut [u8], at: usize, change: &Change) -> usize
     ensures written { WritesPiece (values_text change.now) LONGEST_VALUES at result bytes.old bytes.new }
 {
     let at = put_number(bytes, at, change.a);
-    if change.param.values() == 2 {
-        put_count(bytes, at, b" ", change.b)
-    } else {
+    if change.param.values() == 1 {
         at
+    } else {
+        put_count(bytes, at, b" ", change.b)
     }
 }
 
@@ -190,9 +190,7 @@ pub const MOST_LINE: usize = 256;
 pub fn write_line(bytes: &mut [u8], at: usize, model: &Model, names: &Names, entry: &Entry) -> usize
     requires names { AreNames model.now names.now }
     requires free { at + MOST_LINE ≤ length bytes.old }
-    ensures text { take result bytes.new ≡ take at bytes.old ++ entry_line model.now entry.now }
-    ensures size { length bytes.new ≡ length bytes.old }
-    ensures place { result ≡ at + length (entry_line model.now entry.now) }
+    ensures written { WritesAll (entry_line model.now entry.now) at result bytes.old bytes.new }
 {
     let at = put_key(bytes, at, model, names, &entry.msg.key, entry.msg.to);
     let at = put_payload(bytes, at, model, names, &entry.msg.payload);
@@ -210,9 +208,7 @@ fn write_packed(
 ) -> usize
     requires names { AreNames model.now names.now }
     requires free { at + MOST_LINE ≤ length bytes.old }
-    ensures text { take result bytes.new ≡ take at bytes.old ++ entry_line model.now (unpacked_entry packed.now) }
-    ensures size { length bytes.new ≡ length bytes.old }
-    ensures place { result ≡ at + length (entry_line model.now (unpacked_entry packed.now)) }
+    ensures written { WritesAll (entry_line model.now (unpacked_entry packed.now)) at result bytes.old bytes.new }
 {
     // a copy, which no byte that is written can change, so that each part is read once
     let packed = *packed;
@@ -233,9 +229,7 @@ pub fn write_stored(
 ) -> usize
     requires names { AreNames model.now names.now }
     requires free { at + MOST_LINE ≤ length bytes.old }
-    ensures text { take result bytes.new ≡ take at bytes.old ++ entry_line model.now (entry_in stored.entry) }
-    ensures size { length bytes.new ≡ length bytes.old }
-    ensures place { result ≡ at + length (entry_line model.now (entry_in stored.entry)) }
+    ensures written { WritesAll (entry_line model.now (entry_in stored.entry)) at result bytes.old bytes.new }
 {
     match stored {
         StoredEntry::Packed(packed) => write_packed(bytes, at, model, names, packed),

@@ -2,10 +2,10 @@
 //!
 //! The place goes through registers. A name is written as `LONGEST_NAME` bytes at once, and what it writes past its end
 //! the next piece overwrites.
-ghost use Rattle.std.specs.Prelude.{◌≡◌, ◌+◌, ◌≤◌, ◌++◌, length, take, decimal};
+ghost use Rattle.std.specs.Prelude.{◌+◌, ◌≤◌, ◌++◌, length, decimal};
 ghost use Rattle.sim_base.specs.declared.name.TheConstants.{LONGEST_NAME};
 ghost use Rattle.trace_report.specs.declared.digits.TheConstants.{LONGEST_NUMBER};
-ghost use Rattle.trace_report.specs.Writers.{WritesPiece};
+ghost use Rattle.trace_report.specs.Writers.{WritesAll, WritesPiece};
 
 use crate::digits::digits;
 use itoa::write_digits;
@@ -16,9 +16,7 @@ use sim_base::name::LONGEST_NAME;
 #[inline(always)]
 pub fn put(bytes: &mut [u8], at: usize, piece: &[u8]) -> usize
     requires free { at + length piece.now ≤ length bytes.old }
-    ensures text { take result bytes.new ≡ take at bytes.old ++ piece.now }
-    ensures size { length bytes.new ≡ length bytes.old }
-    ensures place { result ≡ at + length piece.now }
+    ensures written { WritesAll piece.now at result bytes.old bytes.new }
 {
     let end = at + piece.len();
     bytes[at..end].copy_from_slice(piece);

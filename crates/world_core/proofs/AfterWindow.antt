@@ -2,7 +2,7 @@
 use Rattle.std.proofs.Common.{◌≡◌, ◌↔◌, ◌*◌, ℕ, zero, suc, ◌+◌, ◌<◌, ◌≤◌, ◌==◌, Bool, true, false, cond, option_map}
 use Rattle.std.proofs.Common.{List, [], ◌∷◌, ◌++◌, inl, inr, Some, refl, sym, ap, ◌∙◌, subst, arith, length, map}
 use Rattle.std.proofs.Common.{slice_get, unwrap_or, append_assoc, append-nil, eqb-true, eq-eqb}
-use Rattle.std.proofs.lemmas.Bool.{cases_Bool, cases_lt, false≢true}
+use Rattle.std.proofs.lemmas.Bool.{cases_Bool, false≢true}
 use Rattle.std.proofs.lemmas.Option.{slice_get_cases}
 use Rattle.std.proofs.Math.Nat.{suc-mul}
 use Rattle.std.proofs.lemmas.List.Sums.{sum_by-cons}
@@ -235,13 +235,15 @@ module _ (net : Net) (cs : List Clone) (front bound : ℕ) (procs : List ProcVie
 
   -- no log was beyond the limit at the front
   short_of : (i : ℕ) → i < length net.sites → (c : ℕ) → c < length cs
-      → length (log_at (simulation net) (clone_at cs c) (i + 1) front) ≤ net.limit
-  short_of i l c there =
+      → ¬ (IsBeyond net (i + 1) front (clone_at cs c))
+  short_of i l c there long =
       let p = proc_of i l in
       let st = (world.stood i p.0 p.1).copies in
       let a = st.carried c there in
       let copy = all_in (IsCopy net p.0.station) p.0.copies a.0 (world.stood i p.0 p.1).proc.copies a.1 in
-      subst (λ k. length k ≤ net.limit) (st.log a.0 c a.1 a.2) copy.short
+      let short : length (log_at (simulation net) (clone_at cs c) (i + 1) front) ≤ net.limit =
+      subst (λ k. length k ≤ net.limit) (st.log a.0 c a.1 a.2) copy.short in
+      omega (arith, short, long)
 
   -- with what was handled before, a station has handled no more than the limit allows each clone
   few_at : (i : ℕ) → i < length net.sites → (flow : Flow) → slice_get flows i ≡ Some flow →
@@ -368,14 +370,11 @@ module _ (net : Net) (cs : List Clone) (front bound : ℕ) (procs : List ProcVie
 
     -- no log is beyond the limit
     none_long : (i : ℕ) → i < length net.sites → (c : ℕ) → c < length cs
-        → length (log_at (simulation net) (clone_at cs c) (i + 1) bound) ≤ net.limit
-    none_long i l c there =
+        → ¬ (IsBeyond net (i + 1) bound (clone_at cs c))
+    none_long i l c there long =
         let f = flow_of i l in
-        elim (cases_lt net.limit (length (log_at (simulation net) (clone_at cs c) (i + 1) bound))) [
-          | inl long ↦ absurd (false≢true (sym (ap (λ k. has k c) (none i f.0 f.1) ∙ has-empty c)
-              ∙ (over_of i l f.0 f.1 c).1 (there, long)))
-          | inr short ↦ short
-        ]
+        absurd (false≢true (sym (ap (λ k. has k c) (none i f.0 f.1) ∙ has-empty c)
+        ∙ (over_of i l f.0 f.1 c).1 (there, long)))
 
     -- what was handled once grows by what the station has handled
     pub grown_at : (i : ℕ) → i < length net.sites → (flow : Flow) → slice_get flows i ≡ Some flow

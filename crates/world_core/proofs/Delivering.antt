@@ -72,7 +72,7 @@ AllDelivered-one m k procs j old new l to is copies station living once proc = r
   ];
 }
 
--- the stations stand in the order of their numbers as before
+-- the stations are in the order of their numbers as before
 pub AreStationsInOrder-delivered : (ms : MarkedMessages) (olds news : List ProcView) → AreStationsInOrder olds
     → AllDelivered ms olds news → AreStationsInOrder news
 AreStationsInOrder-delivered ms olds news h d = λ i q got.

@@ -115,9 +115,9 @@ module _ (net : Net) (cs : List Clone) (ended : List (ℕ × ℕ)) (front : ℕ)
 -- no log of a world is beyond the limit
 pub none_is_beyond : (net : Net) (cs : List Clone) (ended : List (ℕ × ℕ)) (front : ℕ) (procs : List ProcView)
     → WorldStands net cs ended front procs → NoneBeyond net cs front
-none_is_beyond net cs ended front procs world = λ s c is there beyond.
-    let low = is.low in
-    let high = is.high in
+none_is_beyond net cs ended front procs world = λ c there s is beyond.
+    let low : 1 ≤ s = is.0 in
+    let high : s ≤ length net.sites = is.1 in
     let same : s ≡ s - 1 + 1 = omega (arith, low) in
     let many = world.count in
     log_within net cs ended front procs world c there (s - 1) (omega (arith, low, high, many))

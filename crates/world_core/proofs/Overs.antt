@@ -57,9 +57,9 @@ module _ (net : Net) (cs : List Clone) (front bound : ℕ) (procs : List ProcVie
 
   -- where no clone went over the limit, no log is beyond it
   pub none_beyond : NoneOver flows → NoneBeyond net cs bound
-  none_beyond none zero c is there long = absurd (let low = is.low in omega (arith, low))
-  none_beyond none (suc i) c is there long =
-      let high = is.high in
+  none_beyond none c there zero is long = absurd (let low : 0 < 0 = is.0 in omega (arith, low))
+  none_beyond none c there (suc i) is long =
+      let high : suc i ≤ length net.sites = is.1 in
       let l : i < length net.sites = omega (arith, high) in
       let e : suc i ≡ i + 1 = omega arith in
       let f = flow_of net cs front bound procs flows world i l in

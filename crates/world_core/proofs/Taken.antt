@@ -33,9 +33,19 @@ use Rattle.phys_proc.specs.Ends.{ends_in}
 use Rattle.phys_proc.specs.Own.{StationCopy, with_message}
 use Rattle.phys_proc.specs.Procs.{ProcView}
 use Rattle.phys_proc.proofs.Delivery.{all_given}
-use Rattle.world_core.specs.Worlds.{StandsAt, WorldStands}
+use Rattle.world_core.specs.Worlds.{StandsAt, WorldStands, WorldView}
 use Rattle.world_core.specs.Windows.{AllDelivered, with_mail}
 use Rattle.world_core.specs.Forking.{AllForked, LivesAtAll, LivesNowhere}
+
+-- ---- WorldView
+
+-- a world of the same network and front is the old one with its clones
+pub world_with : (old new : WorldView) (cs : List Clone) → new.net ≡ old.net → new.front ≡ old.front → new.clones ≡ cs
+    → new ≡ record old { clones = cs }
+world_with old new cs net front clones =
+    ap (λ (n : Net). record { net = n; clones = new.clones; front = new.front }) net
+    ∙ (ap (λ f. record { net = old.net; clones = new.clones; front = f }) front
+    ∙ ap (λ l. record { net = old.net; clones = l; front = old.front }) clones)
 
 -- ---- LivesAtAll, LivesNowhere
 

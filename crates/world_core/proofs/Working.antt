@@ -8,10 +8,10 @@ use Rattle.net_model.specs.Net.{Net}
 use Rattle.phys_proc.specs.Own.{MarkedMessages}
 use Rattle.phys_proc.specs.Procs.{ProcView}
 use Rattle.world_core.specs.declared.flow.Flow.{Flow}
-use Rattle.crew_pool.specs.Tasks.{AnswersTo, EachAnswers, EachReady}
+use Rattle.crew_pool.specs.Tasks.{AnswersTo, EachAnswers, EachReady, MayRunAll}
 use Rattle.world_core.specs.Jobs.{IsJobAnswer, IsJob}
 use Rattle.world_core.specs.Posts.{ArePosts, PostView}
-use Rattle.world_core.specs.Windows.{AllDelivered, AllFlow, AreProcsInOrder, AreStationsInOrder}
+use Rattle.world_core.specs.Windows.{AllDelivered, AllFlow, AreStations, MayGiveAll}
 use Rattle.world_core.specs.declared.jobs.Job.{Job}
 use Rattle.world_core.specs.declared.jobs.Job.TheVariants.{Step, Give}
 use Rattle.world_core.specs.declared.jobs.JobAnswer.{JobAnswer}
@@ -28,24 +28,35 @@ mapped_at f [] i d l = absurd (omega (arith, l))
 mapped_at f (x ∷ xs) zero d l = (x, refl, refl)
 mapped_at f (x ∷ xs) (suc i) d l = mapped_at f xs i d (omega (arith, l))
 
--- ---- EachReady
+-- ---- MayRunAll
 
 -- stations that are numbered may be stepped
-pub steps_ready : (net : Net) (procs : List ProcView) (jobs : List Job) → jobs ≡ map (λ p. Step p) procs
-    → AreProcsInOrder net procs → EachReady (IsJob net) jobs
-steps_ready net procs jobs is all = subst (EachReady (IsJob net)) (sym is) ready
+pub steps_may_run : (net : Net) (procs : List ProcView) (jobs : List Job) → jobs ≡ map (λ p. Step p) procs
+    → AreStations net procs → MayRunAll (IsJob net) jobs
+steps_may_run net procs jobs is all = subst (MayRunAll (IsJob net)) (sym is) (record {
+  few = let n = length-map procs (λ p. Step p) in let k = all.few in omega (arith, n, k);
+  ready = ready;
+})
   where
     ready : EachReady (IsJob net) (map (λ p. Step p) procs)
-    ready i d l = let at = mapped_at (λ p. Step p) procs i d l in subst (IsJob net i) (sym at.1) (all i at.0 at.2)
+    ready i d l = let at = mapped_at (λ p. Step p) procs i d l in
+        subst (IsJob net i) (sym at.1) (all.procs_in_order i at.0 at.2)
 
 -- their mail is for them
-pub mail_ready : (net : Net) (sent : MarkedMessages) (procs : List ProcView) (posts : List PostView) (jobs : List Job)
-    → jobs ≡ map (λ q. Give q) posts → AreStationsInOrder procs → ArePosts sent procs posts → EachReady (IsJob net) jobs
-mail_ready net sent procs posts jobs is order all = subst (EachReady (IsJob net)) (sym is) ready
+pub mail_may_run : (net : Net) (sent : MarkedMessages) (procs : List ProcView) (posts : List PostView) (jobs : List Job)
+    → jobs ≡ map (λ q. Give q) posts → MayGiveAll procs → ArePosts sent procs posts → MayRunAll (IsJob net) jobs
+mail_may_run net sent procs posts jobs is stations all = subst (MayRunAll (IsJob net)) (sym is) (record {
+  few =
+      let n = length-map posts (λ q. Give q) in
+      let m = all.count in
+      let k = stations.few in
+      omega (arith, n, m, k);
+  ready = ready;
+})
   where
     ready : EachReady (IsJob net) (map (λ q. Give q) posts)
     ready i d l = let at = mapped_at (λ q. Give q) posts i d l in
-        subst (IsJob net i) (sym at.1) (AreFor-posts sent procs posts order all i at.0 at.2)
+        subst (IsJob net i) (sym at.1) (AreFor-posts sent procs posts stations.in_order all i at.0 at.2)
 
 -- ---- EachAnswers
 

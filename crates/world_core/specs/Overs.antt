@@ -3,7 +3,8 @@ use Rattle.std.specs.Prelude.{◌≡◌, ℕ, ◌+◌, ◌*◌, ◌<◌, ◌≤�
 use Rattle.sim_base.specs.Clones.{Clone, clone_at}
 use Rattle.clone_sets.specs.Sets.{empty, IsFirst}
 use Rattle.net_model.specs.Net.{Net, HasStation}
-use Rattle.stations.specs.Runs.{IsBeyond}
+use Rattle.run_laws.specs.Sharing.{IsWithinLimit}
+use Rattle.stations.specs.Runs.{IsBeyond, simulation}
 use Rattle.world_core.specs.declared.flow.Flow.{Flow}
 use Rattle.world_core.specs.declared.world.WorldFault.{WorldFault}
 use Rattle.world_core.specs.declared.world.WorldFault.TheVariants.{NoMemory, EventLimit}
@@ -17,9 +18,9 @@ pub record IsFirstBeyond (net : Net) (cs : List Clone) (bound station who : ℕ)
   pub least_station : (s : ℕ) → 1 ≤ s → s < station → (c : ℕ) → c < length cs → ¬ (IsBeyond net s bound (clone_at cs c))
   pub least_clone : (c : ℕ) → c < who → ¬ (IsBeyond net station bound (clone_at cs c))
 
--- no log is beyond the limit
+-- no clone has a log beyond the limit
 abbrev pub NoneBeyond : Net → List Clone → ℕ → Type 0
-NoneBeyond net cs bound = (s c : ℕ) → HasStation net s → c < length cs → ¬ (IsBeyond net s bound (clone_at cs c))
+NoneBeyond net cs bound = (c : ℕ) → c < length cs → IsWithinLimit (simulation net) bound (clone_at cs c)
 
 -- the most messages that the stations may handle for so many clones
 abbrev pub most_handled : Net → ℕ → ℕ

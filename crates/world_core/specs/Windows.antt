@@ -93,7 +93,7 @@ after_window flows i = with_mail (sent_to i (all_sent flows)) (done_at flows i)
 abbrev pub NoneOver : List Flow → Type 0
 NoneOver flows = (i : ℕ) (flow : Flow) → slice_get flows i ≡ Some flow → flow.over ≡ empty
 
--- the stations stand in the order of their numbers
+-- the stations are in the order of their numbers
 abbrev pub AreStationsInOrder : List ProcView → Type 0
 AreStationsInOrder procs = (i : ℕ) (p : ProcView) → slice_get procs i ≡ Some p → p.station ≡ i + 1
 

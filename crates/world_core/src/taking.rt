@@ -34,9 +34,8 @@ impl World {
     /// Out of memory, the world is given up.
     pub fn take(self, alloc: Global, fresh: &[Call]) -> Result<World, NoMemory>
         requires accepted { AreAccepted self.net self.clones self.front fresh.now }
-        ensures net { IfOk result (λ w. w.net ≡ self.net) }
-        ensures front { IfOk result (λ w. w.front ≡ self.front) }
-        ensures clones { IfOk result (λ w. w.clones ≡ clones_after_calls self.net self.clones fresh.now) }
+        ensures value { IfOk result (λ w.
+            w ≡ record self { clones = clones_after_calls self.net self.clones fresh.now }) }
     {
         let mut world = self;
         for call in fresh {
@@ -48,9 +47,7 @@ impl World {
     // Takes one decision that was accepted.
     fn with_decision(self, alloc: Global, decision: &Decision) -> Result<World, NoMemory>
         requires accepted { IsAccepted self.net self.clones self.front decision.now }
-        ensures net { IfOk result (λ w. w.net ≡ self.net) }
-        ensures front { IfOk result (λ w. w.front ≡ self.front) }
-        ensures clones { IfOk result (λ w. w.clones ≡ clones_after self.net self.clones decision.now) }
+        ensures value { IfOk result (λ w. w ≡ record self { clones = clones_after self.net self.clones decision.now }) }
     {
         let Some(clone) = self.lists.lists().find(&decision.subject()) else {
             unreachable!()
@@ -92,11 +89,8 @@ impl World {
         requires open { (clone_at self.clones old).end ≡ None }
         requires unused { place_of new self.clones ≡ None }
         requires few { length self.clones < MOST_CLONES }
-        // what is kept: the model and the front
-        ensures net { IfOk result (λ w. w.net ≡ self.net) }
-        ensures front { IfOk result (λ w. w.front ≡ self.front) }
-        // what it gives: the clones with the new one
-        ensures clones { IfOk result (λ w. w.clones ≡ clones_with_fork self.clones new old) }
+        // the same world with the new clone
+        ensures value { IfOk result (λ w. w ≡ record self { clones = clones_with_fork self.clones new old }) }
     {
         let World {
             model,
@@ -128,11 +122,8 @@ impl World {
         requires there { who < length self.clones }
         requires is_station { HasStation self.net plan.station }
         requires not_late { self.front ≤ plan.at }
-        // what is kept: the model and the front
-        ensures net { IfOk result (λ w. w.net ≡ self.net) }
-        ensures front { IfOk result (λ w. w.front ≡ self.front) }
-        // what it gives: the clones, where this one has the decision
-        ensures clones { IfOk result (λ w. w.clones ≡ clones_with_plan self.clones who plan) }
+        // the same world, where this clone has the decision
+        ensures value { IfOk result (λ w. w ≡ record self { clones = clones_with_plan self.clones who plan }) }
     {
         let World {
             model,
@@ -165,11 +156,8 @@ impl World {
         requires open { (clone_at self.clones who).end ≡ None }
         requires not_late { self.front ≤ at }
         requires early { at ≤ self.net.horizon }
-        // what is kept: the model and the front
-        ensures net { IfOk result (λ w. w.net ≡ self.net) }
-        ensures front { IfOk result (λ w. w.front ≡ self.front) }
-        // what it gives: the clones, where this one has an end
-        ensures clones { IfOk result (λ w. w.clones ≡ clones_with_end self.clones who at) }
+        // the same world, where this clone has an end
+        ensures value { IfOk result (λ w. w ≡ record self { clones = clones_with_end self.clones who at }) }
     {
         let World {
             model,

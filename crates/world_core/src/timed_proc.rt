@@ -29,7 +29,7 @@ use std::sync::ledger::Ledger;
 pub struct TimedProc {
     proc: Box<Proc>,
     // nothing is pending before it
-    least: u64,
+    lower_bound: u64,
     // for what the station sends, or is sent, in a window: it is kept from window to window, so that its memory is
     // taken once, and no clause sees what it has
     buffer: Vec<(Msg, CloneSet)>,
@@ -43,7 +43,7 @@ impl std::marker::Model for TimedProc {
 
     ghost view = { λ t. t.proc.value };
 
-    ghost invariant = { λ t. IsLowerBoundOfAll t.least t.proc.value.copies };
+    ghost invariant = { λ t. IsLowerBoundOfAll t.lower_bound t.proc.value.copies };
 }
 
 impl TimedProc {
@@ -51,10 +51,10 @@ impl TimedProc {
     pub fn of(alloc: Global, proc: Proc) -> Result<TimedProc, NoMemory>
         ensures same { IfOk result (λ timed. timed ≡ proc) }
     {
-        let least = proc.earliest();
+        let lower_bound = proc.lower_bound();
         Ok(TimedProc {
             proc: Box::new(alloc, proc)?,
-            least,
+            lower_bound,
             buffer: Vec::new(alloc),
         })
     }
@@ -83,7 +83,7 @@ impl TimedProc {
     {
         // for its clause: the copies share out the living clones
         let _copies = self.proc.copies();
-        bound <= self.least
+        bound <= self.lower_bound
     }
 
     /// Steps the copies to the bound where they stand; what they send to other stations is put into `sent`, which
@@ -106,9 +106,9 @@ impl TimedProc {
         ensures station { self.new.station ≡ self.old.station }
     {
         // also where memory is refused
-        self.least = 0;
+        self.lower_bound = 0;
         let gain = self.proc.advance(alloc, model, ends, bound, sent, steps)?;
-        self.least = self.proc.earliest();
+        self.lower_bound = self.proc.lower_bound();
         Ok(gain)
     }
 
@@ -145,11 +145,11 @@ impl TimedProc {
         ensures living { self.new.living ≡ self.old.living }
         ensures handled { self.new.handled ≡ self.old.handled }
     {
-        let least = self.least.min(msg.key.time);
+        let lower_bound = self.lower_bound.min(msg.key.time);
         // also where memory is refused
-        self.least = 0;
+        self.lower_bound = 0;
         self.proc.deliver(msg, set)?;
-        self.least = least;
+        self.lower_bound = lower_bound;
         Ok(())
     }
 

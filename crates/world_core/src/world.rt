@@ -182,10 +182,8 @@ impl World {
     ) -> Result<World, WorldFault>
         requires above { self.front < bound }
         requires within { bound ≤ next_front self.net self.clones self.front }
-        // what it gives: the same clones at the bound
-        ensures net { IfOk result (λ w. w.net ≡ self.net) }
-        ensures clones { IfOk result (λ w. w.clones ≡ self.clones) }
-        ensures front { IfOk result (λ w. w.front ≡ bound) }
+        // what it gives: the same world at the bound
+        ensures value { IfOk result (λ w. w ≡ record self { front = bound }) }
         // what is counted: the messages that the stations handle, each once for all clones of a copy
         ensures steps { IfOk result (λ w. steps.new + total_handled self.net self.clones self.front
             ≡ steps.old + total_handled self.net self.clones bound) }

@@ -7,7 +7,7 @@ use Rattle.command_words.specs.Rules.{values}
 use Rattle.command_words.specs.Views.{given_view}
 use Rattle.command_words.proofs.Bridge.{clap_finds_the_values}
 use Rattle.command_words.proofs.Forms.{form_found}
-use Rattle.command_words.proofs.Parse.{simple, simple_and_free, refused_words, read_words}
+use Rattle.command_words.proofs.Parse.{is_simple-cloner_app, is_simple_and_free-cloner_app, refused_words, read_words}
 use Rattle.command_words.proofs.given.given_words.Goals as goal
 
 pub returns-in-Err : goal.returns-in-Err
@@ -16,7 +16,7 @@ returns-in-Err c =
     let words = map (λ w. w) c.args.words.now in
     let fails : HasKind (fault_of cloner_app words) c.in-Err.error =
     subst (λ (a : App). HasKind (fault_of a words) c.in-Err.error) is
-    (c.in-Err.ensures.kinds (ap is_simple_and_free is ∙ simple_and_free)) in
+    (c.in-Err.ensures.kinds (ap is_simple_and_free is ∙ is_simple_and_free-cloner_app)) in
     let same : None ≡ option_and_then up_to_three (values c.args.words.now) =
     refused_words words c.in-Err.error fails (λ k. let bad = c.if-is_memory.ensures.value.1 k in absurd cc)
     ∙ ap clap_values (map-id c.args.words.now)
@@ -29,9 +29,9 @@ returns c =
     let words = map (λ w. w) c.args.words.now in
     let none : fault_of cloner_app words ≡ [] =
     subst (λ (a : App). fault_of a words ≡ []) is
-    (c.in-Ok.ensures.kinds (ap is_simple_and_free is ∙ simple_and_free)) in
+    (c.in-Ok.ensures.kinds (ap is_simple_and_free is ∙ is_simple_and_free-cloner_app)) in
     let rows : rows_of (found_of c.in-Ok.matches) ≡ matches_of cloner_app words =
-    (c.in-Ok.ensures.matches (ap is_simple is ∙ simple)).0 ∙ ap (λ a. matches_of a words) is in
+    (c.in-Ok.ensures.matches (ap is_simple is ∙ is_simple-cloner_app)).0 ∙ ap (λ a. matches_of a words) is in
     let same : Some (given_view (record {
       mode = c.get_str.result;
       first = c.get_str-2.result;

@@ -1,4 +1,5 @@
-use Rattle.std.proofs.Common.{length, ◌≡◌, ℕ, ◌∙◌, sym, ap, subst, IfOk, All}
+use Rattle.std.proofs.Common.{length, ◌≡◌, ℕ, ◌+◌, ◌∙◌, sym, ap, subst, IfOk, All}
+use Rattle.std.specs.Prelude.{sum_by}
 use Rattle.crossbeam_deque.specs.Handles.{worker_deque, stealer_deque, worker_view}
 use Rattle.crew_pool.specs.declared.task_deque.SeatView.{SeatView}
 use Rattle.crew_pool.specs.Deque.{view_after, EachPair, IsEnd}
@@ -22,3 +23,13 @@ gather-requires-clause-each g c κs within =
     ∙ (sym c.deal.ensures.same.0 ∙ (sym c.seat_thieves.ensures.same.0 ∙ sym c.run_workers-owner.ensures.same.0)) in
     let first = subst (λ d. All (IsEnd answers n d) c.in_ok-ends.ends.items) deque read in
     subst (λ (n : ℕ). All (IsEnd answers n (worker_deque owner)) c.in_ok-ends.ends.items) count first
+
+pub returns : goal.returns
+returns g c = record {
+  have_run = record {
+    count = c.in_ok-outs.ensures.count;
+    answers = c.in_ok-outs.ensures.answers;
+    cost = c.tick_costs.ensures.value
+        ∙ ap (λ l. c.args.steps.now + sum_by g.W.Work.cost l) c.as_slice.ensures.value;
+  };
+}

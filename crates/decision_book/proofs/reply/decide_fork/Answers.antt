@@ -1,4 +1,4 @@
-use Rattle.std.proofs.Common.{arith}
+use Rattle.std.proofs.Common.{arith, rules}
 use Rattle.decision_book.proofs.Planned.{planned_at, planned_forked}
 use Rattle.decision_book.proofs.reply.decide_fork.Goals as goal
 
@@ -7,7 +7,13 @@ fork_in_reserved-requires-clause-short c =
     let one = planned_at c.args.model.now c.args.lists.now.clones c.args.clone c.requires.lists.planned.each in
     omega (arith, one.short, c.requires.lists.reserved_plans)
 
-pub returns-clause-planned : goal.returns-clause-planned
-returns-clause-planned c = rw c.fork_in_reserved.ensures.value
-    (planned_forked c.args.model.now c.args.lists.now.clones c.args.new c.args.clone c.requires.lists.planned
-    (omega (arith, c.if-len-ge-MOST_CLONES.false, c.len.ensures.value)))
+pub returns : goal.returns
+returns c = record {
+  reply = record {
+    reply_is = search rules;
+    lists_are = search rules;
+    planned = rw c.fork_in_reserved.ensures.value
+        (planned_forked c.args.model.now c.args.lists.now.clones c.args.new c.args.clone c.requires.lists.planned
+        (omega (arith, c.if-len-ge-MOST_CLONES.false, c.len.ensures.value)));
+  };
+}

@@ -17,5 +17,5 @@ returns c = record {
   abreast = abreast_after c.args.book.now c.decide.new.self c.args.world c.in-Ok.world c.args.decision.now
       c.requires.abreast (sym c.decide.ensures.reply ∙ c.in-Accepted.is)
       (ap (λ (b : BookView). b.net) c.decide.ensures.journal)
-      c.decide.ensures.next c.in-Ok.ensures.net c.in-Ok.ensures.front c.in-Ok.ensures.clones;
+      c.decide.ensures.next c.in-Ok.ensures.value;
 }

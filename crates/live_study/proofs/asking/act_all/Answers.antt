@@ -4,7 +4,7 @@ use Rattle.decision_script.specs.declared.item.Act.{Act as OfAct}
 use Rattle.sim_base.proofs.Elements.{take_next}
 use Rattle.live_study.specs.Asking.{HasAsked}
 use Rattle.live_study.specs.Showing.{HasLooked}
-use Rattle.live_study.proofs.Doing.{free_for_one, same_on}
+use Rattle.live_study.proofs.Doing.{IsSameAnalyst-trans, free_for_one}
 use Rattle.live_study.proofs.asking.act_all.Goals as goal
 
 pub loop-k-preserved : goal.loop-k-preserved
@@ -24,7 +24,7 @@ loop-k-preserved g c =
       asked = subst (λ acts. HasAsked desk acts new) (sym done) (e.asked (take k items) inv.asked);
       looked = subst (λ acts. HasLooked c.args.model.now acts (new, seat)) (sym done)
           (e.looked (take k items) inv.looked);
-      same = same_on c.args.analyst.now c.loop-k.analyst new inv.same e.same;
+      same = IsSameAnalyst-trans c.args.analyst.now c.loop-k.analyst new inv.same e.same;
     }
 
 pub act_once-requires-clause-free : goal.act_once-requires-clause-free

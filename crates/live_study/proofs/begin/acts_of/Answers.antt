@@ -2,7 +2,7 @@ use Rattle.std.proofs.Common.{◌≡◌, ◌∙◌, ◌<◌, ap, arith, take, le
 use Rattle.std.proofs.lemmas.List.{take_all}
 use Rattle.std.proofs.lemmas.Option.{get_or_from_slice_get}
 use Rattle.live_study.specs.Scripts.{acts_by}
-use Rattle.live_study.proofs.Beginning.{few_by, one_more}
+use Rattle.live_study.proofs.Beginning.{acts_by-take, few_by}
 use Rattle.live_study.proofs.begin.acts_of.Goals as goal
 
 pub loop-i-preserved : goal.loop-i-preserved
@@ -10,7 +10,7 @@ loop-i-preserved c =
     let items = c.args.script.now.items in
     let item = c.item.result in
     let less : c.loop-i.i < length items = omega (arith, c.loop-i-test.true, c.len-i-end.ensures.value) in
-    c.in_ok-push_own.ensures.value ∙ one_more c.args.a items c.loop-i.i item _ less
+    c.in_ok-push_own.ensures.value ∙ acts_by-take c.args.a items c.loop-i.i item _ less
     (get_or_from_slice_get items c.loop-i.i item item c.item.ensures.value) c.loop-i.invariant
 
 pub returns-clause-value : goal.returns-clause-value

@@ -16,7 +16,7 @@ pub returns-clause-ahead : goal.returns-clause-ahead
 returns-clause-ahead g c =
     let t = c.in_ok-turn.ensures.turn in
     goes_ahead _ c.args.world c.in_ok-turn.turn _ t.0 _ c.in_ok-world.world c.requires.may_turn.in_step t.1
-    c.as_slice-2.ensures.value c.in_ok-world.ensures.net c.in_ok-world.ensures.front c.in_ok-world.ensures.clones
+    c.as_slice-2.ensures.value c.in_ok-world.ensures.value
     (subst (λ (n : Net). IsNet n) c.model.ensures.value c.lookahead-valid.ensures.valid) c.lists-short.ensures.short
 
 pub returns-clause-raises : goal.returns-clause-raises

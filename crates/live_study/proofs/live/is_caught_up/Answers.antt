@@ -1,5 +1,5 @@
 use Rattle.std.proofs.Common.{◌∙◌, sym, arith, true≢false}
-use Rattle.shelf.proofs.Prefixes.{prefix_trans}
+use Rattle.sim_base.proofs.ListLaws.{prefix_trans}
 use Rattle.live_study.proofs.Closing.{caught_more}
 use Rattle.live_study.proofs.Doing.{racks_later}
 use Rattle.live_study.proofs.live.is_caught_up.Goals as goal

@@ -7,7 +7,7 @@ use Rattle.decision_desk.specs.Passes.{PassView}
 use Rattle.world_core.specs.Worlds.{WorldView}
 use Rattle.live_study.specs.Asking.{SeatedAnalyst}
 use Rattle.live_study.specs.Lives.{AreTrueLooks, IsAtHorizon}
-use Rattle.live_study.proofs.Counting.{all_done, asked_in, finished_if, of_desk}
+use Rattle.live_study.proofs.Counting.{AllDone-desk, AllDone-each, asked_in, finished_if}
 use Rattle.live_study.proofs.Ending.{if_finished, if_stopped}
 use Rattle.live_study.proofs.Told.{all_looked, looks_of, made_all, told_if}
 use Rattle.live_study.proofs.live.run_live.Goals as goal
@@ -22,9 +22,9 @@ close-book-requires-clause-passes g c k d less =
     c.close_looks-reserve.ensures.passes
     ∙ ap (λ l. l ++ map (λ (a : SeatedAnalyst). a.0.pass) new) c.requires.reserve.no_passes in
     let acted = c.side_by_side-helm.ensures.acted in
-    let done = all_done desk new (λ i d less. (acted.each i d (omega (arith, less, acted.len))).done) in
+    let done = AllDone-each desk new (λ i d less. (acted.each i d (omega (arith, less, acted.len))).done) in
     subst (λ l. (k : ℕ) (d : PassView) → k < length l → (slice_index_or l k d).desk ≡ desk) (sym are)
-    (of_desk desk new done) k d less
+    (AllDone-desk desk new done) k d less
 
 -- ---- asked
 

@@ -62,42 +62,29 @@ run_live-requires-clause-reserve g c κs within =
     enough_reserved c.args.model.now (length c.args.script.now.analysts) c.args.prepared c.in_ok-stocker.seated.items
     c.requires.prepared c.in_ok-stocker.ensures.passes
 
--- ---- journal, made
+-- ---- the live run
 
-pub returns-clause-journal : goal.returns-clause-journal
-returns-clause-journal g c =
-    journal_is c.args.model.now c.args.script.now c.args.prepared c.in_ok-stocker.seated.items c.run_live.result.book
-    c.requires.prepared c.in_ok-stocker.ensures.passes c.in_ok-stocker.ensures.todo c.run_live.ensures.asked
-
-pub returns-clause-made : goal.returns-clause-made
-returns-clause-made g c =
-    made_are c.args.model.now c.args.script.now c.args.prepared c.in_ok-stocker.seated.items
-    c.run_live.result.looks.items c.requires.prepared c.in_ok-stocker.ensures.numbers c.in_ok-stocker.ensures.todo
-    c.run_live.ensures.made
-
--- ---- looks, finished
-
-pub returns-clause-looks : goal.returns-clause-looks
-returns-clause-looks g c =
+pub returns : goal.returns
+returns g c =
+    let net = c.args.model.now in
+    let script = c.args.script.now in
+    let p = c.args.prepared in
+    let of = c.requires.prepared in
+    let seated = c.in_ok-stocker.seated.items in
+    let s = c.in_ok-stocker.ensures in
     let r = c.run_live.result in
-    IfOk-weaker r.run (λ w. AreTrueLooks c.args.prepared.helm.net r.book.events r.looks.items)
-    (λ w. AreLooks c.args.model.now c.args.script.now r.book.events (all_looks r.looks.items))
-    (λ w told. looks_are c.args.model.now c.args.script.now c.args.prepared c.in_ok-stocker.seated.items r.book.events
-    r.looks.items c.requires.prepared c.in_ok-stocker.ensures.numbers c.in_ok-stocker.ensures.todo
-    c.run_live.ensures.made told) c.run_live.ensures.looked
-
-pub returns-clause-finished : goal.returns-clause-finished
-returns-clause-finished g c =
-    let own = helm_net c.args.model.now (length c.args.script.now.analysts) c.args.prepared c.requires.prepared in
-    let r = c.run_live.result in
-    IfOk-weaker r.run (IsAtHorizon c.args.prepared.helm.net r.book) (IsAtHorizon c.args.model.now r.book)
-    (λ w. subst (λ (n : Net). IsAtHorizon n r.book w) own) c.run_live.ensures.finished
-
--- ---- stopped
-
-pub returns-clause-stopped : goal.returns-clause-stopped
-returns-clause-stopped g c =
-    let own = helm_net c.args.model.now (length c.args.script.now.analysts) c.args.prepared c.requires.prepared in
-    let r = c.run_live.result in
-    IfErr-weaker r.run (StopsEngine c.args.prepared.helm.net r.book.events) (StopsEngine c.args.model.now r.book.events)
-    (λ e. subst (λ (n : Net). StopsEngine n r.book.events e) own) c.run_live.ensures.stopped
+    let own = helm_net net (length script.analysts) p of in
+    record {
+      live_run = record {
+        journal = journal_is net script p seated r.book of s.passes s.todo c.run_live.ensures.asked;
+        made = made_are net script p seated r.looks.items of s.numbers s.todo c.run_live.ensures.made;
+        looks = IfOk-weaker r.run (λ w. AreTrueLooks p.helm.net r.book.events r.looks.items)
+            (λ w. AreLooks net script r.book.events (all_looks r.looks.items))
+            (λ w told. looks_are net script p seated r.book.events r.looks.items of s.numbers s.todo
+            c.run_live.ensures.made told) c.run_live.ensures.looked;
+        finished = IfOk-weaker r.run (IsAtHorizon p.helm.net r.book) (IsAtHorizon net r.book)
+            (λ w. subst (λ (n : Net). IsAtHorizon n r.book w) own) c.run_live.ensures.finished;
+        stopped = IfErr-weaker r.run (StopsEngine p.helm.net r.book.events) (StopsEngine net r.book.events)
+            (λ e. subst (λ (n : Net). StopsEngine n r.book.events e) own) c.run_live.ensures.stopped;
+      };
+    }

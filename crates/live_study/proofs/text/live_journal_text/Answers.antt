@@ -1,4 +1,5 @@
-use Rattle.std.proofs.Common.{◌≡◌, ℕ, ◌≤◌, List, ap, ap₂, sym, ◌∙◌, subst, IfOk, All, length}
+use Rattle.std.proofs.Common.{◌≡◌, ℕ, List, ap, ap₂, sym, ◌∙◌, subst, IfOk, All, length}
+use Rattle.decision_script.specs.Stating.{IsAnalyst}
 use Rattle.decision_book.specs.declared.call.Call.{Call}
 use Rattle.decision_book.specs.Books.{BookView, journal_of}
 use Rattle.decision_book.specs.Journal.{calls_of}
@@ -12,7 +13,7 @@ pub journal_text-requires-clause-callers : goal.journal_text-requires-clause-cal
 journal_text-requires-clause-callers c =
     let book = c.args.live.now.book in
     let many = length c.args.script.now.analysts in
-    subst (All (λ (k : Call). (1 ≤ k.caller) × (k.caller ≤ many)))
+    subst (All (λ (k : Call). IsAnalyst many k.caller))
     (sym (c.calls.ensures.value ∙ ap (λ (b : BookView). calls_of b.events) c.book-book.ensures.value))
     (callers_within many (calls_of book.events) c.requires.journal.1.others)
 
@@ -22,7 +23,7 @@ journal_text-requires-clause-lookers c =
     let many = length c.args.script.now.analysts in
     let looks : c.as_slice-2.result.now ≡ all =
     c.as_slice-2.ensures.value ∙ c.in_ok-looks.ensures.value ∙ ap all_looks c.as_slice.ensures.value in
-    subst (All (λ (l : Looked). (1 ≤ l.analyst) × (l.analyst ≤ many))) (sym looks)
+    subst (All (λ (l : Looked). IsAnalyst many l.analyst)) (sym looks)
     (lookers_within c.args.script.now all c.requires.made)
 
 pub returns : goal.returns

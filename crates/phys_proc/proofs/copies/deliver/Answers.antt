@@ -5,7 +5,7 @@ use Rattle.std.proofs.lemmas.Slice.Zip.{AllZip-long}
 use Rattle.clone_sets.specs.Sets.{minus, empty}
 use Rattle.phys_proc.specs.Own.{StationCopy, with_message, but_pending, IsLowerBound}
 use Rattle.phys_proc.proofs.Delivery.{map_first-suc, map_first-length, length-map_first, rest_more, given_to_all}
-use Rattle.phys_proc.proofs.CopyLeasts.{least_at, leasts_set}
+use Rattle.phys_proc.proofs.CopyBounds.{bound_at, bounds_set}
 use Rattle.phys_proc.proofs.copies.deliver.Goals as goal
 
 -- ---- the loop
@@ -17,15 +17,15 @@ index_mut-requires-in-loop-i c = omega (
   c.loop-i.auto.i-end,
   c.len-i-end.ensures,
   c.args.copies.now.ok.0,
-  c.loop-i.leasts.ok.0,
+  c.loop-i.bounds.ok.0,
   ap length c.loop-i.invariant.given,
   length-map_first (with_message c.args.msg c.args.set) c.loop-i.i c.args.copies.now.items,
-  AllZip-long IsLowerBound c.loop-i.leasts.items c.loop-i.copies.items c.loop-i.invariant.each,
+  AllZip-long IsLowerBound c.loop-i.bounds.items c.loop-i.copies.items c.loop-i.invariant.each,
 )
 
 pub give-requires : goal.give-requires
 give-requires c = record {
-  lower = least_at c.loop-i.leasts.items c.loop-i.copies.items c.loop-i.i c.index_mut-in-loop-i.result.now
+  lower = bound_at c.loop-i.bounds.items c.loop-i.copies.items c.loop-i.i c.index_mut-in-loop-i.result.now
       c.index_mut-in-loop-i.result.now c.index_mut.result.now c.loop-i.invariant.each (omega (
         arith,
         c.loop-i-test.true,
@@ -49,7 +49,7 @@ loop-i-preserved c =
           (omega (arith, c.loop-i-test.true, c.loop-i.auto.i-end, c.len-i-end.ensures, c.args.copies.now.ok.0));
       same = map-set_same but_pending c.loop-i.copies.items c.loop-i.i c.give.new.copy d
           (c.in_ok-give.ensures.same ∙ ap but_pending c.index_mut.ensures.value) ∙ c.loop-i.invariant.same;
-      each = leasts_set c.loop-i.leasts.items c.loop-i.copies.items c.loop-i.i c.give.new.least c.give.new.copy
+      each = bounds_set c.loop-i.bounds.items c.loop-i.copies.items c.loop-i.i c.give.new.lower_bound c.give.new.copy
           c.loop-i.invariant.each c.in_ok-give.ensures.lower;
       rest = c.minus-rest.ensures.value ∙ ap₂ minus c.loop-i.invariant.rest (ap (λ (u : StationCopy). u.set)
           (c.behind-copies.view_is ∙ (c.index.ensures ∙ ap (λ l. get_or l c.loop-i.i c.index.result.now) h)))
@@ -65,8 +65,8 @@ returns-in_err-give-clause-same c =
     (c.in_err-give.ensures.same ∙ ap but_pending c.index_mut.ensures.value) ∙ c.loop-i.invariant.same
 
 pub returns-in_err-give-clause-each : goal.returns-in_err-give-clause-each
-returns-in_err-give-clause-each c = leasts_set c.loop-i.leasts.items c.loop-i.copies.items c.loop-i.i
-    c.give.new.least c.give.new.copy c.loop-i.invariant.each c.in_err-give.ensures.lower
+returns-in_err-give-clause-each c = bounds_set c.loop-i.bounds.items c.loop-i.copies.items c.loop-i.i
+    c.give.new.lower_bound c.give.new.copy c.loop-i.invariant.each c.in_err-give.ensures.lower
 
 -- ---- the result
 

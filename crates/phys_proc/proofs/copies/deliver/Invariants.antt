@@ -8,6 +8,6 @@ abbrev pub invariant-loop-i : goal.invariant-loop-i
 invariant-loop-i l = record {
   given : l.copies.items ≡ map_first (with_message l.msg l.set) l.i l.fn.copies.items;
   same : map but_pending l.copies.items ≡ map but_pending l.fn.copies.items;
-  each : AllZip IsLowerBound l.leasts.items l.copies.items;
+  each : AllZip IsLowerBound l.bounds.items l.copies.items;
   rest : l.rest ≡ rest_after l.set l.fn.copies.items l.i;
 }

@@ -4,7 +4,7 @@ use Rattle.std.proofs.lemmas.Slice.Zip.{AllZip-long}
 use Rattle.clone_sets.specs.Sets.{minus, empty}
 use Rattle.phys_proc.specs.Own.{StationCopy, with_message, but_pending, IsLowerBound}
 use Rattle.phys_proc.proofs.Delivery.{given_alone, given_first}
-use Rattle.phys_proc.proofs.CopyLeasts.{least_at, leasts_set}
+use Rattle.phys_proc.proofs.CopyBounds.{bound_at, bounds_set}
 use Rattle.phys_proc.proofs.Shares.{disjoint_same}
 use Rattle.phys_proc.proofs.copies.deliver_from.Goals as goal
 
@@ -16,13 +16,13 @@ index_mut-requires-2 c = omega (
   c.if-guess-len.false,
   c.len.ensures,
   c.args.copies.now.ok.0,
-  c.args.leasts.now.ok.0,
-  AllZip-long IsLowerBound c.args.leasts.now.items c.args.copies.now.items c.requires.may_deliver.each,
+  c.args.bounds.now.ok.0,
+  AllZip-long IsLowerBound c.args.bounds.now.items c.args.copies.now.items c.requires.may_deliver.each,
 )
 
 pub give-requires : goal.give-requires
 give-requires c = record {
-  lower = least_at c.args.leasts.now.items c.args.copies.now.items c.args.guess c.index_mut-2.result.now
+  lower = bound_at c.args.bounds.now.items c.args.copies.now.items c.args.guess c.index_mut-2.result.now
       c.index_mut-2.result.now c.index_mut.result.now c.requires.may_deliver.each
       (omega (arith, c.if-guess-len.false, c.len.ensures, c.args.copies.now.ok.0)) c.index_mut-2.ensures.value
       c.index_mut.ensures.value;
@@ -34,8 +34,8 @@ returns-in_err-give-clause-same c =
     (c.in_err-give.ensures.same ∙ ap but_pending c.index_mut.ensures.value)
 
 pub returns-in_err-give-clause-each : goal.returns-in_err-give-clause-each
-returns-in_err-give-clause-each c = leasts_set c.args.leasts.now.items c.args.copies.now.items c.args.guess
-    c.give.new.least c.give.new.copy c.requires.may_deliver.each c.in_err-give.ensures.lower
+returns-in_err-give-clause-each c = bounds_set c.args.bounds.now.items c.args.copies.now.items c.args.guess
+    c.give.new.lower_bound c.give.new.copy c.requires.may_deliver.each c.in_err-give.ensures.lower
 
 -- ---- it has all clones of the set
 
@@ -56,8 +56,8 @@ returns-then-is_empty-clause-same c =
     (c.in_ok-give.ensures.same ∙ ap but_pending c.index_mut.ensures.value)
 
 pub returns-then-is_empty-clause-each : goal.returns-then-is_empty-clause-each
-returns-then-is_empty-clause-each c = leasts_set c.args.leasts.now.items c.args.copies.now.items c.args.guess
-    c.give.new.least c.give.new.copy c.requires.may_deliver.each c.in_ok-give.ensures.lower
+returns-then-is_empty-clause-each c = bounds_set c.args.bounds.now.items c.args.copies.now.items c.args.guess
+    c.give.new.lower_bound c.give.new.copy c.requires.may_deliver.each c.in_ok-give.ensures.lower
 
 -- ---- the other copies
 
@@ -67,8 +67,8 @@ deliver-requires-2 c = record {
     disjoint = disjoint_same c.args.copies.now.items (slice_set c.args.copies.now.items c.args.guess c.give.new.copy)
         (map-set_same but_pending c.args.copies.now.items c.args.guess c.give.new.copy c.index_mut.result.now
         (c.in_ok-give.ensures.same ∙ ap but_pending c.index_mut.ensures.value)) c.requires.may_deliver.disjoint;
-    each = leasts_set c.args.leasts.now.items c.args.copies.now.items c.args.guess c.give.new.least c.give.new.copy
-        c.requires.may_deliver.each c.in_ok-give.ensures.lower;
+    each = bounds_set c.args.bounds.now.items c.args.copies.now.items c.args.guess c.give.new.lower_bound
+        c.give.new.copy c.requires.may_deliver.each c.in_ok-give.ensures.lower;
   };
 }
 

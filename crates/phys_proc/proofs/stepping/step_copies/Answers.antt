@@ -26,4 +26,4 @@ returns-clause-stepped g c =
     c.args.steps.now new.steps) (sym c.in_ok-put_before.ensures.all)
     (subst (λ k. IsStepResult net c.args.station ends c.args.bound k (new.copies.items ++ new.stage.done)
     new.stage.sent.items new.stage.over c.args.steps.now new.steps) c.into_parts-standing.ensures.same
-    c.in_ok-least.ensures.stepped)
+    c.in_ok-lower_bound.ensures.stepped)

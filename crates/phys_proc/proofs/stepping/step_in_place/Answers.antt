@@ -6,7 +6,7 @@ use Rattle.phys_proc.specs.Ends.{ends_in}
 use Rattle.phys_proc.specs.Own.{StationCopy, IsCopy, IsLowerBound, IsLowerBoundOfAll, IsAdvance, may_handle}
 use Rattle.phys_proc.specs.Stops.{IsStop}
 use Rattle.phys_proc.proofs.LowerBounds.{IsLowerBoundOfAll-put, IsLowerBound-before}
-use Rattle.phys_proc.proofs.CopyLeasts.{least_at, leasts_set, leasts_without}
+use Rattle.phys_proc.proofs.CopyBounds.{bound_at, bounds_set, bounds_without}
 use Rattle.phys_proc.proofs.ComesFrom.{left_few}
 use Rattle.phys_proc.proofs.InPlace.{stepped_to-start, stepped_to-fits, stepped_to-few, stepped_to-next, stepped_to-out}
 use Rattle.phys_proc.proofs.InPlace.{stepped_to-idle, stepped_to-end, copy_at, set_there, without_take, without_shorter}
@@ -33,8 +33,8 @@ index-first-requires g c = omega (
   arith,
   c.loop-i-test.true,
   c.len.ensures,
-  c.loop-i.leasts.ok.0,
-  AllZip-long IsLowerBound c.loop-i.leasts.items c.loop-i.copies.items c.loop-i.invariant.each,
+  c.loop-i.bounds.ok.0,
+  AllZip-long IsLowerBound c.loop-i.bounds.items c.loop-i.copies.items c.loop-i.invariant.each,
 )
 
 pub index_mut-requires-in-Settled : goal.index_mut-requires-in-Settled
@@ -42,8 +42,8 @@ index_mut-requires-in-Settled g c = omega (
   arith,
   c.loop-i-test.true,
   c.len.ensures,
-  c.loop-i.leasts.ok.0,
-  AllZip-long IsLowerBound c.loop-i.leasts.items c.loop-i.copies.items c.loop-i.invariant.each,
+  c.loop-i.bounds.ok.0,
+  AllZip-long IsLowerBound c.loop-i.bounds.items c.loop-i.copies.items c.loop-i.invariant.each,
 )
 
 pub remove-requires : goal.remove-requires
@@ -51,8 +51,8 @@ remove-requires g c = omega (
   arith,
   c.loop-i-test.true,
   c.len.ensures,
-  c.loop-i.leasts.ok.0,
-  AllZip-long IsLowerBound c.loop-i.leasts.items c.loop-i.copies.items c.loop-i.invariant.each,
+  c.loop-i.bounds.ok.0,
+  AllZip-long IsLowerBound c.loop-i.bounds.items c.loop-i.copies.items c.loop-i.invariant.each,
 )
 
 -- ---- a copy with nothing due
@@ -67,17 +67,15 @@ loop-i-preserved-then-bound-first g c =
     let at = copy_at cs l.i there in
     let x = at.0 in
     let first = c.index-first.result.now in
-    let late : IsLowerBound first x = least_at l.leasts.items cs l.i first first x l.invariant.each there
+    let late : IsLowerBound first x = bound_at l.bounds.items cs l.i first first x l.invariant.each there
     c.index-first.ensures at.1 in
-    let fits = stepped_to-fits net c.requires.may_step.valid c.args.station ends c.args.bound c.args.copies.now.items cs
-    l.stage.done l.i l.stage.sent.items l.stage.over c.args.steps.now l.steps l.invariant.far there x at.1
-    c.requires.may_step.fits in
+    let fits = stepped_to-fits net c.requires.may_step.valid c.args.station ends c.args.bound l.invariant.far there x
+    at.1 c.requires.may_step.fits in
     record {
-      far = stepped_to-idle net c.requires.may_step.valid c.args.station ends c.args.bound c.args.copies.now.items cs
-          l.stage.done l.i l.stage.sent.items l.stage.over c.args.steps.now l.steps l.invariant.far there x at.1
+      far = stepped_to-idle net c.requires.may_step.valid c.args.station ends c.args.bound l.invariant.far there x at.1
           c.requires.may_step.disjoint fits (IsLowerBound-before c.args.bound first x c.if-bound-first.true late);
-      lower = subst (IsLowerBoundOfAll c.min-least.result) (sym (take_next cs l.i x there at.1))
-          (IsLowerBoundOfAll-put l.least first c.min-least.result (take l.i cs) x c.min-least.ensures
+      lower = subst (IsLowerBoundOfAll c.min-lower_bound.result) (sym (take_next cs l.i x there at.1))
+          (IsLowerBoundOfAll-put l.lower_bound first c.min-lower_bound.result (take l.i cs) x c.min-lower_bound.ensures
           l.invariant.lower late);
       each = l.invariant.each;
       within = omega (arith, there);
@@ -90,16 +88,14 @@ pub handle_together-requires : goal.handle_together-requires
 handle_together-requires g c = record {
   may_advance = record {
     fits = stepped_to-fits c.args.model.now c.requires.may_step.valid c.args.station
-        (ends_in c.args.model.now.horizon c.args.ends.now) c.args.bound c.args.copies.now.items c.loop-i.copies.items
-        c.loop-i.stage.done c.loop-i.i c.loop-i.stage.sent.items c.loop-i.stage.over c.args.steps.now c.loop-i.steps
-        c.loop-i.invariant.far (omega (arith, c.loop-i-test.true, c.len.ensures)) c.index_mut.result.now
-        c.index_mut.ensures.value c.requires.may_step.fits;
+        (ends_in c.args.model.now.horizon c.args.ends.now) c.args.bound c.loop-i.invariant.far
+        (omega (arith, c.loop-i-test.true, c.len.ensures)) c.index_mut.result.now c.index_mut.ensures.value
+        c.requires.may_step.fits;
     early = c.requires.may_step.early;
     few = stepped_to-few c.args.model.now c.requires.may_step.valid c.args.station
-        (ends_in c.args.model.now.horizon c.args.ends.now) c.args.bound c.args.copies.now.items c.loop-i.copies.items
-        c.loop-i.stage.done c.loop-i.i c.loop-i.stage.sent.items c.loop-i.stage.over c.args.steps.now c.loop-i.steps
-        c.loop-i.invariant.far (omega (arith, c.loop-i-test.true, c.len.ensures)) c.index_mut.result.now
-        c.index_mut.ensures.value c.requires.may_step.few c.loop-i.stage.handled c.loop-i.invariant.handled;
+        (ends_in c.args.model.now.horizon c.args.ends.now) c.args.bound c.loop-i.invariant.far
+        (omega (arith, c.loop-i-test.true, c.len.ensures)) c.index_mut.result.now c.index_mut.ensures.value
+        c.requires.may_step.few c.loop-i.stage.handled c.loop-i.invariant.handled;
   };
 }
 
@@ -114,19 +110,18 @@ loop-i-preserved-in-Settled g c =
     let one = c.in_ok-stop.ensures in
     let there : l.i < length cs = omega (arith, c.loop-i-test.true, c.len.ensures) in
     record {
-      far = stepped_to-next net c.requires.may_step.valid c.args.station ends c.args.bound c.args.copies.now.items cs
-          l.stage.done l.i l.stage.sent.items l.stage.over c.args.steps.now l.steps l.invariant.far there
-          c.index_mut.result.now
-          c.index_mut.ensures.value c.requires.may_step.disjoint y (slice_set cs l.i y) s.done s.sent.items s.over
-          c.handle_together.new.steps one.onward (rw c.in-Settled.is at one.stop) refl one.done one.over;
-      lower = subst (IsLowerBoundOfAll c.min-least-in-Settled.result) (sym (take_more_set cs l.i y there))
-          (IsLowerBoundOfAll-put l.least c.earliest-now.result c.min-least-in-Settled.result (take l.i cs) y
-          c.min-least-in-Settled.ensures l.invariant.lower
-          (subst (IsLowerBound c.earliest-now.result) (set_there cs l.i c.index.result.now y there c.index.ensures)
-          c.earliest-now.ensures.lower));
-      each = leasts_set l.leasts.items cs l.i c.earliest-now.result y l.invariant.each
-          (subst (IsLowerBound c.earliest-now.result) (set_there cs l.i c.index.result.now y there c.index.ensures)
-          c.earliest-now.ensures.lower);
+      far = stepped_to-next net c.requires.may_step.valid c.args.station ends c.args.bound l.invariant.far there
+          c.index_mut.result.now c.index_mut.ensures.value c.requires.may_step.disjoint y (slice_set cs l.i y)
+          s.done s.sent.items s.over c.handle_together.new.steps one.onward (rw c.in-Settled.is at one.stop) refl
+          one.done one.over;
+      lower = subst (IsLowerBoundOfAll c.min-lower_bound-in-Settled.result) (sym (take_more_set cs l.i y there))
+          (IsLowerBoundOfAll-put l.lower_bound c.lower_bound_of-now.result c.min-lower_bound-in-Settled.result
+          (take l.i cs) y c.min-lower_bound-in-Settled.ensures l.invariant.lower
+          (subst (IsLowerBound c.lower_bound_of-now.result)
+          (set_there cs l.i c.index.result.now y there c.index.ensures) c.lower_bound_of-now.ensures.lower));
+      each = bounds_set l.bounds.items cs l.i c.lower_bound_of-now.result y l.invariant.each
+          (subst (IsLowerBound c.lower_bound_of-now.result)
+          (set_there cs l.i c.index.result.now y there c.index.ensures) c.lower_bound_of-now.ensures.lower);
       within = let n = length-set cs l.i y in omega (arith, there, n);
       handled = let h = l.invariant.handled in let k = one.handled in omega (arith, h, k);
     }
@@ -145,8 +140,7 @@ bring_to_bound-requires g c =
     let one = c.in_ok-stop.ensures in
     let there : l.i < length cs = omega (arith, c.loop-i-test.true, c.len.ensures) in
     let same : z ≡ y = set_there cs l.i z y there c.remove-copy.ensures.value in
-    let few = stepped_to-few net c.requires.may_step.valid c.args.station ends c.args.bound c.args.copies.now.items cs
-    l.stage.done l.i l.stage.sent.items l.stage.over c.args.steps.now l.steps l.invariant.far there x
+    let few = stepped_to-few net c.requires.may_step.valid c.args.station ends c.args.bound l.invariant.far there x
     c.index_mut.ensures.value c.requires.may_step.few l.stage.handled l.invariant.handled in
     let left = left_few net c.args.station ends c.args.bound x y l.stage.sent.items
     c.handle_together.new.stage.sent.items l.steps c.handle_together.new.steps one.onward in
@@ -178,19 +172,16 @@ loop-i-preserved g c =
     let same : c.remove-copy.result ≡ y = set_there cs l.i c.remove-copy.result y there c.remove-copy.ensures.value in
     let after = c.remove-copy.new.self.items in
     record {
-      far = stepped_to-out net c.requires.may_step.valid c.args.station ends c.args.bound c.args.copies.now.items cs
-          l.stage.done l.i l.stage.sent.items l.stage.over c.args.steps.now l.steps l.invariant.far there
-          c.index_mut.result.now
-          c.index_mut.ensures.value c.requires.may_step.disjoint y after s.done f.done s.sent.items f.sent.items
-          s.over f.over
-          c.handle_together.new.steps c.bring_to_bound.new.steps one.onward
+      far = stepped_to-out net c.requires.may_step.valid c.args.station ends c.args.bound l.invariant.far there
+          c.index_mut.result.now c.index_mut.ensures.value c.requires.may_step.disjoint y after s.done f.done
+          s.sent.items f.sent.items s.over f.over c.handle_together.new.steps c.bring_to_bound.new.steps one.onward
           (subst (λ (u : StationCopy). IsAdvance net c.args.station ends c.args.bound u s.done f.done s.sent.items
           f.sent.items s.over f.over c.handle_together.new.steps c.bring_to_bound.new.steps) same come.comes)
           c.remove-copy.ensures.items one.done one.over;
-      lower = subst (IsLowerBoundOfAll l.least) (sym (without_take cs after l.i y there c.remove-copy.ensures.items))
-          l.invariant.lower;
+      lower = subst (IsLowerBoundOfAll l.lower_bound)
+          (sym (without_take cs after l.i y there c.remove-copy.ensures.items)) l.invariant.lower;
       each = rw (c.remove.ensures.items, c.remove-copy.ensures.items)
-          (leasts_without l.leasts.items cs l.i y l.invariant.each);
+          (bounds_without l.bounds.items cs l.i y l.invariant.each);
       within = let n = without_shorter cs after l.i y there c.remove-copy.ensures.items in omega (arith, there, n);
       handled =
           let h = l.invariant.handled in
@@ -203,9 +194,8 @@ loop-i-preserved g c =
 
 pub returns-clause-stepped : goal.returns-clause-stepped
 returns-clause-stepped g c = stepped_to-end c.args.model.now c.requires.may_step.valid c.args.station
-    (ends_in c.args.model.now.horizon c.args.ends.now) c.args.bound c.args.copies.now.items c.loop-i.copies.items
-    c.loop-i.stage.done c.loop-i.i c.loop-i.stage.sent.items c.loop-i.stage.over c.args.steps.now c.loop-i.steps
-    c.loop-i.invariant.far (omega (arith, c.loop-i-test.false, c.len.ensures))
+    (ends_in c.args.model.now.horizon c.args.ends.now) c.args.bound c.loop-i.invariant.far
+    (omega (arith, c.loop-i-test.false, c.len.ensures))
 
 pub returns-clause-each : goal.returns-clause-each
 returns-clause-each g c = c.loop-i.invariant.each

@@ -9,8 +9,8 @@ abbrev pub invariant-loop-i : goal.invariant-loop-i
 invariant-loop-i g l = record {
   far : IsSteppedTo l.model l.station (ends_in l.model.horizon l.ends) l.bound l.fn.copies.items l.i l.copies.items
       l.stage.done l.stage.sent.items l.stage.over l.fn.steps l.steps;
-  lower : IsLowerBoundOfAll l.least (take l.i l.copies.items);
-  each : AllZip IsLowerBound l.leasts.items l.copies.items;
+  lower : IsLowerBoundOfAll l.lower_bound (take l.i l.copies.items);
+  each : AllZip IsLowerBound l.bounds.items l.copies.items;
   within : l.i ≤ length l.copies.items;
   handled : l.stage.handled + l.fn.steps ≡ l.steps;
 }

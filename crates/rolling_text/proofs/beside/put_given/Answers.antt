@@ -28,8 +28,16 @@ put_next-requires-clause-may g c =
       fits = left_fits c.args.span.keeps _ _ _ _ _ _ h.put c.requires.may.fits;
     }
 
-pub returns-in-Err-clause-err : goal.returns-in-Err-clause-err
-returns-in-Err-clause-err g c = put_cut c.args.span.keeps _ _ _ _ _ _ _ c.loop.invariant.put c.in-Err.ensures.err
+pub returns-in-Err : goal.returns-in-Err
+returns-in-Err g c =
+    let cut = c.in-Err.ensures.put in
+    record {
+      put = record {
+        ok = tt;
+        err = put_cut c.args.span.keeps _ _ _ _ _ _ _ c.loop.invariant.put cut.err;
+        can = cut.can;
+      };
+    }
 
 pub loop-preserved : goal.loop-preserved
 loop-preserved g c =
@@ -45,8 +53,8 @@ loop-preserved g c =
     record {
       order = omega (arith, order, until);
       given = rw c.made-until.ensures.value given;
-      put = put_on c.args.span.keeps _ _ _ _ _ _ _ _ _ c.loop.invariant.put c.in-Ok.ensures.ok;
-      can = c.in-Ok.ensures.can;
+      put = put_on c.args.span.keeps _ _ _ _ _ _ _ _ _ c.loop.invariant.put c.in-Ok.ensures.put.ok;
+      can = c.in-Ok.ensures.put.can;
     }
 
 -- ---- what is left
@@ -61,12 +69,14 @@ put_span-requires g c = record {
   };
 }
 
-pub returns-clause-ok : goal.returns-clause-ok
-returns-clause-ok g c =
-    on_ok_weaker c.put_span.result (λ put. put_on c.args.span.keeps _ _ _ _ _ _ _ _ _ c.loop.invariant.put put)
-    c.put_span.ensures.ok
-
-pub returns-clause-err : goal.returns-clause-err
-returns-clause-err g c =
-    on_err_weaker c.put_span.result (λ cut. put_cut c.args.span.keeps _ _ _ _ _ _ _ c.loop.invariant.put cut)
-    c.put_span.ensures.err
+pub returns : goal.returns
+returns g c =
+    let before = c.loop.invariant.put in
+    let left = c.put_span.ensures.put in
+    record {
+      put = record {
+        ok = on_ok_weaker c.put_span.result (λ put. put_on c.args.span.keeps _ _ _ _ _ _ _ _ _ before put) left.ok;
+        err = on_err_weaker c.put_span.result (λ cut. put_cut c.args.span.keeps _ _ _ _ _ _ _ before cut) left.err;
+        can = left.can;
+      };
+    }

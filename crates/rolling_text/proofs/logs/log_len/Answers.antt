@@ -4,7 +4,7 @@ use Rattle.sim_base.specs.declared.entry.Line.{Line}
 use Rattle.sim_base.specs.declared.message.Msg.{Msg}
 use Rattle.log_chain.specs.Times.{RiseByTime, from_time}
 use Rattle.trace_report.specs.TraceText.{entry_line}
-use Rattle.rolling_text.proofs.LogLaws.{from_short, later_of_rest, rise_from, all_late}
+use Rattle.rolling_text.proofs.LogLaws.{length-from_time, later_of_rest, rise_from, all_late}
 use Rattle.rolling_text.proofs.logs.log_len.Goals as goal
 
 pub loop-entry-init : goal.loop-entry-init
@@ -12,7 +12,7 @@ loop-entry-init c =
     let walk = c.walk_from_time-walk.ensures.value in
     let f : Entry Msg Line → ℕ = λ e. length (entry_line c.args.model.now e) in
     let same = ap length walk in
-    let short = from_short c.args.from c.args.log.now in
+    let short = length-from_time c.args.from c.args.log.now in
     let all = ap (sum_by f) walk in
     record {
       sum = omega (arith, all);

@@ -1,6 +1,6 @@
 use Rattle.std.proofs.Common.{◌≡◌, [], drop}
+use Rattle.sim_base.specs.Decisions.{same_plan}
 use Rattle.run_laws.specs.SharedTexts.{parting_time}
-use Rattle.rolling_text.specs.Sharing.{same_plan}
 use Rattle.rolling_text.proofs.parting.least_of.Given as goal
 
 abbrev pub invariant-loop-plan : goal.invariant-loop-plan

@@ -1,7 +1,7 @@
 use Rattle.std.proofs.Common.{[], ◌<◌, ◌≡◌, ◌+◌, ap, ◌∙◌, arith, length, min, drop}
 use Rattle.std.proofs.lemmas.List.{take_rest}
+use Rattle.sim_base.specs.Decisions.{same_plan}
 use Rattle.run_laws.specs.SharedTexts.{parting_time}
-use Rattle.rolling_text.specs.Sharing.{same_plan}
 use Rattle.rolling_text.proofs.Partings.{equal_next, other_next, lists_end}
 use Rattle.rolling_text.proofs.parting.parting_time.Goals.{then-not-same_plan, else-not-same_plan}
 use Rattle.rolling_text.proofs.parting.parting_time.Goals as goal

@@ -1,6 +1,6 @@
 use Rattle.std.proofs.Common.{arith, ap}
 use Rattle.net_model.specs.Net.{Net}
-use Rattle.rolling_text.proofs.Puts.{both_taken, put_cut}
+use Rattle.rolling_text.proofs.Puts.{both_longer, both_reserved, both_taken, both_text, put_cut}
 use Rattle.rolling_text.proofs.Spans.{no_rest}
 use Rattle.rolling_text.proofs.putting.put_rest.Goals as goal
 
@@ -10,7 +10,20 @@ returns-in-Ok-put_lines-clause-ok g c =
     both_taken _ _ _ _ _ _ _ _ _
     (no_rest c.traces.inside.world.now c.traces.invariant.over c.args.traces.now c.traces.view_is c.args.c
     c.requires.there c.max-end.result (omega (arith, n, c.max-end.ensures, c.horizon.ensures.value)))
-    c.in-Ok.ensures.ok c.in-Ok-put_lines.ensures.ok
+    c.in-Ok.ensures.put.ok c.in-Ok-put_lines.ensures.put.ok
+
+pub returns-in-Ok-put_lines-clause-page : goal.returns-in-Ok-put_lines-clause-page
+returns-in-Ok-put_lines-clause-page g c =
+    both_text _ _ _ _ _ _ _ _ _ c.in-Ok.ensures.put.ok c.in-Ok-put_lines.ensures.put.ok
+
+pub returns-in-Ok-put_lines-clause-longer : goal.returns-in-Ok-put_lines-clause-longer
+returns-in-Ok-put_lines-clause-longer g c =
+    both_longer _ _ _ _ _ _ _ _ _ c.in-Ok.ensures.put.ok c.in-Ok-put_lines.ensures.put.ok
+
+pub returns-in-Ok-put_lines-clause-reserved : goal.returns-in-Ok-put_lines-clause-reserved
+returns-in-Ok-put_lines-clause-reserved g c =
+    both_reserved _ _ _ _ _ _ _ _ _ c.in-Ok.ensures.put.ok c.in-Ok-put_lines.ensures.put.ok
 
 pub returns-in-Err-put_lines-clause-err : goal.returns-in-Err-put_lines-clause-err
-returns-in-Err-put_lines-clause-err g c = put_cut _ _ _ _ _ _ _ _ c.in-Ok.ensures.ok c.in-Err-put_lines.ensures.err
+returns-in-Err-put_lines-clause-err g c =
+    put_cut _ _ _ _ _ _ _ _ c.in-Ok.ensures.put.ok c.in-Err-put_lines.ensures.put.err

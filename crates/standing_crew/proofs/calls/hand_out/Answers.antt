@@ -14,22 +14,22 @@ use Rattle.std.proofs.Common.{
   append_assoc,
   length-append,
 }
-use Rattle.crew_pool.specs.Tasks.{EachReady}
-use Rattle.standing_crew.specs.Parts.{PartView, EachReadyFrom, AreOutFrom, items_out}
-use Rattle.standing_crew.proofs.Runs.{EachReadyFrom-run}
+use Rattle.crew_pool.specs.Tasks.{MayRunAll}
+use Rattle.standing_crew.specs.Parts.{PartView, MayRunFrom, AreOutFrom, items_out}
+use Rattle.standing_crew.proofs.Runs.{MayRunFrom-run}
 use Rattle.standing_crew.proofs.Outs.{items_out-push, AreOutFrom-push}
 use Rattle.standing_crew.proofs.calls.hand_out.Goals as goal
 
-pub give-requires-clause-ready : goal.give-requires-clause-ready
-give-requires-clause-ready g c κs within =
+pub give-requires-clause-may_run : goal.give-requires-clause-may_run
+give-requires-clause-may_run g c κs within =
     let ready = g.W.Work.ready c.args.work.now.value in
     let before = items_out c.loop-caller.busy.items in
     let run = c.in_ok-run.run'.items in
     let rest = c.in_ok-run.rest.items in
     let whole : before ++ (run ++ rest) ≡ c.args.items.items =
     ap (λ l. before ++ l) c.in_ok-run.ensures.parts ∙ c.loop-caller.invariant.2 in
-    subst (λ n. EachReadyFrom ready n run) (sym c.loop-caller.invariant.3)
-    (EachReadyFrom-run ready before run rest (subst (λ l. EachReady ready l) (sym whole) c.requires.ready))
+    subst (λ n. MayRunFrom ready n run) (sym c.loop-caller.invariant.3)
+    (MayRunFrom-run ready before run rest (subst (λ l. MayRunAll ready l) (sym whole) c.requires.may_run))
 
 pub loop-caller-preserved : goal.loop-caller-preserved
 loop-caller-preserved g c =

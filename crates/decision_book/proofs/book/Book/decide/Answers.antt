@@ -12,12 +12,12 @@ invariant_of-self c =
     rw c.in-Ok.ensures.ok (IsBook-call b.model.value b.lists _ b.calls b.fronts b.front _ c.self.invariant
     (record {
       stamp = c.len.ensures.value;
-      answer = rw (← c.len-calls.ensures.value, ← c.deref.ensures) c.decide_by_table-reply.ensures.reply;
+      answer = rw (← c.len-calls.ensures.value, ← c.deref.ensures) c.decide_by_table-reply.ensures.reply.reply_is;
       not_full =
           sym c.if-not-is_full.ensures.value;
     })
-    (rw (← c.deref.ensures) c.decide_by_table-reply.ensures.lists)
-    (rw (← c.deref.ensures) c.decide_by_table-reply.ensures.planned))
+    (rw (← c.deref.ensures) c.decide_by_table-reply.ensures.reply.lists_are)
+    (rw (← c.deref.ensures) c.decide_by_table-reply.ensures.reply.planned))
 
 pub returns-in-Ok-clause-journal : goal.returns-in-Ok-clause-journal
 returns-in-Ok-clause-journal c =
@@ -26,7 +26,7 @@ returns-in-Ok-clause-journal c =
     (journal_of-call b.model.value b.lists b.calls b.fronts b.front _ c.self.invariant
     (record {
       stamp = c.len.ensures.value;
-      answer = rw (← c.len-calls.ensures.value, ← c.deref.ensures) c.decide_by_table-reply.ensures.reply;
+      answer = rw (← c.len-calls.ensures.value, ← c.deref.ensures) c.decide_by_table-reply.ensures.reply.reply_is;
       not_full =
           sym c.if-not-is_full.ensures.value;
     })))
@@ -38,7 +38,7 @@ returns-in-Ok-clause-next c =
     (ap (after b.model.value) (journal_of-call b.model.value b.lists b.calls b.fronts b.front _ c.self.invariant
     (record {
       stamp = c.len.ensures.value;
-      answer = rw (← c.len-calls.ensures.value, ← c.deref.ensures) c.decide_by_table-reply.ensures.reply;
+      answer = rw (← c.len-calls.ensures.value, ← c.deref.ensures) c.decide_by_table-reply.ensures.reply.reply_is;
       not_full =
           sym c.if-not-is_full.ensures.value;
     }))
@@ -50,7 +50,7 @@ returns-in-Ok-clause-full c =
     full_where_full c.args.self.now.net c.args.self.now.events c.args.d c.decide_by_table-reply.result
     (reply-of_parts b.model.value b.lists b.calls b.fronts b.front c.args.d c.decide_by_table-reply.result
     c.args.self.now c.self.invariant c.self.view_is
-    (rw (← c.len-calls.ensures.value, ← c.deref.ensures) c.decide_by_table-reply.ensures.reply))
+    (rw (← c.len-calls.ensures.value, ← c.deref.ensures) c.decide_by_table-reply.ensures.reply.reply_is))
 
 pub returns-else-not-is_full-clause-full : goal.returns-else-not-is_full-clause-full
 returns-else-not-is_full-clause-full c =
@@ -58,7 +58,7 @@ returns-else-not-is_full-clause-full c =
     full_where_full c.args.self.now.net c.args.self.now.events c.args.d c.decide_by_table-reply.result
     (reply-of_parts b.model.value b.lists b.calls b.fronts b.front c.args.d c.decide_by_table-reply.result
     c.args.self.now c.self.invariant c.self.view_is
-    (rw (← c.len-calls.ensures.value, ← c.deref.ensures) c.decide_by_table-reply.ensures.reply))
+    (rw (← c.len-calls.ensures.value, ← c.deref.ensures) c.decide_by_table-reply.ensures.reply.reply_is))
 
 pub returns-in-Ok-clause-entry : goal.returns-in-Ok-clause-entry
 returns-in-Ok-clause-entry c not =
@@ -67,5 +67,5 @@ returns-in-Ok-clause-entry c not =
     c.decide_by_table-reply.result
     (reply-of_parts b.model.value b.lists b.calls b.fronts b.front c.args.d c.decide_by_table-reply.result
     c.args.self.now c.self.invariant c.self.view_is
-    (rw (← c.len-calls.ensures.value, ← c.deref.ensures) c.decide_by_table-reply.ensures.reply))
+    (rw (← c.len-calls.ensures.value, ← c.deref.ensures) c.decide_by_table-reply.ensures.reply.reply_is))
     (returns-in-Ok-clause-journal c) not)

@@ -18,8 +18,8 @@ invariant_of-self c = (IsLowerBoundOfAll-zero c.deliver_from.new.copies.items, c
 
 pub invariant_of-self-2 : goal.invariant_of-self-2
 invariant_of-self-2 c = (
-  subst (IsLowerBoundOfAll c.min-least.result) (sym c.in_ok-place.ensures.given)
-      (IsLowerBoundOfAll-given c.self.inside.least c.min-least.result c.args.msg c.args.set c.self.inside.copies.items
-      c.min-least.ensures c.self.invariant.0),
+  subst (IsLowerBoundOfAll c.min-lower_bound.result) (sym c.in_ok-place.ensures.given)
+      (IsLowerBoundOfAll-given c.self.inside.lower_bound c.min-lower_bound.result c.args.msg c.args.set
+      c.self.inside.copies.items c.min-lower_bound.ensures c.self.invariant.0),
   c.in_ok-place.ensures.each,
 )

@@ -5,7 +5,7 @@ use Rattle.sim_base.proofs.Elements.{take_next}
 use Rattle.phys_proc.specs.Own.{IsLowerBound}
 use Rattle.phys_proc.specs.Ends.{ends_in}
 use Rattle.phys_proc.specs.Procs.{IsLeast}
-use Rattle.phys_proc.proofs.CopyLeasts.{least_at}
+use Rattle.phys_proc.proofs.CopyBounds.{bound_at}
 use Rattle.phys_proc.proofs.LeastTimes.{least_with}
 use Rattle.phys_proc.proofs.proc.Proc.least.Goals as goal
 
@@ -19,10 +19,10 @@ returns c =
           (take_all c.loop-i.i xs (omega (arith, e, l))) c.loop-i.invariant;
     }
 
-pub bounds-leasts-i : goal.bounds-leasts-i
-bounds-leasts-i c =
+pub bounds-bounds-i : goal.bounds-bounds-i
+bounds-bounds-i c =
     let e = ap length c.copies-copies.ensures.value in
-    let n = AllZip-long IsLowerBound c.leasts-leasts.result.now c.args.self.now.copies c.leasts-leasts.ensures.each in
+    let n = AllZip-long IsLowerBound c.bounds-bounds.result.now c.args.self.now.copies c.bounds-bounds.ensures.each in
     omega (arith, e, n, c.loop-i-test.true)
 
 pub with_copy-least-requires-clause-lower : goal.with_copy-least-requires-clause-lower
@@ -31,8 +31,8 @@ with_copy-least-requires-clause-lower c =
     let x = c.index-copies-i.result in
     let same = c.copies-copies.ensures.value in
     let e = ap length same in
-    least_at c.leasts-leasts.result.now xs c.loop-i.i 0 (get_or c.leasts-leasts.result.now c.loop-i.i 0) x
-    c.leasts-leasts.ensures.each (omega (arith, e, c.loop-i-test.true)) refl
+    bound_at c.bounds-bounds.result.now xs c.loop-i.i 0 (get_or c.bounds-bounds.result.now c.loop-i.i 0) x
+    c.bounds-bounds.ensures.each (omega (arith, e, c.loop-i-test.true)) refl
     (c.index-copies-i.is ∙ ap (λ k. get_or k c.loop-i.i x) same)
 
 pub loop-i-preserved : goal.loop-i-preserved

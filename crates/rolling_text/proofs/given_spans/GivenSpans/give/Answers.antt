@@ -1,7 +1,7 @@
 use Rattle.std.proofs.Common.{◌≡◌, Some, IfSome, arith, subst, sym}
 use Rattle.sim_base.specs.Clones.{clone_at}
 use Rattle.rolling_text.specs.GivenSpans.{SpansAreJoined}
-use Rattle.rolling_text.proofs.InOrder.{one_more}
+use Rattle.rolling_text.proofs.InOrder.{SpansAreJoined-push}
 use Rattle.rolling_text.proofs.given_spans.GivenSpans.give.Goals as goal
 
 pub invariant_of-self-2 : goal.invariant_of-self-2
@@ -15,7 +15,7 @@ invariant_of-self-2 c =
     record {
       there = h.there;
       in_order = subst (λ bs. SpansAreJoined net list t.made bs c.min-until.result) (sym c.in_ok-add.ensures.ok)
-          (one_more net list t.made t.spans.items t.given _ h.in_order given
+          (SpansAreJoined-push net list t.made t.spans.items t.given _ h.in_order given
           (omega (arith, c.max.ensures, c.min-until.ensures, h.within)));
       within = omega (arith, c.min-until.ensures);
     }

@@ -1,9 +1,8 @@
-use Rattle.std.proofs.Common.{◌∷◌, subst, sym, ap, ◌∙◌, true, false, arith}
+use Rattle.std.proofs.Common.{◌∷◌, ap, ◌∙◌, true, false, arith}
 use Rattle.sim_base.specs.Blocks.{of_blocks}
-use Rattle.sim_base.specs.Marked.{SortedMarked}
 use Rattle.sim_base.specs.Order.{msg_cmp}
-use Rattle.sim_base.proofs.Blocks.{of_blocks-halves, AreSized-halves}
-use Rattle.sim_base.proofs.Halving.{length_later, first_free, second_free, full_at}
+use Rattle.sim_base.proofs.Blocks.{of_blocks-halves}
+use Rattle.sim_base.proofs.Halving.{length_later, first_free, second_free, full_at, AreBlocks-halves}
 use Rattle.sim_base.proofs.Halving.{starts_there, place_first, place_second}
 use Rattle.sim_base.proofs.pending.blocks.halve_if_full.Goals as goal
 
@@ -28,15 +27,10 @@ returns-then-starts_after-clause-same g c = ap of_blocks c.in_ok-halve.ensures.o
 
 pub returns-then-starts_after-clause-blocks : goal.returns-then-starts_after-clause-blocks
 returns-then-starts_after-clause-blocks g c =
-    let same = ap of_blocks c.in_ok-halve.ensures.ok
-    ∙ of_blocks-halves c.args.at (c.args.first.now ∷ c.args.later.now.items) in
     let full = full_at c.args.at c.args.first.now c.args.later.now.items c.len_at.result c.requires.blocks.sized
     c.len_at.ensures.value c.if-len_at-lt-MOST_IN_BLOCK.false in
-    record {
-      sorted = subst (SortedMarked msg_cmp) (sym same) c.requires.blocks.sorted;
-      sized = AreSized-halves c.args.at c.args.first.now c.args.later.now.items _ _ c.requires.blocks.sized full
-          c.in_ok-halve.ensures.ok;
-    }
+    AreBlocks-halves msg_cmp c.args.at c.args.first.now c.halve.new.first c.args.later.now.items c.halve.new.later.items
+    c.in_ok-halve.ensures.ok full c.requires.blocks
 
 pub returns-then-starts_after-clause-place : goal.returns-then-starts_after-clause-place
 returns-then-starts_after-clause-place g c =
@@ -62,15 +56,10 @@ returns-else-starts_after-clause-same g c = ap of_blocks c.in_ok-halve.ensures.o
 
 pub returns-else-starts_after-clause-blocks : goal.returns-else-starts_after-clause-blocks
 returns-else-starts_after-clause-blocks g c =
-    let same = ap of_blocks c.in_ok-halve.ensures.ok
-    ∙ of_blocks-halves c.args.at (c.args.first.now ∷ c.args.later.now.items) in
     let full = full_at c.args.at c.args.first.now c.args.later.now.items c.len_at.result c.requires.blocks.sized
     c.len_at.ensures.value c.if-len_at-lt-MOST_IN_BLOCK.false in
-    record {
-      sorted = subst (SortedMarked msg_cmp) (sym same) c.requires.blocks.sorted;
-      sized = AreSized-halves c.args.at c.args.first.now c.args.later.now.items _ _ c.requires.blocks.sized full
-          c.in_ok-halve.ensures.ok;
-    }
+    AreBlocks-halves msg_cmp c.args.at c.args.first.now c.halve.new.first c.args.later.now.items c.halve.new.later.items
+    c.in_ok-halve.ensures.ok full c.requires.blocks
 
 pub returns-else-starts_after-clause-place : goal.returns-else-starts_after-clause-place
 returns-else-starts_after-clause-place g c =

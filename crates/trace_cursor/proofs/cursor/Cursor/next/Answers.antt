@@ -1,8 +1,8 @@
-use Rattle.std.proofs.Common.{◌≤◌, ◌<◌, ◌%◌, length, sym, ap, ◌∙◌, arith}
+use Rattle.std.proofs.Common.{◌≤◌, ◌<◌, ◌%◌, length, refl, sym, ap, ◌∙◌, arith}
 use Rattle.sim_base.specs.declared.message.TheConstants.{WORD_PLACES}
 use Rattle.trace_cursor.specs.Cursors.{CursorView}
 use Rattle.trace_cursor.proofs.Popping.{merge_all-past}
-use Rattle.trace_cursor.proofs.Stepping.{cursor-next, left-some, left-none}
+use Rattle.trace_cursor.proofs.Stepping.{cursor-next, view-some, view-none}
 use Rattle.trace_cursor.proofs.cursor.Cursor.next.Goals as goal
 
 pub returns-then-i-len-clause-none : goal.returns-then-i-len-clause-none
@@ -13,7 +13,7 @@ returns-then-i-len-clause-none c =
     let nothing = sym (ap (λ (v : CursorView). v.left) c.self.view_is)
     ∙ merge_all-past c.least-place.result c.self.inside.tree walks.items _ _ c.self.invariant
     c.least-place.ensures.value past in
-    (nothing, nothing)
+    (nothing, refl)
 
 pub invariant_of-self : goal.invariant_of-self
 invariant_of-self c =
@@ -30,7 +30,7 @@ returns-clause-some c =
     let walks = c.self.inside.walks in
     let there : c.least-place.result % WORD_PLACES < length walks.items =
     omega (arith, c.if-i-len.false, c.len.ensures, walks.ok.0) in
-    left-some walks.items c.self.inside.tree _ _ c.self.invariant c.least-place.result c.least-place.ensures.value there
+    view-some walks.items c.self.inside.tree _ _ c.self.invariant c.least-place.result c.least-place.ensures.value there
     c.index_mut.result.now c.next-entry.new.self c.index_mut.ensures.value
     c.next-entry.result c.next-entry.ensures.some c.next-entry.ensures.none
     c.args.self.now c.self.view_is
@@ -40,7 +40,7 @@ returns-clause-none c =
     let walks = c.self.inside.walks in
     let there : c.least-place.result % WORD_PLACES < length walks.items =
     omega (arith, c.if-i-len.false, c.len.ensures, walks.ok.0) in
-    left-none walks.items c.self.inside.tree _ _ c.self.invariant c.least-place.result c.least-place.ensures.value there
+    view-none walks.items c.self.inside.tree _ _ c.self.invariant c.least-place.result c.least-place.ensures.value there
     c.index_mut.result.now c.next-entry.new.self c.index_mut.ensures.value
     c.next-entry.result c.next-entry.ensures.some c.next-entry.ensures.none
     c.args.self.now c.self.view_is

@@ -1,6 +1,6 @@
 use Rattle.std.proofs.Common.{Some, arith}
 use Rattle.log_chain.specs.Stored.{entry_in}
-use Rattle.trace_cursor.proofs.Stepping.{cursor-next, left-some, next-there, next-some, next-fits}
+use Rattle.trace_cursor.proofs.Stepping.{cursor-next, view-some, next-there, next-some, next-fits}
 use Rattle.trace_cursor.proofs.cursor.Cursor.take.Goals as goal
 
 -- ---- what the calls ask for
@@ -55,12 +55,13 @@ invariant_of-self c =
     (Some (entry_in c.take-entry.result)) c.take-entry.ensures.value tt
     c.set.new.self c.word.result c.index.result.now c.index.ensures c.word.ensures.value c.set.ensures.value
 
-pub returns-clause-value : goal.returns-clause-value
-returns-clause-value c =
+pub returns : goal.returns
+returns c =
     let walks = c.self.inside.walks in
     let there = next-there walks.items c.self.inside.tree _ _ c.self.invariant c.least-place.result
     c.least-place.ensures.value c.args.self.now c.self.view_is c.requires.some in
-    left-some walks.items c.self.inside.tree _ _ c.self.invariant c.least-place.result c.least-place.ensures.value there
-    c.index_mut.result.now c.take-entry.new.self c.index_mut.ensures.value
-    (Some (entry_in c.take-entry.result)) c.take-entry.ensures.value tt
-    c.args.self.now c.self.view_is
+    record {
+      value = view-some walks.items c.self.inside.tree _ _ c.self.invariant c.least-place.result
+          c.least-place.ensures.value there c.index_mut.result.now c.take-entry.new.self c.index_mut.ensures.value
+          (Some (entry_in c.take-entry.result)) c.take-entry.ensures.value tt c.args.self.now c.self.view_is;
+    }

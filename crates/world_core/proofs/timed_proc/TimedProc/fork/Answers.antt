@@ -6,10 +6,10 @@ use Rattle.world_core.specs.Forking.{HasForked}
 use Rattle.world_core.proofs.timed_proc.TimedProc.fork.Goals as goal
 
 pub invariant_of-self : goal.invariant_of-self
-invariant_of-self c = subst (λ (p : ProcView). IsLowerBoundOfAll c.self.inside.least p.copies)
+invariant_of-self c = subst (λ (p : ProcView). IsLowerBoundOfAll c.self.inside.lower_bound p.copies)
     (sym c.fork.ensures.forked)
-    (IsLowerBoundOfAll-forked c.args.old c.args.new c.self.inside.least c.deref_mut.result.now.copies
-    (subst (λ (p : ProcView). IsLowerBoundOfAll c.self.inside.least p.copies) (sym c.deref_mut.ensures.value)
+    (IsLowerBoundOfAll-forked c.args.old c.args.new c.self.inside.lower_bound c.deref_mut.result.now.copies
+    (subst (λ (p : ProcView). IsLowerBoundOfAll c.self.inside.lower_bound p.copies) (sym c.deref_mut.ensures.value)
     c.self.invariant))
 
 pub returns : goal.returns

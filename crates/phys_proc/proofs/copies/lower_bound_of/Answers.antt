@@ -2,7 +2,7 @@ use Rattle.std.proofs.Common.{◌∙◌, ap}
 use Rattle.sim_base.specs.Pending.{first_time}
 use Rattle.phys_proc.specs.Own.{StationCopy}
 use Rattle.phys_proc.proofs.LowerBounds.{from_time, from_none}
-use Rattle.phys_proc.proofs.copies.earliest.Goals as goal
+use Rattle.phys_proc.proofs.copies.lower_bound_of.Goals as goal
 
 pub returns-in-Some : goal.returns-in-Some
 returns-in-Some c = record {

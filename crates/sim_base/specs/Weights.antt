@@ -1,0 +1,8 @@
+-- What the weight of a link may be.
+use Rattle.std.specs.Prelude.{ℕ, ◌≤◌}
+use Rattle.sim_base.specs.declared.limits.TheConstants.{MOST_WEIGHT}
+
+-- a weight is from 1 to the most
+pub record IsWeight (weight : ℕ) : Type 0 where
+  pub heavy : 1 ≤ weight
+  pub light : weight ≤ MOST_WEIGHT
