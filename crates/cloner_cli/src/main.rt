@@ -9,26 +9,32 @@
 //! output  standard output                              errors   standard error
 //! ```
 //!
-//! Where the arguments are no text, `cloner` is given none, and answers that the command line has no known form. The
-//! only thing that `main` says by itself is the line of status 1, where memory is refused while it makes the words.
+//! Where the arguments are no text, `cloner` is given none, and answers that the command line has no known form. Where
+//! memory is refused while the words are made, `run_or_complain` tells the line of status 1. Its exit code has the
+//! status that `cloner` answers, over inputs and sinks of every kind; `main` makes the words and the real ones, and
+//! returns what it gives.
 //!
 //! It costs what `cloner` costs; the counter of steps is one that nobody reads. The streams' own bytes are known to no
 //! clause, so what is proved of the texts is proved of `cloner` over every sink whose bytes are known.
 #![tactic(auto)]
 
-ghost use Rattle.std.specs.Prelude.{◌≡◌, ◌⊎◌, ◌<◌, None, IfOk, OnErr};
-ghost use Rattle.cloner_top.specs.Answers.{assignment_of};
+ghost use Rattle.std.specs.Prelude.{◌≡◌, ◌⊎◌, ◌<◌, ◌∷◌, [], ℕ, None, IfOk, OnErr};
+ghost use Rattle.std.specs.Process.{exit_status};
+ghost use Rattle.cloner_top.specs.Answers.{IsAnswer, IsRefused, assignment_of, outside_of};
+ghost use Rattle.cloner_top.specs.Facts.{Completes};
+ghost use Rattle.cloner_top.specs.Outsides.{ArePutOrCut};
+ghost use Rattle.cloner_top.specs.Refusals.{error_line};
 
 use cloner_top::{Refusal, cloner};
 use crew_pool::NoGate;
 use sim_base::{NoMemory, Steps};
-use sim_outer::{ErrSink, FileInputs, OutSink, Sink, Word};
+use sim_outer::{ErrSink, FileInputs, Inputs, OutSink, Sink, Word};
 use std::alloc::Global;
 use std::env;
 use std::io::ErrorKind;
 use std::marker::Brand;
 use std::process::ExitCode;
-use std::rt::{Env, Files};
+use std::rt::Env;
 use std::sync::Wait;
 use std::sync::ledger::{Blank, Ledger};
 use std::thread::Threads;
@@ -50,61 +56,95 @@ fn words<R: Env + AllocGlobal>(rt: &R) -> Result<Vec<Word>, NoMemory> {
     Ok(words)
 }
 
-// Runs the program over the real files and streams.
-fn run<L: Ledger, R: Files + Print + Eprint + Threads + Wait + Sync>(
+// Runs the program over these files and sinks. The process ends with the status that `cloner` answers.
+fn run<I: Inputs, O: Sink, E: Sink, L: Ledger, R: Threads + Wait + Sync>(
     rt: &R,
     alloc: Global,
     words: &[Word],
+    inputs: &mut I,
+    out: &mut O,
+    err: &mut E,
     blank: Blank,
-) -> u8
+) -> ExitCode
     requires name { blank.name ≡ L.name }
     requires parts { blank.parts ≡ L.parts }
     requires some { 0 < L.parts }
-    ensures usage { (result ≡ 2 → assignment_of words.now ≡ None)
-        × (assignment_of words.now ≡ None → (result ≡ 1) ⊎ (result ≡ 2)) }
+    ensures answer { (n : ℕ) × IsAnswer (assignment_of words.now)
+        (outside_of (I.view inputs.old) (O.view out.old) (E.view err.old) 0)
+        (outside_of (I.view inputs.new) (O.view out.new) (E.view err.new) n)
+        (exit_status result) }
+    ensures complete { (n : ℕ) × Completes (assignment_of words.now)
+        (outside_of (I.view inputs.old) (O.view out.old) (E.view err.old) 0)
+        (outside_of (I.view inputs.new) (O.view out.new) (E.view err.new) n)
+        (exit_status result) }
+    ensures usage { (exit_status result ≡ 2 → assignment_of words.now ≡ None)
+        × (assignment_of words.now ≡ None → (exit_status result ≡ 1) ⊎ (exit_status result ≡ 2)) }
 {
     let mut steps = Steps::<L>::new(blank);
-    let mut inputs = FileInputs::new(rt);
-    let mut out = OutSink::new(rt);
-    let mut err = ErrSink::new(rt);
-    cloner(
-        rt,
-        alloc,
-        words,
-        &mut inputs,
-        &mut out,
-        &mut err,
-        &NoGate,
-        &mut steps,
-    )
+    let status = cloner(rt, alloc, words, inputs, out, err, &NoGate, &mut steps);
+    ExitCode::from(status)
 }
 
-// The status, by the words or by the memory that was refused them.
-fn run_or_complain<L: Ledger, R: Files + Print + Eprint + Threads + Wait + Sync>(
+// Tells the error sink that memory was refused.
+fn complain<E: Sink>(err: &mut E) -> ExitCode
+    ensures status { exit_status result ≡ 1 }
+    ensures told { ArePutOrCut (error_line Refusal.OutOfMemory ∷ []) (E.view err.old) (E.view err.new) }
+{
+    let refusal = Refusal::OutOfMemory;
+    let line = refusal.line();
+    let _ = err.put(line.text().as_bytes());
+    ExitCode::from(refusal.status())
+}
+
+// The exit code, by the words or by the memory that was refused them.
+fn run_or_complain<I: Inputs, O: Sink, E: Sink, L: Ledger, R: Threads + Wait + Sync>(
     rt: &R,
     alloc: Global,
     words: Result<Vec<Word>, NoMemory>,
+    inputs: &mut I,
+    out: &mut O,
+    err: &mut E,
     blank: Blank,
-) -> u8
+) -> ExitCode
     requires name { blank.name ≡ L.name }
     requires parts { blank.parts ≡ L.parts }
     requires some { 0 < L.parts }
-    ensures usage { IfOk words (λ w.
-        (result ≡ 2 → assignment_of w.items ≡ None) × (assignment_of w.items ≡ None → (result ≡ 1) ⊎ (result ≡ 2))) }
-    ensures memory { OnErr words (result ≡ 1) }
+    // the status of `cloner`, with what became of the files and the sinks
+    ensures answer { IfOk words (λ w. (n : ℕ) × IsAnswer (assignment_of w.items)
+        (outside_of (I.view inputs.old) (O.view out.old) (E.view err.old) 0)
+        (outside_of (I.view inputs.new) (O.view out.new) (E.view err.new) n)
+        (exit_status result)) }
+    ensures complete { IfOk words (λ w. (n : ℕ) × Completes (assignment_of w.items)
+        (outside_of (I.view inputs.old) (O.view out.old) (E.view err.old) 0)
+        (outside_of (I.view inputs.new) (O.view out.new) (E.view err.new) n)
+        (exit_status result)) }
+    ensures usage { IfOk words (λ w. (exit_status result ≡ 2 → assignment_of w.items ≡ None)
+        × (assignment_of w.items ≡ None → (exit_status result ≡ 1) ⊎ (exit_status result ≡ 2))) }
+    // where memory was refused to the words, the line of status 1 is told, and nothing else is done
+    ensures memory { OnErr words (exit_status result ≡ 1) }
+    ensures refused { OnErr words (IsRefused
+        (outside_of (I.view inputs.old) (O.view out.old) (E.view err.old) 0)
+        (outside_of (I.view inputs.new) (O.view out.new) (E.view err.new) 0)
+        [] Refusal.OutOfMemory) }
 {
     match words {
-        Ok(words) => run::<L, R>(rt, alloc, words.as_slice(), blank),
-        Err(NoMemory) => {
-            let refusal = Refusal::OutOfMemory;
-            let line = refusal.line();
-            let _ = ErrSink::new(rt).put(line.text().as_bytes());
-            refusal.status()
-        }
+        Ok(words) => run::<I, O, E, L, R>(rt, alloc, words.as_slice(), inputs, out, err, blank),
+        Err(NoMemory) => complain(err),
     }
 }
 
 fn main(rt: HostRuntime) -> ExitCode {
     let words = words(&rt);
-    ExitCode::from(run_or_complain::<Brand, HostRuntime>(&rt, rt.alloc(), words, Blank::new(1)))
+    let mut inputs = FileInputs::new(&rt);
+    let mut out = OutSink::new(&rt);
+    let mut err = ErrSink::new(&rt);
+    run_or_complain::<_, _, _, Brand, HostRuntime>(
+        &rt,
+        rt.alloc(),
+        words,
+        &mut inputs,
+        &mut out,
+        &mut err,
+        Blank::new(1),
+    )
 }

@@ -20,7 +20,7 @@ use Rattle.cloner_top.specs.declared.refusal.Refusal.TheVariants.{OutOfMemory, U
 use Rattle.cloner_top.specs.declared.refusal.Refusal.TheVariants.{NoScript, Stopped, CannotWrite}
 use Rattle.cloner_top.specs.declared.stop.Stop.{Stop}
 use Rattle.cloner_top.specs.declared.stop.Stop.TheVariants.{BadModel, BadScript, BadDecision, NoClone, LimitMet}
-use Rattle.cloner_top.specs.Answers.{IsAnswer, IsDisobeyed, IsLawfulEnding, IsRefused, IsUnobeyed, Outside}
+use Rattle.cloner_top.specs.Answers.{IsAnswer, IsFailedFor, IsHaltedFor, IsLawfulEnding, IsRefused, Outside}
 use Rattle.cloner_top.specs.Answers as answer
 use Rattle.cloner_top.specs.Deciding.{IsDecided, IsRefusal, clones_of_book}
 use Rattle.cloner_top.specs.Endings.{DecidesFirst, Ending, MayEnd, MaySimulate}
@@ -28,7 +28,7 @@ use Rattle.cloner_top.specs.Endings.{StoppedFor, HasWritten, early_stop, overrun
 use Rattle.cloner_top.specs.Endings as ends
 use Rattle.cloner_top.specs.Outsides.{ArePut, ArePutOrCut, IsFailed, IsStudyPut, IsHalted, IsNotPut}
 use Rattle.cloner_top.specs.Plans.{IsReadStudy, IsUnreadStudy, StopsEarly}
-use Rattle.cloner_top.specs.Refusals.{IsMemoryOrStop, line_of, status_of, words_refusal}
+use Rattle.cloner_top.specs.Refusals.{IsMemoryOrStop, error_line, status_of, words_refusal}
 use Rattle.cloner_top.specs.Stops.{stop_line, stop_status}
 use Rattle.cloner_top.specs.Texts.{AreTexts, IsBadModel, IsBadScript, IsText}
 use Rattle.cloner_top.specs.Texts.{all_fetches, fetches_of, known_text}
@@ -173,7 +173,7 @@ MayEnd-lawful files a net stated read end may = record {
 failed_is : (rose : Type 0) (files : Option Files) (a : Assignment) (old_steps new_steps : ℕ) (old new : SinkView)
     (r : Refusal)
     → IsFailed (IsLawfulEnding files a) old_steps new_steps old new r
-    → IsUnobeyed rose files a old_steps new_steps old new r
+    → IsFailedFor rose files a old_steps new_steps old new r
 failed_is rose files a old_steps new_steps old new OutOfMemory h = h
 failed_is rose files a old_steps new_steps old new Usage h = h
 failed_is rose files a old_steps new_steps old new NoModel h = absurd h
@@ -184,14 +184,14 @@ failed_is rose files a old_steps new_steps old new CannotWrite h = h
 -- the same, with what is told before the line
 pub halted_is : (rose : Type 0) (files : Option Files) (a : Assignment) (old_steps new_steps : ℕ) (old new : SinkView)
     (h : Halt) → IsHalted (IsLawfulEnding files a) old_steps new_steps old new h
-    → IsDisobeyed rose files a old_steps new_steps old new h
+    → IsHaltedFor rose files a old_steps new_steps old new h
 halted_is rose files a old_steps new_steps old new (halt.Refused r) h =
     failed_is rose files a old_steps new_steps old new r h
 halted_is rose files a old_steps new_steps old new (halt.Overrun journal stop) h = h
 
 -- a study that is not read is not written
 pub unread_is : (rose : Type 0) (files : Option Files) (a : Assignment) (steps : ℕ) (out : SinkView) (r : Refusal)
-    → IsUnreadStudy rose a.source files r → IsUnobeyed rose files a steps steps out out r
+    → IsUnreadStudy rose a.source files r → IsFailedFor rose files a steps steps out out r
 unread_is rose files a steps out OutOfMemory h = refl
 unread_is rose files a steps out Usage h = h
 unread_is rose files a steps out NoModel h = (h, refl, refl)
@@ -246,9 +246,9 @@ module _ (words : Option Assignment) (before after : Outside) where
 
   -- where what is asked was not written, and a line was told: the answer by its cause
   by_refusal : (a : Assignment) (r : Refusal) → words ≡ Some a
-      → IsUnobeyed (HasRisen before.inputs.faults after.inputs.faults) before.inputs.files a before.steps after.steps
+      → IsFailedFor (HasRisen before.inputs.faults after.inputs.faults) before.inputs.files a before.steps after.steps
       before.output after.output r
-      → ArePutOrCut (line_of r ∷ []) before.errors after.errors → IsAnswer words before after (status_of r)
+      → ArePutOrCut (error_line r ∷ []) before.errors after.errors → IsAnswer words before after (status_of r)
   by_refusal a OutOfMemory is h told = answer.memory (record { output = h; told_is = told })
   by_refusal a Usage is h told = absurd h
   by_refusal a NoModel is h told = answer.no_model a is h.0 (record { output = h.1; told_is = told }) h.2
@@ -257,12 +257,12 @@ module _ (words : Option Assignment) (before after : Outside) where
   by_refusal a CannotWrite is h told = answer.cut a is h told
 
   -- where what is asked was not written, and a line was told, the status of that cause is the answer
-  pub unobeyed : (a : Assignment) (r : Refusal) (status : ℕ) → words ≡ Some a
-      → IsUnobeyed (HasRisen before.inputs.faults after.inputs.faults) before.inputs.files a before.steps after.steps
+  pub unwritten : (a : Assignment) (r : Refusal) (status : ℕ) → words ≡ Some a
+      → IsFailedFor (HasRisen before.inputs.faults after.inputs.faults) before.inputs.files a before.steps after.steps
       before.output after.output r
-      → ArePutOrCut (line_of r ∷ []) before.errors after.errors → status ≡ status_of r
+      → ArePutOrCut (error_line r ∷ []) before.errors after.errors → status ≡ status_of r
       → IsAnswer words before after status
-  unobeyed a r status asks h told is = subst (IsAnswer words before after) (sym is) (by_refusal a r asks h told)
+  unwritten a r status asks h told is = subst (IsAnswer words before after) (sym is) (by_refusal a r asks h told)
 
   -- the limit of a live study, of which the journal is told
   pub overrun_is : (a : Assignment) (journal : List ℕ) (stop : Stop) (status : ℕ) → words ≡ Some a

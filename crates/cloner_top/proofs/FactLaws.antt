@@ -27,7 +27,7 @@ use Rattle.cloner_top.specs.Endings.{StoppedFor, early_stop, overrun, run_texts,
 use Rattle.cloner_top.specs.Endings as ends
 use Rattle.cloner_top.specs.Outsides.{ArePut, ArePutOrCut}
 use Rattle.cloner_top.specs.Plans.{IsReadStudy}
-use Rattle.cloner_top.specs.Refusals.{line_of, status_of}
+use Rattle.cloner_top.specs.Refusals.{error_line, status_of}
 use Rattle.cloner_top.specs.Facts.{ArePreceded, Completes, IsCutFor, IsStoppedFor, IsStudy, IsToldFor, IsUnreadFor}
 use Rattle.cloner_top.specs.Facts.{IsWritten, IsStatusOf, Writes, WritesAll, WritesLive, WritesOne}
 use Rattle.cloner_top.specs.Stops.{stop_status}
@@ -225,7 +225,7 @@ preceded words files a old new told stop is (ends.at_limit most may few) =
 
 module _ (words : Option Assignment) (before after : Outside) where
   -- a line alone, by its cause
-  one_line : (r : Refusal) → ArePutOrCut (line_of r ∷ []) before.errors after.errors
+  one_line : (r : Refusal) → ArePutOrCut (error_line r ∷ []) before.errors after.errors
       → IsToldFor words before after (status_of r)
   one_line r told = record { told = []; refusal = r; is = refl; preceded = inl refl; told_is = told }
 

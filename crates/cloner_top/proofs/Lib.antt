@@ -8,3 +8,4 @@ pub mod RunPuts
 pub mod OwnScriptLaws
 pub mod LiveRuns
 pub mod JournalLaws
+pub mod PrefixLaws

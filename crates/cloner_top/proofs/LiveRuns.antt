@@ -1,9 +1,8 @@
 -- What a live study leaves, for its texts.
-use Rattle.std.proofs.Common.{◌≡◌, ◌≤◌, ℕ, ◌+◌, refl, sym, ap, ap₂, subst, ◌∙◌, arith, List, [], ◌∷◌, length}
+use Rattle.std.proofs.Common.{◌≡◌, ℕ, ◌+◌, refl, sym, ap, ap₂, subst, ◌∙◌, arith, List, [], ◌∷◌, length}
 use Rattle.std.proofs.Common.{Result, Ok, Err, IfOk}
 use Rattle.std.proofs.lemmas.Result.{IfErr-at_err, IfOk-at_ok}
 use Rattle.sim_base.specs.Clones.{clone_at}
-use Rattle.sim_base.specs.declared.lists.TheConstants.{MOST_CLONES}
 use Rattle.sim_outer.specs.Views.{SinkView}
 use Rattle.net_model.specs.Net.{Net}
 use Rattle.decision_script.specs.Stating.{ScriptView}
@@ -54,11 +53,11 @@ module _ (net : Net) (s : ScriptView) (old_steps new_steps : ℕ) (live : LiveRu
     front_is : w.front ≡ net.horizon
     front_is = ap (λ (v : WorldView). v.front) ends.world_is
 
-    -- a live run leaves a live study's world, where its clones are few and planned, and no log is beyond the limit
-    pub live_world : (t : List ℕ) → t ≡ text → length w.clones ≤ MOST_CLONES → NoneBeyond w.net w.clones w.front
+    -- a live run leaves a live study's world, where its clones are planned, and no log is beyond the limit
+    pub live_world : (t : List ℕ) → t ≡ text → NoneBeyond w.net w.clones w.front
         → ArePlanned live.book.net (clones_of_book live.book)
         → IsLiveWorld net s old_steps new_steps w t
-    live_world t same few none planned =
+    live_world t same none planned =
         let within : AreWithin net w.clones =
         subst (λ f. NoneBeyond net w.clones f) front_is
         (subst (λ (n : Net). NoneBeyond n w.clones w.front) net_is none) in
@@ -66,7 +65,7 @@ module _ (net : Net) (s : ScriptView) (old_steps new_steps : ℕ) (live : LiveRu
         subst (λ (n : Net). ArePlanned n (after n live.book.events).clones) ran.live_run.journal.net_is planned in
         record {
           may_put = record {
-            may_report = record { net = net_is; ended = front_is; few = few; within = within };
+            may_report = record { net = net_is; ended = front_is };
             short = subst AreShort (sym clones_are) (short_planned net (after net live.book.events).clones all);
           };
           may = subst (λ x. MayLive net s (whole_output (x ∷ run_texts net w.clones)
@@ -83,12 +82,12 @@ module _ (net : Net) (s : ScriptView) (old_steps new_steps : ℕ) (live : LiveRu
 
   -- the same of what is handed on
   pub live_ok : {X : Type 0} (world : X → WorldView) (told : X → List ℕ) (r : Result X Halt)
-      → IfOk r (λ x. (live.run ≡ Ok (world x)) × (told x ≡ text)) → IfOk r (λ x. length (world x).clones ≤ MOST_CLONES)
+      → IfOk r (λ x. (live.run ≡ Ok (world x)) × (told x ≡ text))
       → IfOk r (λ x. NoneBeyond (world x).net (world x).clones (world x).front)
       → IfOk r (λ x. ArePlanned live.book.net (clones_of_book live.book))
       → IfOk r (λ x. IsLiveWorld net s old_steps new_steps (world x) (told x))
-  live_ok world told (Ok x) is few none planned = live_world (world x) is.0 (told x) is.1 few none planned
-  live_ok world told (Err h) is few none planned = tt
+  live_ok world told (Ok x) is none planned = live_world (world x) is.0 (told x) is.1 none planned
+  live_ok world told (Err h) is none planned = tt
 
   -- why there is none
   pub live_stops : (told : Net) → told ≡ net → (h : Halt)

@@ -16,13 +16,13 @@ use Rattle.command_words.specs.Requests.{Assignment}
 use Rattle.study_run.specs.Accepted.{IsAcceptedJournal}
 use Rattle.cloner_top.specs.declared.halt.Halt.{Halt}
 use Rattle.cloner_top.specs.declared.refusal.Refusal.{Refusal}
-use Rattle.cloner_top.specs.Answers.{IsAnswer, IsDisobeyed, IsLawfulEnding, Outside}
+use Rattle.cloner_top.specs.Answers.{IsAnswer, IsHaltedFor, IsLawfulEnding, Outside}
 use Rattle.cloner_top.specs.Deciding.{IsDecided, clones_of_book}
 use Rattle.cloner_top.specs.Endings.{Ending, MayEnd, MayLive, MaySimulate, live}
 use Rattle.cloner_top.specs.Facts.{AreFewFetches}
 use Rattle.cloner_top.specs.Outsides.{ArePutOrCut, IsFailed, IsStudyPut, IsHalted}
 use Rattle.cloner_top.specs.Plans.{IsReadStudy}
-use Rattle.cloner_top.specs.Refusals.{line_of, status_of, words_refusal}
+use Rattle.cloner_top.specs.Refusals.{error_line, status_of, words_refusal}
 use Rattle.cloner_top.proofs.Endings.{MayEnd-lawful, decided_end, failed_on, finished_on, halted_is, halted_on}
 use Rattle.cloner_top.proofs.Endings.{unread_words}
 
@@ -81,18 +81,18 @@ module _ (a : Assignment) (net : Net) (stated : ScriptView) (is : a.mode ≡ Liv
 module _ (files : Option Files) (a : Assignment) (net : Net) (stated : ScriptView)
     (read : IsReadStudy a.source files net stated) where
   -- how the study of its texts ends is what is asked
-  pub obeyed : (old_steps new_steps : ℕ) (old new : SinkView) {T : Type 0} (r : Result T Halt)
+  pub read_put : (old_steps new_steps : ℕ) (old new : SinkView) {T : Type 0} (r : Result T Halt)
       → OnOk r (IsStudyPut (MayEnd a net stated) old_steps new_steps old new)
       → OnOk r (IsStudyPut (IsLawfulEnding files a) old_steps new_steps old new)
-  obeyed old_steps new_steps old new r h =
+  read_put old_steps new_steps old new r h =
       on_ok_weaker r (finished_on (MayEnd a net stated) (IsLawfulEnding files a) (MayEnd-lawful files a net stated read)
       old_steps new_steps old new) h
 
   -- and why nothing is written
-  pub not_obeyed : (rose : Type 0) (old_steps new_steps : ℕ) (old new : SinkView) {T : Type 0} (r : Result T Halt)
+  pub read_not_put : (rose : Type 0) (old_steps new_steps : ℕ) (old new : SinkView) {T : Type 0} (r : Result T Halt)
       → IfErr r (λ e. IsHalted (MayEnd a net stated) old_steps new_steps old new e)
-      → IfErr r (λ e. IsDisobeyed rose files a old_steps new_steps old new e)
-  not_obeyed rose old_steps new_steps old new r h =
+      → IfErr r (λ e. IsHaltedFor rose files a old_steps new_steps old new e)
+  read_not_put rose old_steps new_steps old new r h =
       IfErr-weaker r _ _ (λ e halts. halted_is rose files a old_steps new_steps old new e
       (halted_on (MayEnd a net stated) (IsLawfulEnding files a) (MayEnd-lawful files a net stated read)
       old_steps new_steps old new e halts)) h
@@ -110,7 +110,7 @@ module _ (words : Option Assignment) (before after : Outside) where
   -- the words were not read, and one line tells why
   pub words_answer : (f : WordsFault) (r : Refusal) (status : ℕ) → (f ≡ fault.Usage → words ≡ None)
       → r ≡ words_refusal f → after.output ≡ before.output
-      → ArePutOrCut (line_of r ∷ []) before.errors after.errors → after.inputs ≡ before.inputs
+      → ArePutOrCut (error_line r ∷ []) before.errors after.errors → after.inputs ≡ before.inputs
       → after.steps ≡ before.steps
       → status ≡ status_of r
       → IsAnswer words before after status
@@ -119,7 +119,7 @@ module _ (words : Option Assignment) (before after : Outside) where
       (record {
         output = output;
         told_is = subst (λ x. ArePutOrCut
-            (line_of x ∷ []) before.errors after.errors) same told;
+            (error_line x ∷ []) before.errors after.errors) same told;
       })
       inputs steps (is ∙ ap status_of same)
 

@@ -1,30 +1,19 @@
 -- Texts that are put one after the other.
-use Rattle.std.proofs.Common.{◌≡◌, ◌≤◌, inl, inr, ℕ, zero, suc, ◌+◌, refl, sym, ap, ap₂, ◌∙◌, subst, arith, min}
+use Rattle.std.proofs.Common.{◌≡◌, ◌≤◌, inl, inr, ℕ, zero, suc, ◌+◌, refl, sym, ap, ap₂, ◌∙◌, subst, arith}
 use Rattle.std.proofs.Common.{List, [], ◌∷◌, ◌++◌, append-nil, length, length-append, map, Option, Some, None}
-use Rattle.std.proofs.lemmas.List.{length-map}
+use Rattle.std.proofs.lemmas.List.{append_assoc, length-map}
 use Rattle.std.proofs.lemmas.List.Concat.{concat_is}
 use Rattle.std.proofs.lemmas.List.Folds.{concat-append, flat_map-map}
 use Rattle.std.specs.List.{concat, flat_map}
 use Rattle.sim_outer.specs.Bytes.{IsAppended, IsPrefixAppended}
 use Rattle.sim_outer.specs.Counts.{AreCounted, IsCounted, HasRisen, counts_after, next_count}
 use Rattle.sim_outer.specs.Views.{SinkView}
-use Rattle.sim_outer.proofs.Appending.{appended_then, part_then, take-append-prefix}
+use Rattle.sim_outer.proofs.Appending.{appended_nothing, appended_then}
 use Rattle.sim_outer.proofs.Counts.{counted_more}
-use Rattle.rolling_text.specs.Counting.{AreCountedTo}
+use Rattle.rolling_text.specs.Puts.{AreCut}
 use Rattle.cloner_top.specs.declared.refusal.Refusal.{Refusal}
 use Rattle.cloner_top.specs.declared.refusal.Refusal.TheVariants.{CannotWrite}
-use Rattle.cloner_top.specs.Outsides.{AreCut, ArePut, ArePutOrCut, IsNotPut}
-
--- a prefix of the first text is one of both
-part_first : (a b : List ℕ) (old new : Option (List ℕ)) → IsPrefixAppended old a new → IsPrefixAppended old (a ++ b) new
-part_first a b None new h = h
-part_first a b (Some o) new h = (min h.0 (length a), h.1 ∙ ap (λ t. Some (o ++ t)) (sym (take-append-prefix h.0 a b)))
-
--- the first text, and a prefix of the second
-part_second : (a b : List ℕ) (old mid new : Option (List ℕ)) → IsAppended old a mid → IsPrefixAppended mid b new
-    → IsPrefixAppended old (a ++ b) new
-part_second a b old mid new h k =
-    subst (λ t. IsPrefixAppended old (a ++ t) new) (append-nil b) (part_then a b [] old mid new h k)
+use Rattle.cloner_top.specs.Outsides.{ArePut, ArePutOrCut, IsNotPut}
 
 -- a call that was counted is one call
 counted_one : (old new : Option ℕ) → IsCounted old new → AreCounted 1 old new
@@ -45,15 +34,66 @@ put_one text old new bytes calls = record {
 pub cut_one : (text : List ℕ) (old new : SinkView) → IsPrefixAppended old.bytes text new.bytes
     → HasRisen old.faults new.faults → IsCounted old.calls new.calls → AreCut (text ∷ []) old new
 cut_one text old new bytes failed counted = record {
-  bytes = subst (λ t. IsPrefixAppended old.bytes t new.bytes) (sym (append-nil text)) bytes;
+  whole = [];
+  text = text;
+  others = [];
+  parts = refl;
+  between = old.bytes;
+  before = appended_nothing old.bytes;
+  bytes = bytes;
   failed = failed;
-  calls = record {
-    calls = 1;
-    some = omega arith;
-    few = omega arith;
-    counted = counted_one old.calls new.calls counted;
-  };
+  calls = counted_one old.calls new.calls counted;
 }
+
+-- ---- texts, and then others
+
+-- n calls, and then m
+count_both : (n m before : ℕ) → counts_after m (counts_after n before) ≡ counts_after (n + m) before
+count_both n zero before = let e : n ≡ n + 0 = omega arith in ap (λ j. counts_after j before) e
+count_both n (suc m) before = let e : suc (n + m) ≡ n + suc m = omega arith in
+    ap next_count (count_both n m before) ∙ ap (λ j. counts_after j before) e
+
+counted_both : (n m : ℕ) (old mid new : Option ℕ) → AreCounted n old mid → AreCounted m mid new
+    → AreCounted (n + m) old new
+counted_both n m None mid new h k = let e : mid ≡ None = h in (rw e at k)
+counted_both n m (Some o) mid new h k = let e : mid ≡ Some (counts_after n o) = h in
+    (rw e at k) ∙ ap Some (count_both n m o)
+
+module _ (first others : List (List ℕ)) where
+  -- where the first were put, and the others were cut off, all together were cut off
+  cut_after : (old mid new : SinkView) → IsAppended old.bytes (concat first) mid.bytes
+      → AreCounted (length first) old.calls mid.calls → old.faults ≤ mid.faults → AreCut others mid new
+      → AreCut (first ++ others) old new
+  cut_after old mid new bytes counted later cut = record {
+    whole = first ++ cut.whole;
+    text = cut.text;
+    others = cut.others;
+    parts = ap (λ t. first ++ t) cut.parts ∙ sym (append_assoc first cut.whole (cut.text ∷ cut.others));
+    between = cut.between;
+    before = subst (λ t. IsAppended old.bytes t cut.between) (sym (concat-append first cut.whole))
+        (appended_then (concat first) (concat cut.whole) old.bytes mid.bytes cut.between bytes cut.before);
+    bytes = cut.bytes;
+    failed = let r = cut.failed in omega (arith, r, later);
+    calls = subst (λ n. AreCounted n old.calls new.calls) many
+        (counted_both (length first) (length cut.whole + 1) old.calls mid.calls new.calls counted cut.calls);
+  }
+    where
+      many : length first + (length cut.whole + 1) ≡ length (first ++ cut.whole) + 1
+      many = let l = length-append first cut.whole in omega (arith, l)
+
+  -- where the first were cut off, all together were
+  cut_ahead : (old new : SinkView) → AreCut first old new → AreCut (first ++ others) old new
+  cut_ahead old new cut = record {
+    whole = cut.whole;
+    text = cut.text;
+    others = cut.others ++ others;
+    parts = ap (λ t. t ++ others) cut.parts ∙ append_assoc cut.whole (cut.text ∷ cut.others) others;
+    between = cut.between;
+    before = cut.before;
+    bytes = cut.bytes;
+    failed = cut.failed;
+    calls = cut.calls;
+  }
 
 -- ---- texts, and then one
 
@@ -87,39 +127,13 @@ module _ {X : Type 0} (f : X → List ℕ) (xs : List X) (last : List ℕ) where
     pub cut_last : IsAppended old.bytes (flat_map f xs) mid.bytes → AreCounted (length xs) old.calls mid.calls
         → old.faults ≤ mid.faults → AreCut (last ∷ []) mid new
         → AreCut (map f xs ++ last ∷ []) old new
-    cut_last bytes counted later cut = record {
-      bytes = subst (λ t. IsPrefixAppended old.bytes t new.bytes) (sym all_texts)
-          (part_second (flat_map f xs) last old.bytes mid.bytes new.bytes bytes
-          (subst (λ t. IsPrefixAppended mid.bytes t new.bytes) (append-nil last) cut.bytes));
-      failed = let r = cut.failed in omega (arith, r, later);
-      calls = record {
-        calls = length xs + 1;
-        some = omega arith;
-        few = let n = how_many in omega (arith, n);
-        counted = let to = cut.calls in counted_more (length xs) old.calls mid.calls new.calls counted
-            (of_some mid.calls new.calls to.calls to.some to.few to.counted);
-      };
-    }
-      where
-        of_some : (a b : Option ℕ) (n : ℕ) → 1 ≤ n → n ≤ 1 → AreCounted n a b → IsCounted a b
-        of_some None b n low high h = h
-        of_some (Some o) b n low high h = let e : n ≡ 1 = omega (arith, low, high) in (rw e at h)
+    cut_last bytes counted later cut = cut_after (map f xs) (last ∷ []) old mid new
+        (subst (λ t. IsAppended old.bytes t mid.bytes) (sym (concat_is (map f xs) ∙ flat_map-map (λ x. x) f xs)) bytes)
+        (subst (λ n. AreCounted n old.calls mid.calls) (sym (length-map xs f)) counted) later cut
 
-  -- where a call before the last failed, and a part was taken, the texts were cut off
-  pub cut_before : (old new : SinkView) → IsPrefixAppended old.bytes (flat_map f xs) new.bytes
-      → HasRisen old.faults new.faults
-      → AreCountedTo (length xs) old.calls new.calls → AreCut (map f xs ++ last ∷ []) old new
-  cut_before old new bytes failed to = record {
-    bytes = subst (λ t. IsPrefixAppended old.bytes t new.bytes) (sym all_texts)
-        (part_first (flat_map f xs) last old.bytes new.bytes bytes);
-    failed = failed;
-    calls = record {
-      calls = to.calls;
-      some = to.some;
-      few = let e = how_many in let l = to.few in omega (arith, e, l);
-      counted = to.counted;
-    };
-  }
+  -- where those before the last were cut off, the texts were
+  pub cut_before : (old new : SinkView) → AreCut (map f xs) old new → AreCut (map f xs ++ last ∷ []) old new
+  cut_before old new cut = cut_ahead (map f xs) (last ∷ []) old new cut
 
 -- ---- a text, and then others
 
@@ -151,17 +165,7 @@ module _ (first : List ℕ) (texts : List (List ℕ)) where
     -- where the first was put, and the others were cut off, all together were cut off
     pub cut_then : ArePut (first ∷ []) old mid → old.faults ≤ mid.faults → AreCut texts mid new
         → AreCut (first ∷ texts) old new
-    cut_then h later k = record {
-      bytes = subst (λ t. IsPrefixAppended old.bytes t new.bytes) (sym both_are)
-          (part_second (concat (first ∷ [])) (concat texts) old.bytes mid.bytes new.bytes h.bytes k.bytes);
-      failed = let r = k.failed in omega (arith, r, later);
-      calls = record {
-        calls = suc k.calls.calls;
-        some = omega arith;
-        few = let f = k.calls.few in omega (arith, f);
-        counted = counted_then k.calls.calls old.calls mid.calls new.calls h.calls k.calls.counted;
-      };
-    }
+    cut_then h later k = cut_after (first ∷ []) texts old mid new h.bytes h.calls later k
 
     -- where the first was put, and the others were told, all together were told
     pub told_then : ArePut (first ∷ []) old mid → old.faults ≤ mid.faults → ArePutOrCut texts mid new
@@ -171,17 +175,7 @@ module _ (first : List ℕ) (texts : List (List ℕ)) where
 
   -- where the first was cut off, all together were
   cut_first : (old new : SinkView) → AreCut (first ∷ []) old new → AreCut (first ∷ texts) old new
-  cut_first old new h = record {
-    bytes = subst (λ t. IsPrefixAppended old.bytes t new.bytes) (sym both_are)
-        (part_first (concat (first ∷ [])) (concat texts) old.bytes new.bytes h.bytes);
-    failed = h.failed;
-    calls = record {
-      calls = h.calls.calls;
-      some = h.calls.some;
-      few = let f = h.calls.few in omega (arith, f);
-      counted = h.calls.counted;
-    };
-  }
+  cut_first old new h = cut_ahead (first ∷ []) texts old new h
 
   -- only the outside's fault keeps a text from being put, once it is there
   pub first_cut : (old new : SinkView) (r : Refusal) → IsNotPut (first ∷ []) old new r → r ≡ CannotWrite

@@ -3,16 +3,16 @@ use Rattle.std.proofs.Common.{◌≡◌, ◌≤◌, ℕ, refl, sym, ap, subst, �
 use Rattle.std.proofs.Common.{◌∷◌, ◌++◌, length, map, Result, Ok, Err, IfErr, OnOk}
 use Rattle.std.proofs.lemmas.Result.{on_ok_weaker}
 use Rattle.sim_base.specs.Clones.{Clone}
-use Rattle.sim_outer.specs.Bytes.{IsAppended, IsPrefixAppended}
-use Rattle.sim_outer.specs.Counts.{AreCounted, HasRisen}
+use Rattle.sim_outer.specs.Bytes.{IsAppended}
+use Rattle.sim_outer.specs.Counts.{AreCounted}
 use Rattle.sim_outer.specs.Views.{SinkView}
 use Rattle.net_model.specs.Net.{Net}
 use Rattle.trace_report.specs.Outputs.{clone_text, clone_texts, report}
-use Rattle.rolling_text.specs.Counting.{AreCountedTo}
+use Rattle.rolling_text.specs.Puts.{AreCut}
 use Rattle.cloner_top.specs.declared.refusal.Refusal.{Refusal}
 use Rattle.cloner_top.specs.declared.refusal.Refusal.TheVariants.{CannotWrite}
 use Rattle.cloner_top.specs.Endings.{run_texts}
-use Rattle.cloner_top.specs.Outsides.{AreCut, ArePut, IsNotPut}
+use Rattle.cloner_top.specs.Outsides.{ArePut, IsNotPut}
 use Rattle.cloner_top.proofs.Puts.{cut_before, cut_last, cut_then, put_more, put_then}
 
 -- ---- run_texts, clone_texts
@@ -63,16 +63,13 @@ module _ (told net : Net) (those cs : List Clone) (same_net : told ≡ net) (sam
             (cut (subst (λ x. IsNotPut (last ∷ []) mid new x) k h))
 
   -- the traces were cut off
-  pub traces_cut : (old new : SinkView) → IsPrefixAppended old.bytes (clone_texts told those) new.bytes
-      → HasRisen old.faults new.faults
-      → AreCountedTo (length those) old.calls new.calls → AreCut (run_texts net cs) old new
-  traces_cut old new part failed counted =
-      let calls : AreCountedTo (length cs) old.calls new.calls =
-      subst (λ l. AreCountedTo (length l) old.calls new.calls) same_clones counted in
-      subst (λ t. AreCut t old new) (texts_are net cs (report net cs) refl)
-      (cut_before (clone_text net) cs (report net cs) old new
-      (subst (λ t. IsPrefixAppended old.bytes t new.bytes) (same_texts told net those cs same_net same_clones) part)
-      failed calls)
+  pub traces_cut : (old new : SinkView) → AreCut (map (clone_text told) those) old new
+      → AreCut (run_texts net cs) old new
+  traces_cut old new cut = subst (λ t. AreCut t old new) (texts_are net cs (report net cs) refl)
+      (cut_before (clone_text net) cs (report net cs) old new (subst (λ t. AreCut t old new) same cut))
+    where
+      same : map (clone_text told) those ≡ map (clone_text net) cs
+      same = ap (λ (n : Net). map (clone_text n) those) same_net ∙ ap (map (clone_text net)) same_clones
 
 -- ---- ArePut, IsNotPut, of a journal and a run
 -- a journal was put, and then the texts of a run

@@ -14,7 +14,7 @@ use Rattle.cloner_top.specs.declared.stop.Stop.{Stop}
 use Rattle.cloner_top.specs.Endings.{Ending, MayEndByTexts, StoppedFor}
 use Rattle.cloner_top.specs.Outsides.{ArePutOrCut, IsFailed, IsHalted, IsStudyCut, IsStudyPut}
 use Rattle.cloner_top.specs.Plans.{HasModel}
-use Rattle.cloner_top.specs.Refusals.{line_of}
+use Rattle.cloner_top.specs.Refusals.{error_line}
 use Rattle.cloner_top.specs.Stops.{stop_status}
 use Rattle.cloner_top.specs.Texts.{AreTexts, IsUnread, all_fetches}
 
@@ -43,7 +43,7 @@ pub record IsLawfulEnding (files : Option Files) (a : Assignment) (end : Ending)
 -- nothing is written, and a line tells why, behind these texts
 pub record IsRefused (before after : Outside) (told : List (List ℕ)) (refusal : Refusal) : Type 0 where
   pub output : after.output ≡ before.output
-  pub told_is : ArePutOrCut (told ++ line_of refusal ∷ []) before.errors after.errors
+  pub told_is : ArePutOrCut (told ++ error_line refusal ∷ []) before.errors after.errors
 
 -- the inputs had a fault
 abbrev pub InputsFailed : Outside → Outside → Type 0
@@ -75,20 +75,20 @@ pub data IsAnswer (words : Option Assignment) (before after : Outside) : ℕ →
   -- the output was cut off
   cut : (a : Assignment) → words ≡ Some a
       → IsStudyCut (IsLawfulEnding before.inputs.files a) before.steps after.steps before.output after.output
-      → ArePutOrCut (line_of CannotWrite ∷ []) before.errors after.errors → IsAnswer words before after 8
+      → ArePutOrCut (error_line CannotWrite ∷ []) before.errors after.errors → IsAnswer words before after 8
 
 -- why what is asked was not written
-abbrev pub IsUnobeyed : Type 0 → Option Files → Assignment → ℕ → ℕ → SinkView → SinkView → Refusal → Type 0
-IsUnobeyed rose files a old_steps new_steps old new NoModel = IsUnread rose a.source Model files × (new ≡ old)
+abbrev pub IsFailedFor : Type 0 → Option Files → Assignment → ℕ → ℕ → SinkView → SinkView → Refusal → Type 0
+IsFailedFor rose files a old_steps new_steps old new NoModel = IsUnread rose a.source Model files × (new ≡ old)
     × (new_steps ≡ old_steps)
-IsUnobeyed rose files a old_steps new_steps old new NoScript =
+IsFailedFor rose files a old_steps new_steps old new NoScript =
     HasModel a.source files × IsUnread rose a.source Script files × (new ≡ old) × (new_steps ≡ old_steps)
-IsUnobeyed rose files a old_steps new_steps old new refusal =
+IsFailedFor rose files a old_steps new_steps old new refusal =
     IsFailed (IsLawfulEnding files a) old_steps new_steps old new refusal
 
 -- the same, with what is told before the line
-abbrev pub IsDisobeyed : Type 0 → Option Files → Assignment → ℕ → ℕ → SinkView → SinkView → Halt → Type 0
-IsDisobeyed rose files a old_steps new_steps old new (Refused refusal) =
-    IsUnobeyed rose files a old_steps new_steps old new refusal
-IsDisobeyed rose files a old_steps new_steps old new (Overrun journal stop) =
+abbrev pub IsHaltedFor : Type 0 → Option Files → Assignment → ℕ → ℕ → SinkView → SinkView → Halt → Type 0
+IsHaltedFor rose files a old_steps new_steps old new (Refused refusal) =
+    IsFailedFor rose files a old_steps new_steps old new refusal
+IsHaltedFor rose files a old_steps new_steps old new (Overrun journal stop) =
     IsHalted (IsLawfulEnding files a) old_steps new_steps old new (Overrun journal stop)

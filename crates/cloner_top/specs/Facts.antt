@@ -26,7 +26,7 @@ use Rattle.cloner_top.specs.Deciding.{clones_of, first_refused}
 use Rattle.cloner_top.specs.Endings.{Ending, StoppedFor, early_stop, overrun, run_texts, whole_output}
 use Rattle.cloner_top.specs.Outsides.{ArePut, ArePutOrCut, IsStudyCut}
 use Rattle.cloner_top.specs.Plans.{IsReadStudy}
-use Rattle.cloner_top.specs.Refusals.{line_of, status_of}
+use Rattle.cloner_top.specs.Refusals.{error_line, status_of}
 use Rattle.cloner_top.specs.Stops.{stop_line, stop_status}
 use Rattle.cloner_top.specs.Texts.{IsUnread, all_fetches}
 
@@ -125,7 +125,7 @@ pub record IsToldFor (words : Option Assignment) (before after : Outside) (statu
   pub refusal : Refusal
   pub is : status ≡ status_of refusal
   pub preceded : ArePreceded words status told
-  pub told_is : ArePutOrCut (told ++ line_of refusal ∷ []) before.errors after.errors
+  pub told_is : ArePutOrCut (told ++ error_line refusal ∷ []) before.errors after.errors
 
 -- the status of an ending: of one that writes 0, or 8 with a fault of the output
 abbrev pub IsStatusOf : Ending → Type 0 → ℕ → Type 0

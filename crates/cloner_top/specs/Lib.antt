@@ -11,3 +11,4 @@ pub mod Answers
 pub mod Facts
 pub mod OwnScripts
 pub mod Journals
+pub mod Prefixes

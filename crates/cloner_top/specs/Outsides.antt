@@ -1,10 +1,10 @@
 -- The outside of the program: what contracts see of sinks, and what was put into them.
 use Rattle.std.specs.Prelude.{◌≡◌, ◌⊎◌, ℕ, List, [], ◌∷◌, length}
 use Rattle.std.specs.List.{concat}
-use Rattle.sim_outer.specs.Bytes.{IsAppended, IsPrefixAppended}
-use Rattle.sim_outer.specs.Counts.{AreCounted, HasRisen}
+use Rattle.sim_outer.specs.Bytes.{IsAppended}
+use Rattle.sim_outer.specs.Counts.{AreCounted}
 use Rattle.sim_outer.specs.Views.{SinkView}
-use Rattle.rolling_text.specs.Counting.{AreCountedTo}
+use Rattle.rolling_text.specs.Puts.{AreCut}
 use Rattle.cloner_top.specs.declared.halt.Halt.{Halt}
 use Rattle.cloner_top.specs.declared.halt.Halt.TheVariants.{Refused, Overrun}
 use Rattle.cloner_top.specs.declared.refusal.Refusal.{Refusal}
@@ -16,13 +16,8 @@ pub record ArePut (texts : List (List ℕ)) (old new : SinkView) : Type 0 where
   pub bytes : IsAppended old.bytes (concat texts) new.bytes
   pub calls : AreCounted (length texts) old.calls new.calls
 
--- the texts were cut off: a call failed, and a prefix of them all was taken
-pub record AreCut (texts : List (List ℕ)) (old new : SinkView) : Type 0 where
-  pub bytes : IsPrefixAppended old.bytes (concat texts) new.bytes
-  pub failed : HasRisen old.faults new.faults
-  pub calls : AreCountedTo (length texts) old.calls new.calls
-
--- each text was put, in one call, or they were cut off: the sink took them all, or failed and took a prefix of them
+-- each text was put, in one call, or they were cut off: the sink took them all, or those before one and a prefix of it,
+-- in a call that failed, and no call came after it
 abbrev pub ArePutOrCut : List (List ℕ) → SinkView → SinkView → Type 0
 ArePutOrCut texts old new = ArePut texts old new ⊎ AreCut texts old new
 

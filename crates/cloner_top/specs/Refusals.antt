@@ -19,13 +19,13 @@ status_of (Stopped stop) = stop_status stop
 status_of CannotWrite = 8
 
 -- the line for each cause
-abbrev pub line_of : Refusal → List ℕ
-line_of OutOfMemory = codes "cloner: out of memory\n"
-line_of Usage = usage_line
-line_of NoModel = codes "cloner: cannot read the model\n"
-line_of NoScript = codes "cloner: cannot read the script\n"
-line_of (Stopped stop) = stop_line stop
-line_of CannotWrite = codes "cloner: cannot write\n"
+abbrev pub error_line : Refusal → List ℕ
+error_line OutOfMemory = codes "cloner: out of memory\n"
+error_line Usage = usage_line
+error_line NoModel = codes "cloner: cannot read the model\n"
+error_line NoScript = codes "cloner: cannot read the script\n"
+error_line (Stopped stop) = stop_line stop
+error_line CannotWrite = codes "cloner: cannot write\n"
 
 -- memory was refused, or a study stopped, for which this holds
 abbrev pub IsMemoryOrStop : (Stop → Type 0) → Refusal → Type 0

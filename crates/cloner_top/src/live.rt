@@ -1,6 +1,5 @@
 //! Runs a study while its analysts decide and look, and puts its texts.
-ghost use Rattle.std.specs.Prelude.{◌≡◌, ◌≤◌, Ok, Err, length, IfErr, IfOk, OnOk};
-ghost use Rattle.sim_base.specs.declared.lists.TheConstants.{MOST_CLONES};
+ghost use Rattle.std.specs.Prelude.{◌≡◌, Ok, Err, IfErr, IfOk, OnOk};
 ghost use Rattle.decision_book.specs.Plans.{ArePlanned};
 ghost use Rattle.world_core.specs.Overs.{NoneBeyond};
 ghost use Rattle.cloner_top.specs.Deciding.{clones_of_book};
@@ -33,7 +32,6 @@ fn world_or_halt(model: &Model, live: LiveRun, journal: Vec<u8>) -> Result<(Worl
     // the world at the horizon, with the text of the journal
     ensures ok { IfOk result (λ r. (live.run ≡ Ok r.0) × (r.1.items ≡ journal.items)) }
     // what holds of the clones then
-    ensures few { IfOk result (λ r. length r.0.clones ≤ MOST_CLONES) }
     ensures within { IfOk result (λ r. NoneBeyond r.0.net r.0.clones r.0.front) }
     ensures planned { IfOk result (λ r. ArePlanned live.book.net (clones_of_book live.book)) }
     // or why there is none, for the fault of the run
@@ -47,7 +45,7 @@ fn world_or_halt(model: &Model, live: LiveRun, journal: Vec<u8>) -> Result<(Worl
     } = live;
     match run {
         Ok(world) => {
-            let (_few, _planned) = (world.lists(), book.book().lists());
+            let (_short, _planned) = (world.lists(), book.book().lists());
             Ok((world, journal))
         }
         Err(StudyFault::NoMemory) => Err(Halt::Refused(Refusal::OutOfMemory)),

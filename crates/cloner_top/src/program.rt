@@ -2,12 +2,12 @@
 ghost use Rattle.std.specs.Prelude.{◌≡◌, ◌≢◌, ◌⊎◌, ◌≤◌, ◌∷◌, [], ℕ, IfErr, None, MatchBool, OnOk};
 ghost use Rattle.sim_outer.specs.Counts.{AreCounted, HasRisen};
 ghost use Rattle.command_words.specs.Requests.{request_view, source_view};
-ghost use Rattle.cloner_top.specs.Answers.{IsAnswer, IsDisobeyed, IsLawfulEnding, assignment_of, outside_of};
+ghost use Rattle.cloner_top.specs.Answers.{IsAnswer, IsHaltedFor, IsLawfulEnding, assignment_of, outside_of};
 ghost use Rattle.cloner_top.specs.Endings.{DecidesFirst, MayEnd};
 ghost use Rattle.cloner_top.specs.Facts.{AreFewFetches, Completes, IsCutFor, IsStoppedFor};
 ghost use Rattle.cloner_top.specs.Facts.{IsToldFor, IsUnreadFor, IsWritten};
 ghost use Rattle.cloner_top.specs.Outsides.{ArePutOrCut, IsFailed, IsStudyPut, IsHalted};
-ghost use Rattle.cloner_top.specs.Refusals.{line_of, status_of, words_refusal};
+ghost use Rattle.cloner_top.specs.Refusals.{error_line, status_of, words_refusal};
 ghost use Rattle.cloner_top.specs.Stops.{stop_line, stop_status};
 ghost use Rattle.cloner_top.specs.Texts.{all_fetches};
 
@@ -88,7 +88,7 @@ fn run_and_write<O: Sink, G: Gate, L: Ledger, R: Threads + Wait + Sync>(
 }
 
 // Reads what is asked, runs it and writes it.
-fn obey<I: Inputs, O: Sink, G: Gate, L: Ledger, R: Threads + Wait + Sync>(
+fn read_run_and_write<I: Inputs, O: Sink, G: Gate, L: Ledger, R: Threads + Wait + Sync>(
     rt: &R,
     alloc: Global,
     request: &Request,
@@ -100,7 +100,7 @@ fn obey<I: Inputs, O: Sink, G: Gate, L: Ledger, R: Threads + Wait + Sync>(
     ensures ok { OnOk result (IsStudyPut
         (IsLawfulEnding (I.view inputs.old).files (request_view request.now).assignment) steps.old steps.new
         (O.view out.old) (O.view out.new)) }
-    ensures err { IfErr result (λ h. IsDisobeyed (HasRisen (I.view inputs.old).faults (I.view inputs.new).faults)
+    ensures err { IfErr result (λ h. IsHaltedFor (HasRisen (I.view inputs.old).faults (I.view inputs.new).faults)
         (I.view inputs.old).files (request_view request.now).assignment steps.old steps.new
         (O.view out.old) (O.view out.new) h) }
     ensures later { (I.view inputs.old).faults ≤ (I.view inputs.new).faults }
@@ -119,7 +119,7 @@ fn obey<I: Inputs, O: Sink, G: Gate, L: Ledger, R: Threads + Wait + Sync>(
 // Tells the error sink why. Its faults change nothing else.
 fn complain<E: Sink>(err: &mut E, refusal: &Refusal) -> u8
     ensures status { result ≡ status_of refusal.now }
-    ensures told { ArePutOrCut (line_of refusal.now ∷ []) (E.view err.old) (E.view err.new) }
+    ensures told { ArePutOrCut (error_line refusal.now ∷ []) (E.view err.old) (E.view err.new) }
 {
     let line = refusal.line();
     let _ = put_text(err, line.text().as_bytes());
@@ -175,7 +175,7 @@ fn obey_or_complain<I: Inputs, O: Sink, E: Sink, G: Gate, L: Ledger, R: Threads 
         Ok(request) => request,
         Err(fault) => return complain(err, &words_refused(fault)),
     };
-    match obey(rt, alloc, &request, inputs, out, gate, steps) {
+    match read_run_and_write(rt, alloc, &request, inputs, out, gate, steps) {
         Ok(()) => 0,
         Err(Halt::Refused(refusal)) => complain(err, &refusal),
         Err(Halt::Overrun { journal, stop }) => complain_of_limit(err, journal.as_slice(), &stop),

@@ -1,6 +1,6 @@
 //! Why the program writes nothing, or not the whole of its output.
 ghost use Rattle.std.specs.Prelude.{◌≡◌, ◌≤◌, length};
-ghost use Rattle.cloner_top.specs.Refusals.{line_of, status_of};
+ghost use Rattle.cloner_top.specs.Refusals.{error_line, status_of};
 ghost use Rattle.cloner_top.specs.declared.error_line.TheConstants.{LONGEST_LINE};
 
 use crate::error_line::ErrorLine;
@@ -50,7 +50,7 @@ impl Refusal {
 
     /// The line that tells it.
     pub fn line(&self) -> ErrorLine
-        ensures { result ≡ line_of self.now }
+        ensures { result ≡ error_line self.now }
     {
         match self {
             Refusal::OutOfMemory => line_of_text("cloner: out of memory\n"),

@@ -4,6 +4,7 @@ ghost use Rattle.net_model.specs.Net.{HasStation};
 ghost use Rattle.rolling_text.specs.WorldTraces.{AreShort};
 ghost use Rattle.world_core.specs.Worlds.{total_handled};
 ghost use Rattle.study_run.specs.Accepted.{IsAcceptedJournal};
+ghost use Rattle.study_run.specs.Limits.{AreWithin};
 ghost use Rattle.study_run.specs.Reports.{MayReport};
 ghost use Rattle.command_words.specs.Requests.{source_view};
 ghost use Rattle.cloner_top.specs.Deciding.{clones_of_book};
@@ -52,6 +53,7 @@ fn run_world<G: Gate, L: Ledger, R: Threads + Wait + Sync>(
 ) -> Result<World, Refusal>
     requires accepted { IsAcceptedJournal plan.now.book.net plan.now.book.events }
     ensures may_report { IfOk result (λ w. MayReport plan.now.model.value w) }
+    ensures within { IfOk result (λ w. AreWithin plan.now.model.value w.clones) }
     ensures clones { IfOk result (λ w. w.clones ≡ clones_of_book plan.now.book) }
     ensures short { IfOk result (λ w. AreShort w.clones) }
     ensures steps { IfOk result (λ w.

@@ -23,13 +23,13 @@ use Rattle.std.proofs.Common.{
 use Rattle.std.proofs.lemmas.List.{get_or-map}
 use Rattle.std.proofs.Math.ListN.{length-map}
 use Rattle.crew_pool.specs.declared.forked.Slot.{Slot}
-use Rattle.crew_pool.specs.Tasks.{EachReady, AnswersTo, EachAnswers}
+use Rattle.crew_pool.specs.Tasks.{EachAt, AnswersTo}
 use Rattle.crew_pool.specs.Slots.{slot_with, answer_in, EachSlotReady, EachSlotAnswers}
 
 -- ---- slot_with
 
 -- an item that is ready is so in its slot
-slot_with-ready : {X Y : Type 0} (ready : ℕ → X → Type 0) (xs : List X) → EachReady ready xs
+slot_with-ready : {X Y : Type 0} (ready : ℕ → X → Type 0) (xs : List X) → EachAt ready xs
     → (i : ℕ) (d : Slot X Y) → i < length xs → IfSome (slice_index_or (map slot_with xs) i d).item (λ x. ready i x)
 slot_with-ready ready [] each i d less = absurd (omega (arith, less))
 slot_with-ready ready (x ∷ xs) each zero d less = each zero x less
@@ -41,7 +41,7 @@ slot_with-ready {X} {Y} ready (x ∷ xs) each (suc i) d less =
 
 -- slots that hold items that are ready are ready
 pub EachSlotReady-filled : {X Y : Type 0} (ready : ℕ → X → Type 0) (items : List X) (slots : List (Slot X Y))
-    → slots ≡ map slot_with items → EachReady ready items → EachSlotReady ready slots
+    → slots ≡ map slot_with items → EachAt ready items → EachSlotReady ready slots
 EachSlotReady-filled {X} {Y} ready items slots filled each =
     let below = length-map items (slot_with {X = X} {Y = Y}) in
     subst (λ l. EachSlotReady ready l) (sym filled)
@@ -64,14 +64,14 @@ slots_count {X} {Y} items olds news ys filled same taken =
       length-map ys (λ (y : Y). Some y),
     )
 
--- ---- EachAnswers
+-- ---- EachAt
 
 -- the answers of the slots are answers to the items that they held
-pub EachAnswers-slots : {X Y : Type 0} (answers : ℕ → X → Y → Type 0) (items : List X) (olds news : List (Slot X Y))
+pub EachAt-slots : {X Y : Type 0} (answers : ℕ → X → Y → Type 0) (items : List X) (olds news : List (Slot X Y))
     (ys : List Y)
     → olds ≡ map slot_with items → length news ≡ length olds → map answer_in news ≡ map Some ys
-    → EachSlotAnswers answers olds news → EachAnswers (AnswersTo answers items) ys
-EachAnswers-slots {X} {Y} answers items olds news ys filled same taken each i e less d =
+    → EachSlotAnswers answers olds news → EachAt (AnswersTo answers items) ys
+EachAt-slots {X} {Y} answers items olds news ys filled same taken each i e less d =
     let slot : Slot X Y = slot_with d in
     let many = slots_count items olds news ys filled same taken in
     let below : i < length items = omega (arith, less, many) in

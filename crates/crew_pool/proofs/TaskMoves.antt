@@ -21,7 +21,7 @@ use Rattle.std.proofs.lemmas.List.{get_or_default}
 use Rattle.crossbeam_deque.specs.Tasks.{Pushes, Takes, Forks, Merges, Finds}
 use Rattle.crew_pool.specs.declared.task_deque.SeatView.{SeatView}
 use Rattle.crew_pool.specs.Deque.{seat_view, NumbersOnce, IsComplete, numbers, IsItemAt, TasksOnce, TakesTasks}
-use Rattle.crew_pool.specs.Tasks.{EachReady, AnswersTo}
+use Rattle.crew_pool.specs.Tasks.{EachAt, AnswersTo}
 use Rattle.crew_pool.specs.declared.task_deque.TheConstants.{ALL_PARTS}
 use Rattle.crew_pool.proofs.DequeRule.{
   NumbersOnce-takes,
@@ -78,7 +78,7 @@ TasksOnce-finds items port v views h at = NumbersOnce-finds port v views h.0 at
 
 -- an item may be given to the task of its place
 pub IsItemAt-ready : {X : Type 0} (ready : ℕ → X → Type 0) (items : List X) (i : ℕ) (x : X)
-    → EachReady ready items → IsItemAt items i x → ready i x
+    → EachAt ready items → IsItemAt items i x → ready i x
 IsItemAt-ready ready items i x each is = subst (λ y. ready i y) (is.1 x) (each i x is.0)
 
 -- an answer to an item is an answer at its place

@@ -2,26 +2,22 @@
 use Rattle.std.specs.Prelude.{◌≡◌, ℕ, ◌+◌, ◌<◌, ◌≤◌, List, length, slice_index_or, sum_by}
 use Rattle.crew_pool.specs.declared.crew.TheConstants.{MOST_TASKS}
 
--- the item at each place may be given to the task of this number
-abbrev pub EachReady : {X : Type 0} → (ℕ → X → Type 0) → List X → Type 0
-EachReady {X} ready items = (i : ℕ) (d : X) → i < length items → ready i (slice_index_or items i d)
+-- each element is as its place asks
+abbrev pub EachAt : {X : Type 0} → (ℕ → X → Type 0) → List X → Type 0
+EachAt {X} asks xs = (i : ℕ) (d : X) → i < length xs → asks i (slice_index_or xs i d)
 
 -- an answer of a task to the item that stood at its place
 abbrev pub AnswersTo : {X Y : Type 0} → (ℕ → X → Y → Type 0) → List X → ℕ → Y → Type 0
 AnswersTo {X} answers items i out = (d : X) → answers i (slice_index_or items i d) out
 
--- the element at each place is an answer of the task of this number
-abbrev pub EachAnswers : {X : Type 0} → (ℕ → X → Type 0) → List X → Type 0
-EachAnswers {X} answers outs = (i : ℕ) (d : X) → i < length outs → answers i (slice_index_or outs i d)
-
 -- all tasks may be run on these items: no more than a call may have, each ready for the task of its place
 pub record MayRunAll {X : Type 0} (takes : ℕ → X → Type 0) (items : List X) : Type 0 where
   pub few : length items ≤ MOST_TASKS
-  pub ready : EachReady takes items
+  pub ready : EachAt takes items
 
 -- all tasks have run on these items: an answer for each, at its place, and the counter is on by what the answers cost
 pub record HaveRunAll {X Y : Type 0} (gives : ℕ → X → Y → Type 0) (cost_of : Y → ℕ) (items : List X) (before after : ℕ)
     (outs : List Y) : Type 0 where
   pub count : length outs ≡ length items
-  pub answers : EachAnswers (AnswersTo gives items) outs
+  pub answers : EachAt (AnswersTo gives items) outs
   pub cost : after ≡ before + sum_by cost_of outs

@@ -3,7 +3,7 @@ ghost use Rattle.std.specs.Prelude.{◌≡◌, ℕ, ◌+◌, ◌<◌, IfOk, OnOk
 ghost use Rattle.crossbeam_deque.specs.Handles.{view, IsPassOf, worker_deque, worker_view};
 ghost use Rattle.crew_pool.specs.Deque.{SameDeque, seat_view, numbers, EachPair};
 ghost use Rattle.crew_pool.specs.Deque.{occurrences, one_if_below, Without, HasTaken, IsEnd};
-ghost use Rattle.crew_pool.specs.Tasks.{AnswersTo, EachAnswers};
+ghost use Rattle.crew_pool.specs.Tasks.{AnswersTo, EachAt};
 
 use crate::lists::{add, add_all};
 use crate::task_deque::{Batch, OnePart, Owner, Seat};
@@ -95,7 +95,7 @@ pub(crate) fn sort_answers<W: Work, B: Batch<W::In>>(
     requires answers { EachPair (AnswersTo (W.answers work.now) B.items) pairs.items }
     requires once { (x : ℕ) → occurrences x (numbers pairs.items) ≡ one_if_below x tasks }
     ensures count { IfOk result (λ outs. length outs.items ≡ tasks) }
-    ensures answers { IfOk result (λ outs. EachAnswers (AnswersTo (W.answers work.now) B.items) outs.items) }
+    ensures answers { IfOk result (λ outs. EachAt (AnswersTo (W.answers work.now) B.items) outs.items) }
 {
     let mut outs = Vec::with_capacity(alloc, pairs.len())?;
     for i in 0..tasks {

@@ -24,10 +24,10 @@
 //! they then run in the caller. Where a task is out of memory, so is the call, once every worker has ended; the items
 //! are gone.
 //!
-//! The promise that it carries: **the same answers for every number of workers and every order of stealing**. One
-//! contract, that of [`Crew::all`], holds for all crews, and neither the workers nor the order of tasks occur in it.
-//! A [`Gate`] is called before each task, and before each call of an analyst in a live study; tests hold threads with
-//! it. No contract says how fast a crew is, or that two workers ever run at the same time.
+//! The promise that it carries: **an answer to each item at its place, for every number of workers and every order
+//! of stealing**. One contract, that of [`Crew::all`], holds for all crews, and neither the workers nor the order of
+//! tasks occur in it. A [`Gate`] is called before each task, and before each call of an analyst in a live study; tests
+//! hold threads with it. No contract says how fast a crew is, or that two workers ever run at the same time.
 #![tactic(auto)]
 
 pub mod crew;

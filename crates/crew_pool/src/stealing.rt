@@ -3,7 +3,7 @@ ghost use Rattle.std.specs.Prelude.{◌≡◌, ◌+◌, ◌-◌, ◌<◌, ◌≤
 ghost use Rattle.crossbeam_deque.specs.Handles.{worker_deque, stealer_deque, worker_view, worker_flavor};
 ghost use Rattle.crew_pool.specs.Deque.{SameDeque, seat_view, view_after, numbers, EachPair};
 ghost use Rattle.crew_pool.specs.Deque.{IsItemAt, IsOwner, HasTaken, IsComplete, IsStart, IsEnd};
-ghost use Rattle.crew_pool.specs.Tasks.{EachReady, AnswersTo, EachAnswers, MayRunAll, HaveRunAll};
+ghost use Rattle.crew_pool.specs.Tasks.{EachAt, AnswersTo, MayRunAll, HaveRunAll};
 ghost use Rattle.crew_pool.specs.declared.crew.TheConstants.{MOST_TASKS};
 ghost use Rattle.crew_pool.specs.declared.task_deque.TheConstants.{ALL_PARTS};
 ghost use Rattle.crew_pool.specs.declared.workers.TheConstants.{MOST_WORKERS};
@@ -68,7 +68,7 @@ fn run_owner<W: Work, B: Batch<W::In>, G: Gate, R: Wait>(
     gate: &G,
     mut owner: Owner<W::In, B>,
 ) -> (Owner<W::In, B>, NumberedAnswers<W::Out>)
-    requires ready { EachReady (W.ready work.now) B.items }
+    requires ready { EachAt (W.ready work.now) B.items }
     requires owner { IsOwner (length B.items) owner }
     ensures same { (worker_deque result.0 ≡ worker_deque owner) × (worker_flavor result.0 ≡ 0) }
     ensures done { IfOk result.1 (λ outs.
@@ -99,7 +99,7 @@ fn run_thief<W: Work, B: Batch<W::In>, G: Gate, R: Wait>(
     thief: &Thief<W::In, B>,
     mut seat: Seat<W::In>,
 ) -> (Seat<W::In>, NumberedAnswers<W::Out>)
-    requires ready { EachReady (W.ready work.now) B.items }
+    requires ready { EachAt (W.ready work.now) B.items }
     requires start { IsStart (length B.items) (stealer_deque thief.now) seat }
     ensures end { IsEnd (AnswersTo (W.answers work.now) B.items) (length B.items) (stealer_deque thief.now) result }
 {
@@ -137,7 +137,7 @@ fn run_thieves<W: Work, B: Batch<W::In>, G: Gate, R: Threads + Wait + Sync>(
     thief: &Thief<W::In, B>,
     starts: Vec<ThiefStart<W::In>>,
 ) -> Result<Vec<(Seat<W::In>, NumberedAnswers<W::Out>)>, NoMemory>
-    requires ready { EachReady (W.ready work.now) B.items }
+    requires ready { EachAt (W.ready work.now) B.items }
     requires starts { All (λ s. IsStart (length B.items) (stealer_deque thief.now) s.seat) starts.items }
     ensures count { IfOk result (λ ends. length ends.items ≡ length starts.items) }
     ensures each { IfOk result (λ ends.
@@ -147,7 +147,7 @@ fn run_thieves<W: Work, B: Batch<W::In>, G: Gate, R: Threads + Wait + Sync>(
         rt,
         starts,
         &|start: ThiefStart<W::In>| -> (Seat<W::In>, NumberedAnswers<W::Out>)
-            requires { EachReady (W.ready work.now) B.items
+            requires { EachAt (W.ready work.now) B.items
                 × IsStart (length B.items) (stealer_deque thief.now) start.seat }
             ensures { IsEnd (AnswersTo (W.answers work.entry.now) B.items) (length B.items)
                 (stealer_deque thief.entry.now) result }
@@ -173,7 +173,7 @@ fn run_workers<W: Work, B: Batch<W::In>, G: Gate, R: Threads + Wait + Sync>(
     NumberedAnswers<W::Out>,
     Result<Vec<(Seat<W::In>, NumberedAnswers<W::Out>)>, NoMemory>,
 )
-    requires ready { EachReady (W.ready work.now) B.items }
+    requires ready { EachAt (W.ready work.now) B.items }
     requires owner { IsOwner (length B.items) owner }
     requires starts { All (λ s. IsStart (length B.items) (stealer_deque thief.now) s.seat) starts.items }
     ensures same { (worker_deque result.0 ≡ worker_deque owner) × (worker_flavor result.0 ≡ 0) }
@@ -187,7 +187,7 @@ fn run_workers<W: Work, B: Batch<W::In>, G: Gate, R: Threads + Wait + Sync>(
     let ((owner, own), ends) = thread::join(
         rt,
         move || -> (Owner<W::In, B>, NumberedAnswers<W::Out>)
-            requires { EachReady (W.ready work.now) B.items × IsOwner (length B.items) owner }
+            requires { EachAt (W.ready work.now) B.items × IsOwner (length B.items) owner }
             ensures { (worker_deque result.0 ≡ worker_deque owner)
                 × (worker_flavor result.0 ≡ 0)
                 × IfOk result.1 (λ outs.
@@ -195,7 +195,7 @@ fn run_workers<W: Work, B: Batch<W::In>, G: Gate, R: Threads + Wait + Sync>(
                 × EachPair (AnswersTo (W.answers work.entry.now) B.items) outs.items) }
         { run_owner::<W, B, G, R>(rt, alloc, work, gate, owner) },
         move || -> Result<Vec<(Seat<W::In>, NumberedAnswers<W::Out>)>, NoMemory>
-            requires { EachReady (W.ready work.now) B.items
+            requires { EachAt (W.ready work.now) B.items
                 × All (λ s. IsStart (length B.items) (stealer_deque thief.now) s.seat) starts.items }
             ensures { IfOk result (λ ends.
                 (length ends.items ≡ length starts.items)
@@ -240,7 +240,7 @@ fn gather<W: Work, B: Batch<W::In>, G: Gate, R: Wait>(
 ) -> Result<Vec<W::Out>, NoMemory>
     // what it asks: as many tasks as items, and each item ready for its task
     requires tasks { tasks ≡ length B.items }
-    requires ready { EachReady (W.ready work.now) B.items }
+    requires ready { EachAt (W.ready work.now) B.items }
     // all parts of one deque, the owner's and one for each thief; `all` has an answer of each task that the owner has
     // taken, and each end of those that its thief has, unless that was out of memory
     requires each { All (IsEnd (AnswersTo (W.answers work.now) B.items) (worker_view owner).dealt
@@ -250,7 +250,7 @@ fn gather<W: Work, B: Batch<W::In>, G: Gate, R: Wait>(
     requires every_part { (worker_view owner).parts + length ends.items ≡ ALL_PARTS }
     // what it gives: an answer of each task to its item, in the order of the tasks
     ensures count { IfOk result (λ outs. length outs.items ≡ length B.items) }
-    ensures answers { IfOk result (λ outs. EachAnswers (AnswersTo (W.answers work.now) B.items) outs.items) }
+    ensures answers { IfOk result (λ outs. EachAt (AnswersTo (W.answers work.now) B.items) outs.items) }
 {
     absorb_all::<W, B>(work, &mut owner, &mut all, ends)?;
     let (_owner, rest) = run_owner::<W, B, G, R>(rt, alloc, work, gate, owner);
@@ -271,7 +271,7 @@ fn run_batch<W: Work, B: Batch<W::In>, G: Gate, L: Ledger, R: Threads + Wait + S
 ) -> Result<Vec<W::Out>, NoMemory>
     requires batch { B.items ≡ items.items }
     requires few { length items.items ≤ MOST_TASKS }
-    requires ready { EachReady (W.ready work.now) B.items }
+    requires ready { EachAt (W.ready work.now) B.items }
     ensures have_run { IfOk result (λ outs. HaveRunAll (W.answers work.now) W.cost B.items steps.old steps.new
         outs.items) }
 {

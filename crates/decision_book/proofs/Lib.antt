@@ -8,3 +8,4 @@ pub mod AloneLaw
 pub mod OwnScripts
 pub mod Fulls
 pub mod JournalScripts
+pub mod RunExample

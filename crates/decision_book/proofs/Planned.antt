@@ -7,7 +7,7 @@ use Rattle.sim_base.specs.declared.decision.Planned.{Planned}
 use Rattle.sim_base.specs.Clones.{Clone, clone_at, clones_with_fork, clones_with_plan, clones_with_end, fork_of}
 use Rattle.sim_base.specs.Clones.{with_plan}
 use Rattle.sim_base.specs.declared.lists.TheConstants.{MOST_CLONES, MOST_DECISIONS}
-use Rattle.sim_base.proofs.ListLaws.{all_push, all_set}
+use Rattle.sim_base.proofs.ListLaws.{all_push, all_set, all_weaker}
 use Rattle.std.specs.Str.{bytes_eq}
 use Rattle.sim_base.specs.declared.message.Change.{Change}
 use Rattle.net_model.specs.Net.{Net, HasStation, station_named, site_of}
@@ -91,13 +91,8 @@ plan_taken net at s station change u number last taken early = record {
 
 -- ---- PlansAreForStations
 
--- the sets of a planned list are for stations that are there
-for_stations : (net : Net) (plans : List Planned) → AllByRecursion (IsPlan net) plans
-    → AllByRecursion (λ p. HasStation net p.station) plans
-for_stations net [] h = tt
-for_stations net (p ∷ ps) h = (h.0.is_station, for_stations net ps h.1)
-
 -- each set in a planned clone's list is for a station that is there
 pub plans_are_for_stations : (net : Net) → PlansAreForStations net
 plans_are_for_stations net clones c h = let one = planned_at net clones c h.each in
-    for_stations net (clone_at clones c).plans one.plans
+    all_weaker (IsPlan net) (λ (p : Planned). HasStation net p.station) (clone_at clones c).plans
+    (λ p is. is.is_station) one.plans

@@ -26,19 +26,27 @@ roomier who at = Set who at (codes "desk") (record { param = Room; a = 9; b = 0 
 abbrev pub call : ℕ → ℕ → Decision → Reply → Event
 call caller fronts d reply = NewCall (record { caller = caller; fronts = fronts; decision = d; reply = reply })
 
--- three calls at front 10, and one at the horizon
-abbrev pub during_a_run : List Event
-during_a_run =
+-- three calls at front 10, then this front and three more, and a call at the horizon
+abbrev pub raised_to : ℕ → List Event
+raised_to front =
     NewFront 5 ∷ NewFront 7 ∷ NewFront 10
     ∷ call 1 3 (branch (codes "fast")) Accepted
     ∷ call 1 3 (faster (codes "fast") 10) Accepted
     ∷ call 2 3 (faster (codes "fast") 9) (Late 10)
-    ∷ NewFront 13 ∷ NewFront 15 ∷ NewFront 17 ∷ NewFront 20
+    ∷ NewFront front ∷ NewFront 15 ∷ NewFront 17 ∷ NewFront 20
     ∷ call 1 7 (branch (codes "x")) Closed ∷ []
+
+-- the set waits at 10 and the lookahead is 2, so the front behind 10 is 12
+abbrev pub during_a_run : List Event
+during_a_run = raised_to 12
 
 -- the clones that this leaves
 abbrev pub clones_of_the_run : List Clone
 clones_of_the_run = base ∷ record { name = codes "fast"; plans = set_at 10 desk Service 2 2 ∷ []; end = None } ∷ []
+
+-- a set at 9 that is accepted at front 10
+abbrev pub late_set_accepted : List Event
+late_set_accepted = NewFront 10 ∷ call 1 1 (faster (codes "base") 9) Accepted ∷ []
 
 -- a fork takes over a set that is not due yet, and the two go separate ways from there
 abbrev pub script : List Decision

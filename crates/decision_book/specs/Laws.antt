@@ -14,7 +14,7 @@ use Rattle.decision_book.specs.Journal.{Event, NewCall, outset, clones_after, af
 use Rattle.decision_book.specs.Plans.{ArePlanned}
 use Rattle.decision_book.specs.Replies.{reply}
 use Rattle.decision_book.specs.Right.{journal_with, IsRight}
-use Rattle.decision_book.specs.Scripts.{Question, journal_of_script, script_of, after_decision}
+use Rattle.decision_book.specs.Scripts.{Question, journal_of_script, accepted_decisions, after_decision}
 use Rattle.decision_book.specs.Scripts.{after_all, lists_of, first_refusal, first_refusal_from}
 
 -- the front after a journal is its last one, or 0, and the number of calls is how many it has
@@ -95,9 +95,9 @@ OwnScriptSuffices net = (who : List ℕ) (s : ScriptView) → first_refusal net 
 -- the accepted decisions of a journal, as a script
 pub record IsItsScript (net : Net) (events : List Event) : Type 0 where
   -- are all accepted before the simulation begins
-  pub accepted : first_refusal net (script_of events) ≡ None
+  pub accepted : first_refusal net (accepted_decisions events) ≡ None
   -- and leave the same clones
-  pub lists : lists_of net (script_of events) ≡ (after net events).clones
+  pub lists : lists_of net (accepted_decisions events) ≡ (after net events).clones
 
 -- so it is of each right journal
 abbrev pub JournalIsScript : Net → Type 0

@@ -65,5 +65,5 @@ accepted_of [] = []
 accepted_of (c ∷ cs) = accepted_onto c.reply c (accepted_of cs)
 
 -- the accepted decisions of a journal, in order
-abbrev pub script_of : List Event → List Decision
-script_of events = map (λ c. c.decision) (accepted_of (calls_of events))
+abbrev pub accepted_decisions : List Event → List Decision
+accepted_decisions events = map (λ c. c.decision) (accepted_of (calls_of events))

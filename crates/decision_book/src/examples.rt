@@ -2,20 +2,37 @@
 //!
 //! The decisions, and the clones that are expected, stand in `specs/Examples.antt`. Each function's
 //! contract is a theorem; there is nothing to run.
-ghost use Rattle.std.specs.Prelude.{◌≡◌, Some, None, codes};
+ghost use Rattle.std.specs.Prelude.{◌≡◌, ◌∷◌, [], Some, None, codes};
+ghost use Rattle.sim_base.specs.declared.lists.TheConstants.{MOST_CLONES, MOST_DECISIONS};
 ghost use Rattle.stations.specs.Examples.OneDesk.{one_desk};
 ghost use Rattle.decision_script.specs.Alone.{alone};
-ghost use Rattle.decision_book.specs.Examples.{during_a_run, clones_of_the_run, script};
+ghost use Rattle.decision_book.specs.Examples.{during_a_run, clones_of_the_run, late_set_accepted, script};
 ghost use Rattle.decision_book.specs.Examples.{clones_of_the_script, script_of_b, refused_script};
-ghost use Rattle.decision_book.specs.Journal.{after};
+ghost use Rattle.decision_book.specs.Journal.{NewFront, after};
 ghost use Rattle.decision_book.specs.Right.{IsRight};
 ghost use Rattle.decision_book.specs.Scripts.{lists_of, first_refusal};
+ghost use Rattle.decision_book.specs.declared.call.TheConstants.{MOST_CALLS};
 ghost use Rattle.decision_book.specs.declared.call.Reply.TheVariants.{UnknownClone};
+
+/// The limits of what a journal and its lists hold, in numbers.
+pub fn limits_in_numbers()
+    ensures clones { MOST_CLONES ≡ 256 }
+    ensures decisions { MOST_DECISIONS ≡ 256 }
+    ensures calls { MOST_CALLS ≡ 4096 }
+{}
 
 /// At front 10 a set at 10 is accepted and a set at 9 is late, and at the horizon nothing is accepted.
 pub fn decisions_during_a_run()
     ensures right { IsRight one_desk during_a_run }
     ensures clones { (after one_desk during_a_run).clones ≡ clones_of_the_run }
+{}
+
+/// Journals that are not right: a front that comes twice, one beyond the horizon, and a set at 9 that is accepted at
+/// front 10.
+pub fn wrong_journals()
+    ensures twice { ¬ IsRight one_desk (NewFront 5 ∷ NewFront 5 ∷ []) }
+    ensures beyond { ¬ IsRight one_desk (NewFront 21 ∷ []) }
+    ensures late { ¬ IsRight one_desk late_set_accepted }
 {}
 
 /// A fork takes over a set that is not due yet, and the clones go separate ways from there.

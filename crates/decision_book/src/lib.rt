@@ -1,7 +1,7 @@
 //! The book of decisions: what analysts decided, the replies that they had, and the decision lists that this
 //! leaves.
 //!
-//! A decision is made at a *front*: all messages with a time below it are handled, so a change may still come
+//! A decision is made at a *front*: what comes before it is fixed, so a change may still come
 //! at the front itself or later. The book keeps the journal of a simulation, which is its calls and its fronts
 //! in order, and what the clones have after it:
 //!
@@ -14,7 +14,7 @@
 //!
 //! ```text
 //! let mut book = Book::begin(alloc, model)?;
-//! book.advance(10)?;                             // a window ended at front 10
+//! book.advance(10)?;                             // the window up to 10 begins
 //! let reply = book.decide(1, decision);          // Accepted, or why not
 //! let clones = book.lists();                     // what to simulate from here on
 //! ```

@@ -363,11 +363,13 @@ pub is_helm_turn : (old new : BookView) (known : ℕ) (turn : Turn) (helm : List
 is_helm_turn old new known turn helm cs is count a then =
     let p = helm_and_calls_at old.events helm cs known is count in
     record {
-      fresh = a.fresh_is ∙ ap accepted_of p.1;
-      front = a.front_is ∙ ap (λ (h : List Event). next_front (simulation old.net) (after old.net old.events).clones
-          (front_of h)) p.0;
-      above = a.above;
-      within = a.within;
-      right = a.right;
+      over = record {
+        fresh = a.fresh_is ∙ ap accepted_of p.1;
+        front = a.front_is ∙ ap (λ (h : List Event). next_front (simulation old.net) (after old.net old.events).clones
+            (front_of h)) p.0;
+        above = a.above;
+        within = a.within;
+        right = a.right;
+      };
       new_is = then;
     }

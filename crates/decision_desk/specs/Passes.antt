@@ -251,24 +251,24 @@ pub record IsTurnAhead (book : BookView) (helm : List Event) (cs fresh : List Ca
   pub within : front ≤ book.net.horizon
   pub right : IsRight book.net book.events
 
+-- what a turn of the helm gives over these events: the accepted ones of the calls since its last, and the next front
+pub record IsTurnOver (net : Net) (events helm : List Event) (cs : List Call) (turn : Turn) : Type 0 where
+  pub fresh : turn.fresh.items ≡ accepted_of cs
+  pub front : turn.front ≡ next_front net (after net events).clones (front_of helm)
+  pub above : front_of events < turn.front
+  pub within : turn.front ≤ net.horizon
+  -- so each accepted set or end has a time at least the front
+  pub right : IsRight net events
+
 -- a turn of the helm over the book
 pub record IsHelmTurn (old : BookView) (helm : List Event) (cs : List Call) (turn : Turn) (new : BookView) :
     Type 0 where
-  pub fresh : turn.fresh.items ≡ accepted_of cs
-  pub front : turn.front ≡ next_front old.net (after old.net old.events).clones (front_of helm)
-  pub above : front_of old.events < turn.front
-  pub within : turn.front ≤ old.net.horizon
-  pub right : IsRight old.net old.events
+  pub over : IsTurnOver old.net old.events helm cs turn
   pub new_is : new ≡ record old { events = old.events ++ NewFront turn.front ∷ [] }
 
 -- a turn of the helm, behind the events j: only calls were made since its last, and the front is the next one
 pub record IsNextTurn (old : HelmView) (turn : Turn) (new : HelmView) (cs : List Call) : Type 0 where
-  pub fresh : turn.fresh.items ≡ accepted_of cs
-  pub front : turn.front ≡ next_front old.net (after old.net (old.helm ++ map NewCall cs)).clones (front_of old.helm)
-  pub above : front_of (old.helm ++ map NewCall cs) < turn.front
-  pub within : turn.front ≤ old.net.horizon
-  -- so each accepted set or end has a time at least the front
-  pub right : IsRight old.net (old.helm ++ map NewCall cs)
+  pub over : IsTurnOver old.net (old.helm ++ map NewCall cs) old.helm cs turn
   pub new_is : new ≡ record old {
     seen = (old.helm ++ map NewCall cs) ++ NewFront turn.front ∷ [];
     helm = (old.helm ++ map NewCall cs) ++ NewFront turn.front ∷ [];

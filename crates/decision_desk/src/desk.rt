@@ -35,6 +35,8 @@ pub struct Desk {
 }
 
 impl Desk {
+    ghost use Rattle.decision_desk.specs.Desks.{desk_id};
+
     /// A desk with an empty book, a pass for each analyst, with memory reserved for all its receipts, and the helm.
     pub fn begin(
         alloc: Global,
@@ -43,10 +45,8 @@ impl Desk {
     ) -> Result<(Desk, Vec<Pass>, Helm), NoMemory>
         requires some { 1 ≤ analysts }
         requires few { analysts ≤ MOST_PASSES }
-        ensures passes { IfOk result (λ r.
-            r.1.items ≡ new_passes r.0.table.shared.table_id model.value analysts) }
-        ensures helm { IfOk result (λ r.
-            r.2 ≡ new_helm r.0.table.shared.table_id model.value analysts) }
+        ensures passes { IfOk result (λ r. r.1.items ≡ new_passes (desk_id r.0) model.value analysts) }
+        ensures helm { IfOk result (λ r. r.2 ≡ new_helm (desk_id r.0) model.value analysts) }
     {
         let (desk, mut helm) = Desk::open(alloc, model)?;
         let mut passes = Vec::with_capacity(alloc, analysts as usize)?;
@@ -59,7 +59,7 @@ impl Desk {
 
     // A desk with an empty book, and no passes.
     fn open(alloc: Global, model: Arc<Model>) -> Result<(Desk, Helm), NoMemory>
-        ensures value { IfOk result (λ r. r.1 ≡ new_helm r.0.table.shared.table_id model.value 0) }
+        ensures value { IfOk result (λ r. r.1 ≡ new_helm (desk_id r.0) model.value 0) }
     {
         let mut slots = Vec::with_capacity(alloc, 1)?;
         let about = Arc::try_clone(&model)?;
@@ -81,7 +81,7 @@ impl Desk {
 
     // A pass for the next caller, with memory reserved for all its receipts.
     fn make_pass(&self, alloc: Global, helm: &mut Helm) -> Result<Pass, NoMemory>
-        requires desk { helm.old.desk ≡ self.now.table.shared.table_id }
+        requires desk { helm.old.desk ≡ desk_id self.now }
         requires parts { 1 < helm.old.parts }
         requires few { helm.old.made < MOST_PASSES }
         ensures pass { IfOk result (λ p. p ≡ record {
@@ -108,8 +108,8 @@ impl Desk {
 
     // Takes a pass in.
     fn absorb(&self, helm: &mut Helm, pass: Pass)
-        requires helm { helm.old.desk ≡ self.now.table.shared.table_id }
-        requires pass { pass.desk ≡ self.now.table.shared.table_id }
+        requires helm { helm.old.desk ≡ desk_id self.now }
+        requires pass { pass.desk ≡ desk_id self.now }
         ensures helm { helm.new ≡ record helm.old {
           parts = helm.old.parts + 1;
           accounts = helm.old.accounts ++ pass.account ∷ [];
@@ -125,7 +125,7 @@ impl Desk {
 
     /// Asks a decision in its turn. It may wait, and takes no memory.
     pub fn decide<R: Wait>(&self, rt: &R, pass: &mut Pass, d: Decision) -> Receipt
-        requires desk { pass.old.desk ≡ self.now.table.shared.table_id }
+        requires desk { pass.old.desk ≡ desk_id self.now }
         ensures asked { (j : List Event) × IsAsked pass.old d result pass.new j }
     {
         let Pass {
@@ -144,7 +144,7 @@ impl Desk {
 
     /// The front. It waits for nobody, and takes no memory.
     pub fn front(&self, pass: &mut Pass) -> u64
-        requires desk { pass.old.desk ≡ self.now.table.shared.table_id }
+        requires desk { pass.old.desk ≡ desk_id self.now }
         ensures rises { front_of pass.old.seen ≤ result }
         ensures seen { (j : List Event) × IsPrefix pass.old.seen j
             × (result ≡ front_of j) × (pass.new ≡ pass_after_look pass.old j) }
@@ -154,7 +154,7 @@ impl Desk {
 
     /// The front, where it is beyond this time. It waits for nobody, and takes no memory.
     pub fn is_late(&self, pass: &mut Pass, time: u64) -> Option<u64>
-        requires desk { pass.old.desk ≡ self.now.table.shared.table_id }
+        requires desk { pass.old.desk ≡ desk_id self.now }
         ensures rises { (f : ℕ) → result ≡ Some f → front_of pass.old.seen ≤ f }
         ensures late { (j : List Event) × IsPrefix pass.old.seen j
             × (result ≡ late_front (front_of j) time) × (pass.new ≡ pass_after_look pass.old j) }
@@ -165,8 +165,8 @@ impl Desk {
 
     // Takes all passes in.
     fn absorb_all(&self, helm: &mut Helm, passes: Vec<Pass>)
-        requires helm { helm.old.desk ≡ self.now.table.shared.table_id }
-        requires passes { All (λ p. p.desk ≡ self.now.table.shared.table_id) passes.items }
+        requires helm { helm.old.desk ≡ desk_id self.now }
+        requires passes { All (λ p. p.desk ≡ desk_id self.now) passes.items }
         ensures helm { helm.new ≡ record helm.old {
           parts = helm.old.parts + length passes.items;
           accounts = helm.old.accounts ++ map (λ p. p.account) passes.items;
@@ -179,8 +179,8 @@ impl Desk {
 
     /// The book, once all passes are handed back. It takes no memory.
     pub fn close(self, passes: Vec<Pass>, helm: Helm) -> LegalBook
-        requires desk { helm.desk ≡ self.table.shared.table_id }
-        requires passes { All (λ p. p.desk ≡ self.table.shared.table_id) passes.items }
+        requires desk { helm.desk ≡ desk_id self }
+        requires passes { All (λ p. p.desk ≡ desk_id self) passes.items }
         requires whole { helm.parts + length passes.items ≡ ALL_PARTS }
         ensures closed { IsFinalBook (record helm {
           parts = ALL_PARTS;
@@ -194,7 +194,7 @@ impl Desk {
 
     // The book, once the helm has every part.
     fn take_book(self, helm: Helm) -> LegalBook
-        requires desk { helm.desk ≡ self.table.shared.table_id }
+        requires desk { helm.desk ≡ desk_id self }
         requires whole { helm.parts ≡ ALL_PARTS }
         ensures closed { IsFinalBook helm result }
     {

@@ -5,6 +5,7 @@ ghost use Rattle.decision_book.specs.declared.call.Call.{Call};
 ghost use Rattle.decision_desk.specs.Turns.{IsSeatOf, seen_book, helm_view};
 ghost use Rattle.decision_desk.specs.Passes.{IsHelmAtRest, IsHelmInTurn, HelmHasTurn, IsNextTurn, IsMissedTurn};
 ghost use Rattle.decision_desk.specs.Leasts.{leasts_of};
+ghost use Rattle.decision_desk.specs.Desks.{desk_id};
 
 use crate::desk::Desk;
 use crate::legal::LegalBook;
@@ -113,7 +114,7 @@ impl Helm {
         desk: &Desk,
         least: &[Option<u64>],
     ) -> Result<Turn, NoMemory>
-        requires desk { self.old.desk ≡ desk.now.table.shared.table_id }
+        requires desk { self.old.desk ≡ desk_id desk.now }
         requires below { front_of self.old.helm < self.old.net.horizon }
         requires least { least.now ≡ leasts_of self.old.net (after self.old.net self.old.helm).clones
             (front_of self.old.helm) }

@@ -31,6 +31,7 @@
 #![tactic(auto)]
 
 pub mod desk;
+pub mod examples;
 pub mod helm;
 pub mod legal;
 mod next_front;

@@ -1,9 +1,10 @@
 //! Passes: what an analyst asks the desk with.
-ghost use Rattle.std.specs.Prelude.{◌≡◌, ◌++◌, ◌∷◌, [], List, ◌<◌, length, None};
+ghost use Rattle.std.specs.Prelude.{◌≡◌, ◌++◌, ◌∷◌, [], List, ◌<◌, length, map, None};
 ghost use Rattle.decision_book.specs.declared.call.TheConstants.{MOST_CALLS};
 ghost use Rattle.decision_book.specs.Journal.{Event, NewCall, calls_of};
 ghost use Rattle.decision_desk.specs.Turns.{IsSeatOf, book_of, seen_book, pass_view, with_call, full_account};
-ghost use Rattle.decision_desk.specs.Passes.{IsPassAtRest, IsPassInTurn, PassHasTurn, IsPassTurn, first_account};
+ghost use Rattle.decision_desk.specs.Passes.{IsPassAtRest, IsPassInTurn, PassHasTurn, IsPassTurn};
+ghost use Rattle.decision_desk.specs.Passes.{first_account, receipt_of};
 
 use crate::legal::LegalBook;
 use crate::turns::{Board, Chair, draw_ticket, end_full_turn, end_turn, raise_count, wait_turn};
@@ -40,6 +41,15 @@ impl Model for Pass {
     ghost view = { λ p. view_of_pass p.seat.table_id p.seat.me.0 };
 
     ghost invariant = { λ p. IsPass p.caller p.receipts p.seat.table_id p.seat.me };
+}
+
+impl Pass {
+    /// The receipts of its calls that are in the journal, in order.
+    pub fn receipts(&self) -> &[Receipt]
+        ensures value { result.now ≡ map receipt_of self.now.account.calls }
+    {
+        self.receipts.as_slice()
+    }
 }
 
 /// Takes the book out of the slot.

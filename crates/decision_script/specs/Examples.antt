@@ -9,8 +9,8 @@ use Rattle.decision_script.specs.declared.item.Item.{Item}
 use Rattle.decision_script.specs.Stating.{ScriptView}
 
 -- lines that end with a line feed each
-abbrev pub text_of : List (List ℕ) → List ℕ
-text_of ls = flat_map (λ l. l ++ 10 ∷ []) ls
+abbrev pub text_of_lines : List (List ℕ) → List ℕ
+text_of_lines ls = flat_map (λ l. l ++ 10 ∷ []) ls
 
 -- an item: the act of this analyst in this line
 abbrev pub item_at : ℕ → ℕ → Act → Item
@@ -22,7 +22,7 @@ set_service who at a b = Decide (Set who at (codes "desk") (record { param = Ser
 
 -- two clones of the base, of which each gets a faster desk
 abbrev pub two_clones_text : List ℕ
-two_clones_text = text_of (codes "fork a from base" ∷ codes "fork b from base" ∷ codes
+two_clones_text = text_of_lines (codes "fork a from base" ∷ codes "fork b from base" ∷ codes
     "set a at 8 desk service 2 2" ∷ codes "set b at 8 desk service 2 2" ∷ [])
 
 -- the script that it states
@@ -37,11 +37,11 @@ two_clones = record {
 
 -- what of it reaches the second clone
 abbrev pub b_alone_text : List ℕ
-b_alone_text = text_of (codes "fork b from base" ∷ codes "set b at 8 desk service 2 2" ∷ [])
+b_alone_text = text_of_lines (codes "fork b from base" ∷ codes "set b at 8 desk service 2 2" ∷ [])
 
 -- a clone of a clone: it takes over what was decided for the first before the fork
 abbrev pub clone_of_clone_text : List ℕ
-clone_of_clone_text = text_of (codes "fork a from base" ∷ codes "set a at 8 desk service 2 2" ∷ codes
+clone_of_clone_text = text_of_lines (codes "fork a from base" ∷ codes "set a at 8 desk service 2 2" ∷ codes
     "fork b from a" ∷ codes "set a at 9 desk service 3 3" ∷ codes "look b desk" ∷ codes "end b at 12" ∷ [])
 
 -- the script that it states, with a look among the items
@@ -58,12 +58,12 @@ clone_of_clone = record {
 
 -- what of it reaches the second clone: neither the later set of the first nor the look
 abbrev pub clone_of_clone_alone_text : List ℕ
-clone_of_clone_alone_text = text_of
+clone_of_clone_alone_text = text_of_lines
     (codes "fork a from base" ∷ codes "set a at 8 desk service 2 2" ∷ codes "fork b from a" ∷ codes "end b at 12" ∷ [])
 
 -- two analysts, and a comment
 abbrev pub two_planners_text : List ℕ
-two_planners_text = text_of (codes "# two planners" ∷ codes "fork fast from base" ∷ codes "analyst ben" ∷ codes
+two_planners_text = text_of_lines (codes "# two planners" ∷ codes "fork fast from base" ∷ codes "analyst ben" ∷ codes
     "look   fast desk" ∷ [])
 
 -- the script that it states: each item has its own analyst
@@ -76,7 +76,7 @@ two_planners = record {
 
 -- its canonical text: a section line at the top for the second analyst, and one before each item
 abbrev pub two_planners_canonical : List ℕ
-two_planners_canonical = text_of
+two_planners_canonical = text_of_lines
     (codes "analyst ben" ∷ codes "analyst main" ∷ codes "fork fast from base" ∷ codes "analyst ben" ∷ codes
     "look fast desk" ∷ [])
 
@@ -90,6 +90,13 @@ loose = record {
   analysts = codes "main" ∷ codes "ada" ∷ [];
   items = item_at 1 1 (Decide (Fork (codes "fast") (codes "base")))
       ∷ item_at 5 2 (Decide (Set (codes "fast") 8 (codes "desk") (record { param = Room; a = 7; b = 0 }))) ∷ [];
+}
+
+-- the script of one end, at the greatest number
+abbrev pub late_end : ScriptView
+late_end = record {
+  analysts = codes "main" ∷ [];
+  items = item_at 1 1 (Decide (End (codes "base") 4294967295)) ∷ [];
 }
 
 -- sections of so many analysts, `x1` and so on, with the last first

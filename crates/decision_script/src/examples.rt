@@ -4,15 +4,25 @@
 //! The texts stand in `specs/Examples.antt`. Each function's contract is a theorem; there is nothing
 //! to run.
 ghost use Rattle.std.specs.Prelude.{◌≡◌, ◌++◌, ◌∷◌, [], Ok, Err, codes};
+ghost use Rattle.sim_base.specs.declared.number.TheConstants.{MOST_DIGITS};
 ghost use Rattle.decision_script.specs.Alone.{alone_of};
 ghost use Rattle.decision_script.specs.Examples.{b_alone_text, clone_of_clone, clone_of_clone_alone_text};
-ghost use Rattle.decision_script.specs.Examples.{clone_of_clone_text, loose, loose_text};
+ghost use Rattle.decision_script.specs.Examples.{clone_of_clone_text, late_end, loose, loose_text};
 ghost use Rattle.decision_script.specs.Examples.{sections, two_clones, two_clones_text};
 ghost use Rattle.decision_script.specs.Examples.{two_planners, two_planners_canonical, two_planners_text};
 ghost use Rattle.decision_script.specs.Printing.{canonical_text};
 ghost use Rattle.decision_script.specs.Reading.{script};
+ghost use Rattle.decision_script.specs.declared.number.TheConstants.{MOST_NUMBER};
+ghost use Rattle.decision_script.specs.declared.script.TheConstants.{MOST_ITEMS};
 
 use crate::fault::ScriptFault;
+
+/// The limits of a script and of its numbers, in numbers.
+pub fn limits_in_numbers()
+    ensures items { MOST_ITEMS ≡ 4096 }
+    ensures digits { MOST_DIGITS ≡ 10 }
+    ensures number { MOST_NUMBER ≡ 4294967295 }
+{}
 
 /// Texts and the scripts that they state.
 pub fn texts_that_are_read()
@@ -20,6 +30,7 @@ pub fn texts_that_are_read()
     ensures again { script clone_of_clone_text ≡ Ok clone_of_clone }
     ensures planners { script two_planners_text ≡ Ok two_planners }
     ensures loose { script loose_text ≡ Ok loose }
+    ensures late { script (codes "end base at 4294967295") ≡ Ok late_end }
 {}
 
 /// Lines that are refused.

@@ -12,8 +12,8 @@
 //! ```
 //!
 //! A line is a decision (`fork`, `set`, `end`), a `look`, or the beginning of an analyst's section; before the
-//! first section the analyst is `main`. Words stand between blanks, `#` begins a comment. Numbers are whole
-//! numbers of 32 bits without a leading zero.
+//! first section the analyst is `main`. Words stand between blanks; a line whose first word begins with `#` is a
+//! comment. Numbers are whole numbers of 32 bits without a leading zero.
 //!
 //! ```text
 //! let script = read_script(alloc, text)?;       // or the first line with a fault, and which

@@ -91,7 +91,8 @@ fn push_end(out: &mut Vec<u8>, who: &Name, at: u64) -> Result<(), NoMemory>
     push_number(out, at)
 }
 
-/// Appends a decision, without the line feed.
+/// Appends a decision, without the line feed. Out of memory a part of it may have been appended, and the text is to be
+/// dropped.
 pub fn push_decision(out: &mut Vec<u8>, decision: &Decision) -> Result<(), NoMemory>
     ensures value { OnOk result (out.new.items ≡
         out.old.items ++ join_with_byte 32 (words_of_decision decision.now)) }

@@ -62,8 +62,8 @@ fn begin_desk(
 ) -> Result<(Desk, Vec<Pass>, Helm, Option<u64>), NoMemory>
     requires some { 1 ≤ analysts }
     requires few { analysts ≤ MOST_PASSES }
-    ensures passes { IfOk result (λ r. r.1.items ≡ new_passes r.0.table.shared.table_id r.2.net analysts) }
-    ensures helm { IfOk result (λ r. r.2 ≡ new_helm r.0.table.shared.table_id r.2.net analysts) }
+    ensures passes { IfOk result (λ r. r.1.items ≡ new_passes (desk_id r.0) r.2.net analysts) }
+    ensures helm { IfOk result (λ r. r.2 ≡ new_helm (desk_id r.0) r.2.net analysts) }
     ensures least { IfOk result (λ r. r.3 ≡ least_of (simulation r.2.net) base 0) }
     ensures horizon { IfOk result (λ r. 0 < r.2.net.horizon) }
 {
@@ -78,8 +78,8 @@ fn begin_desk(
 
 /// A desk of one analyst.
 fn begin_desk_alone(alloc: Global) -> Result<(Desk, Pass, Helm, Option<u64>), NoMemory>
-    ensures pass { IfOk result (λ r. r.1.desk ≡ r.0.table.shared.table_id) }
-    ensures helm { IfOk result (λ r. r.2 ≡ new_helm r.0.table.shared.table_id r.2.net 1) }
+    ensures pass { IfOk result (λ r. r.1.desk ≡ desk_id r.0) }
+    ensures helm { IfOk result (λ r. r.2 ≡ new_helm (desk_id r.0) r.2.net 1) }
     ensures least { IfOk result (λ r. r.3 ≡ least_of (simulation r.2.net) base 0) }
     ensures horizon { IfOk result (λ r. 0 < r.2.net.horizon) }
 {
@@ -226,17 +226,17 @@ fn is_late_by_another<R: Threads + Wait + Abort + Sync>(
 
 /// All passes ask for this, side by side, fifty times each.
 fn ask_all<R: Threads + Wait + Sync>(rt: &R, desk: &Desk, passes: &mut Vec<Pass>, d: &Decision)
-    requires desk { All (λ p. p.desk ≡ desk.now.table.shared.table_id) passes.old.items }
+    requires desk { All (λ p. p.desk ≡ desk_id desk.now) passes.old.items }
     ensures count { length passes.new.items ≡ length passes.old.items }
-    ensures desk { All (λ p. p.desk ≡ desk.now.table.shared.table_id) passes.new.items }
+    ensures desk { All (λ p. p.desk ≡ desk_id desk.now) passes.new.items }
 {
     thread::for_each_mut(
         rt,
         passes.as_mut_slice(),
         16,
         &|_i: usize, pass: &mut Pass|
-            requires { pass.old.desk ≡ desk.now.table.shared.table_id }
-            ensures { pass.exit.now.desk ≡ desk.entry.now.table.shared.table_id }
+            requires { pass.old.desk ≡ desk_id desk.now }
+            ensures { pass.exit.now.desk ≡ desk_id desk.entry.now }
         {
             ask(rt, desk, pass, d, 50);
         },

@@ -14,8 +14,8 @@ use std::marker::Brand;
 use std::sync::ledger::{Blank, Ledger};
 use std::test::Fail;
 use traces::{
-    by_arrival_trace, by_class_trace, drawn_gate_trace, fan_trace, fast_trace, more_servers_trace,
-    no_room_trace, one_desk_trace,
+    by_arrival_trace, by_class_trace, by_turn_trace, by_weights_trace, drawn_gate_trace,
+    fast_trace, more_servers_trace, no_room_trace, one_desk_trace,
 };
 
 /// A clone without a decision, or with one, that stands before anything is handled.
@@ -83,7 +83,7 @@ fn whole_models<L: Ledger>(alloc: Global, steps: &mut Steps<L>) -> bool {
         && comes_to(alloc, ONE_DESK, faster, &fast_trace(), steps)
         && comes_to(alloc, DRAWN_GATE, None, &drawn_gate_trace(), steps)
         && comes_to(alloc, NO_ROOM, None, &no_room_trace(), steps)
-        && comes_to(alloc, FAN_BY_TURN, None, &fan_trace(), steps)
+        && comes_to(alloc, FAN_BY_TURN, None, &by_turn_trace(), steps)
         && comes_to(alloc, CLASSES, None, &by_class_trace(), steps)
 }
 
@@ -129,7 +129,7 @@ const BY_ARRIVAL: Changed<'static> = Changed {
 /// Those whose models are others with one change.
 fn changed_models<L: Ledger>(alloc: Global, steps: &mut Steps<L>) -> bool {
     let more = plan(6, 4, Param::Servers, 3, 0);
-    changed_comes_to(alloc, &BY_WEIGHTS, None, &fan_trace(), steps)
+    changed_comes_to(alloc, &BY_WEIGHTS, None, &by_weights_trace(), steps)
         && changed_comes_to(alloc, &SOME_ROOM, more, &more_servers_trace(), steps)
         && changed_comes_to(alloc, &BY_ARRIVAL, None, &by_arrival_trace(), steps)
 }

@@ -11,8 +11,8 @@
 //! handling                    stations          sinks      sim_outer
 //! ```
 //!
-//! `counts` and `lines` are none of them: the tables of three modules are written with the one, and the decisions of
-//! two are read by the other.
+//! `counts` and `lines` test no crate: three modules write their tables with `counts`, two read their decisions with
+//! `lines`.
 //!
 //! They show what no clause says: that calls find memory, and that clauses mean what they should, by values from
 //! outside. A table has a row for each case, and its test goes over the rows: the text or the decision first, and then

@@ -3,7 +3,7 @@
 mod changes;
 mod texts;
 
-use changes::{OTHER_TEXTS, ROAD_CHANGES, Refused, SMALL_CHANGES};
+use changes::{FIRST_OF_TWO, OTHER_TEXTS, ROAD_CHANGES, Refused, SMALL_CHANGES};
 use net_model::{KeyText, Kind, Link, Model, read_model};
 use sample_models::{CLINIC, ONE_DESK};
 use std::alloc::{AllocError, Global};
@@ -40,6 +40,17 @@ fn is_refused_so(alloc: Global, text: &str, change: &Refused) -> bool {
 #[test]
 fn changes_of_the_small_model_are_refused(rt: HostRuntime) {
     for change in SMALL_CHANGES {
+        assert!(rt;
+            is_refused_so(rt.alloc(), ONE_DESK, change),
+            "{}",
+            change.shows
+        );
+    }
+}
+
+#[test]
+fn the_first_of_two_faults_is_named(rt: HostRuntime) {
+    for change in FIRST_OF_TWO {
         assert!(rt;
             is_refused_so(rt.alloc(), ONE_DESK, change),
             "{}",

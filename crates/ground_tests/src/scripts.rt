@@ -55,6 +55,24 @@ fn long_texts_are_refused(rt: HostRuntime) -> Result<(), Fail> {
     Ok(())
 }
 
+/// What stands in the 4,097th line, behind as many items as there may be, and its fault and line.
+const LAST_LINES: &[(&str, (u32, u32))] = &[
+    ("analyst ben", (0, 0)),
+    ("look base desk", (5, 4_097)),
+    ("end base at 08", (4, 4_097)),
+];
+
+#[test]
+fn the_4097th_line_is_tested_before_it_is_too_many(rt: HostRuntime) -> Result<(), Fail> {
+    for last in LAST_LINES {
+        let (line, fault) = *last;
+        let mut text = lines(rt.alloc(), "look base desk\n", 4_096)?;
+        text.extend_from_slice(line.as_bytes())?;
+        assert!(rt; fault_of(rt.alloc(), text.as_slice()) == fault, "{line}");
+    }
+    Ok(())
+}
+
 /// The script of a text, or of one clone of it where there is a name.
 fn own_script(alloc: Global, own: &Own) -> Option<Script> {
     let script = read_script(alloc, own.text.as_bytes()).ok()?;

@@ -168,7 +168,9 @@ IsPrinted-refusal_text OutOfRange h = IsPrinted-decimal 8 (omega arith)
 IsPrinted-refusal_text ListFull h = IsPrinted-decimal 9 (omega arith)
 IsPrinted-refusal_text PastHorizon h = IsPrinted-decimal 10 (omega arith)
 IsPrinted-refusal_text (Late front) h =
-    IsPrinted-append (codes "11 front ") (decimal front) refl (IsPrinted-decimal front h)
+    IsPrinted-append (decimal 11 ++ codes " front ") (decimal front)
+    (IsPrinted-append (decimal 11) (codes " front ") (IsPrinted-decimal 11 (omega arith)) refl)
+    (IsPrinted-decimal front h)
 IsPrinted-refusal_text (Ended at) h = IsPrinted-decimal 12 (omega arith)
 
 -- of the line of a call

@@ -7,7 +7,7 @@ use Rattle.net_model.specs.Net.{Net}
 use Rattle.decision_script.specs.declared.script.TheConstants.{MOST_ANALYSTS}
 use Rattle.decision_script.specs.Stating.{Fits32, analyst_name}
 use Rattle.decision_script.specs.Printing.{line_text}
-use Rattle.decision_script.specs.Reading.{after_lines, new_reader, script, script_of as script_read}
+use Rattle.decision_script.specs.Reading.{after_lines, new_reader, script, script_of}
 use Rattle.decision_script.specs.Alone.{decisions}
 use Rattle.decision_script.proofs.ItemsReadAgain.{AreKnown}
 use Rattle.decision_script.proofs.Names.{are_known}
@@ -16,7 +16,7 @@ use Rattle.decision_script.proofs.Words.{lines-text}
 use Rattle.decision_book.specs.declared.call.Call.{Call}
 use Rattle.decision_book.specs.Journal.{Event, NewFront, NewCall, calls_of}
 use Rattle.decision_book.specs.Right.{IsRight}
-use Rattle.decision_book.specs.Scripts.{accepted_of, first_refusal, lists_of, script_of}
+use Rattle.decision_book.specs.Scripts.{accepted_decisions, accepted_of, first_refusal, lists_of}
 use Rattle.decision_book.proofs.JournalScripts.{journal_is_script}
 use Rattle.journal_text.specs.Laws.{IsCallOf, IsScriptOf, JournalReadsAsScript}
 use Rattle.journal_text.proofs.Lines.{IsWritable, said_lines, without_comments-events_text}
@@ -59,17 +59,17 @@ IsScriptOf-main net more es known most right some_time small h =
     let r = events_read analysts 1 new_reader es most (main_is_there (codes "main") more) by (omega (arith, few)) in
     let text = flat_map line_text (said_lines analysts es) in
     let short : length text ≤ MOST_FILE_BYTES = omega (arith, few, said_length analysts es known by) in
-    let read : script text ≡ Ok (script_read r.after) =
+    let read : script text ≡ Ok (script_of r.after) =
     read_of_text text r.after short
     (ap (after_lines 1 new_reader) (lines-text (said_lines analysts es) (said_words analysts es by)) ∙ r.read) in
     let items : map (λ i. (analyst_name r.after.analysts i.analyst, i.act)) r.after.items
     ≡ map (λ i. (analyst_name r.after.analysts i.analyst, i.act)) r.new =
     ap (map (λ i. (analyst_name r.after.analysts i.analyst, i.act))) r.items_are in
-    let ds : decisions r.after.items ≡ script_of es =
+    let ds : decisions r.after.items ≡ accepted_decisions es =
     same_decisions r.after.analysts analysts r.after.items (accepted_of (calls_of es)) (items ∙ r.said) in
     let law = journal_is_script net es right some_time in
     record {
-      again = script_read r.after;
+      again = script_of r.after;
       read = ap script said ∙ read;
       items = items ∙ r.said;
       accepted = ap (first_refusal net) ds ∙ law.accepted;

@@ -18,7 +18,7 @@ decision_text d = join_with_byte 32 (words_of_decision d)
 
 -- why a decision was refused: the number of the refusal, and of a late one the front that stood
 abbrev pub refusal_text : Reply → List ℕ
-refusal_text (Late front) = codes "11 front " ++ decimal front
+refusal_text (Late front) = decimal (reply_number (Late front)) ++ codes " front " ++ decimal front
 refusal_text reply = decimal (reply_number reply)
 
 -- a decision that was accepted stands as in a script, one that was refused behind a '#' and the reason
@@ -60,12 +60,12 @@ looks_text analysts looks = codes "looks " ++ decimal (length looks) ++ codes "\
     ++ flat_map (look_line analysts) looks
 
 -- how many calls and fronts there are
-abbrev pub head_of : ℕ → ℕ → List ℕ
-head_of calls fronts = codes "journal " ++ decimal calls ++ codes " " ++ decimal fronts ++ codes "\n"
+abbrev pub counts_line : ℕ → ℕ → List ℕ
+counts_line calls fronts = codes "journal " ++ decimal calls ++ codes " " ++ decimal fronts ++ codes "\n"
 
 -- the same of these events
 abbrev pub head_line : List Event → List ℕ
-head_line events = head_of (length (calls_of events)) (length (fronts_of events))
+head_line events = counts_line (length (calls_of events)) (length (fronts_of events))
 
 -- the text of a journal, with the looks behind it
 abbrev pub journal_text : List (List ℕ) → List Event → List Looked → List ℕ

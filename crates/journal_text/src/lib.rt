@@ -5,7 +5,7 @@
 //!
 //! ```text
 //! journal 3 2                                             how many calls and fronts
-//! # front 5                                               all before 5 was handled
+//! # front 5                                               what comes before 5 is fixed
 //! analyst ada                                             ada asked, and it was accepted
 //! fork fast from base
 //! # front 7

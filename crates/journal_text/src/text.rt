@@ -5,8 +5,8 @@ ghost use Rattle.decision_script.specs.Stating.{IsAnalyst};
 ghost use Rattle.decision_book.specs.Journal.{NewFront, NewCall};
 ghost use Rattle.decision_book.specs.Books.{journal_from, journal_of};
 ghost use Rattle.journal_text.specs.JournalText.{call_line, event_text, events_text, found_text};
-ghost use Rattle.journal_text.specs.JournalText.{glance_text, head_of, look_line, looks_text, refusal_text};
-ghost use Rattle.journal_text.specs.JournalText.{journal_text as text_of};
+ghost use Rattle.journal_text.specs.JournalText.{counts_line, glance_text, look_line, looks_text, refusal_text};
+ghost use Rattle.journal_text.specs.JournalText.{journal_text as journal_text'};
 
 use crate::looked::Looked;
 use crate::pieces::{push, push_count, push_name, push_number};
@@ -36,9 +36,10 @@ fn push_fronts(out: &mut Vec<u8>, script: &Script, fronts: &[u64]) -> Result<(),
 fn push_refusal(out: &mut Vec<u8>, reply: &Reply) -> Result<(), NoMemory>
     ensures value { OnOk result (out.new.items ≡ out.old.items ++ refusal_text reply.now) }
 {
+    push_number(out, reply.number() as u64)?;
     match reply {
-        Reply::Late { front } => push_count(out, b"11 front ", *front),
-        _ => push_number(out, reply.number() as u64),
+        Reply::Late { front } => push_count(out, b" front ", *front),
+        _ => Ok(()),
     }
 }
 
@@ -150,7 +151,7 @@ fn push_looks(out: &mut Vec<u8>, script: &Script, looks: &[Looked]) -> Result<()
 }
 
 fn push_head(out: &mut Vec<u8>, calls: usize, fronts: usize) -> Result<(), NoMemory>
-    ensures value { OnOk result (out.new.items ≡ out.old.items ++ head_of calls fronts) }
+    ensures value { OnOk result (out.new.items ≡ out.old.items ++ counts_line calls fronts) }
 {
     push_count(out, b"journal ", calls as u64)?;
     push_count(out, b" ", fronts as u64)?;
@@ -169,7 +170,7 @@ pub fn journal_text(
     requires callers { All (λ c. IsAnalyst (length script.now.analysts) c.caller) calls.now }
     requires lookers { All (λ l. IsAnalyst (length script.now.analysts) l.analyst) looks.now }
     ensures { IfOk result (λ text.
-        text.items ≡ text_of script.now.analysts (journal_of calls.now fronts.now) looks.now) }
+        text.items ≡ journal_text' script.now.analysts (journal_of calls.now fronts.now) looks.now) }
 {
     let mut out = Vec::new(alloc);
     push_head(&mut out, calls.len(), fronts.len())?;

@@ -17,3 +17,4 @@ pub mod Staying
 pub mod StayingLooks
 pub mod StayingLimits
 pub mod Texts
+pub mod LookExample

@@ -10,6 +10,7 @@ use Rattle.decision_script.specs.Stating.{ScriptView}
 use Rattle.decision_book.specs.Books.{BookView}
 use Rattle.decision_book.specs.Journal.{Event}
 use Rattle.decision_book.specs.declared.call.TheConstants.{MOST_CALLS}
+use Rattle.decision_desk.specs.Desks.{desk_id}
 use Rattle.decision_desk.specs.Passes.{HelmView}
 use Rattle.decision_desk.proofs.NewPasses.{new_passes_count}
 use Rattle.phys_proc.specs.Racks.{RackView}
@@ -80,7 +81,7 @@ has_racks net many p h s is = each_has_rack p.world (length net.sites) p.racks.i
 
 -- a pass for each analyst
 pub many_passes : (net : Net) (many : ℕ) (p : Prepared) → IsPrepared net many p → length p.passes.items ≡ many
-many_passes net many p h = ap length h.passes ∙ new_passes_count p.desk.table.shared.table_id net many
+many_passes net many p h = ap length h.passes ∙ new_passes_count (desk_id p.desk) net many
 
 -- the opening racks are what is published first
 pub shown_first : (net : Net) (many : ℕ) (p : Prepared) (published : List RackView) → IsPrepared net many p
@@ -108,7 +109,7 @@ pub all_parts : (net : Net) (many : ℕ) (p : Prepared) (seated : List SeatedAna
     → many ≤ MOST_ANALYSTS
     → map (λ (a : SeatedAnalyst). a.0.pass) seated ≡ p.passes.items → p.helm.parts + length seated ≡ ALL_PARTS
 all_parts net many p seated h few are =
-    let len = many_analysts p.desk.table.shared.table_id net many p.passes.items seated are h.passes in
+    let len = many_analysts (desk_id p.desk) net many p.passes.items seated are h.passes in
     let parts = ap (λ (x : HelmView). x.parts) h.helm in
     omega (arith, parts, len, few)
 
@@ -128,11 +129,11 @@ none_made net a opening f there = (
 -- so each analyst has asked nothing and made no looks yet, and has memory reserved for all its looks
 pub each_ready : (net : Net) (many : ℕ) (p : Prepared) (seated : List SeatedAnalyst) → IsPrepared net many p
     → map (λ (a : SeatedAnalyst). a.0.pass) seated ≡ p.passes.items → AllByRecursion (IsFresh p.racks.items) seated
-    → (k : ℕ) (d : SeatedAnalyst) → k < length seated → MayAct p.desk.table.shared.table_id net (get_or seated k d)
+    → (k : ℕ) (d : SeatedAnalyst) → k < length seated → MayAct (desk_id p.desk) net (get_or seated k d)
 each_ready net many p seated h are fresh k d less =
     let none = none_made net (get_or seated k d) p.racks.items
     (all_at (IsFresh p.racks.items) seated k d fresh less) (has_racks net many p h) in (
-      all_ready p.desk.table.shared.table_id net many p.passes.items seated are h.passes k d less,
+      all_ready (desk_id p.desk) net many p.passes.items seated are h.passes k d less,
       none.0,
       none.1,
     )
@@ -156,7 +157,7 @@ little_todo net s p seated h few todo =
 pub enough_reserved : (net : Net) (many : ℕ) (p : Prepared) (seated : List SeatedAnalyst) → IsPrepared net many p
     → map (λ (a : SeatedAnalyst). a.0.pass) seated ≡ p.passes.items → HasReservedFor (length seated) p.reserve
 enough_reserved net many p seated h are =
-    let len = many_analysts p.desk.table.shared.table_id net many p.passes.items seated are h.passes in
+    let len = many_analysts (desk_id p.desk) net many p.passes.items seated are h.passes in
     subst (λ n. HasReservedFor n p.reserve) (sym len) h.reserve
 
 -- ---- the journal
@@ -166,7 +167,7 @@ pub journal_is : (net : Net) (s : ScriptView) (p : Prepared) (seated : List Seat
     → map (λ (a : SeatedAnalyst). a.0.todo.items) seated ≡ each_acts s.items (length p.passes.items)
     → IsAllAsked p.helm.net seated book → IsJournalOf net s book
 journal_is net s p seated book h are todo asked =
-    journal_of_script p.desk.table.shared.table_id net s p.passes.items seated book are h.passes
+    journal_of_script (desk_id p.desk) net s p.passes.items seated book are h.passes
     (own_todo net s p seated h todo)
     (subst (λ (n : Net). IsAllAsked n seated book) (helm_net net (length s.analysts) p h) asked)
 

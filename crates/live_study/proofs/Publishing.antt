@@ -56,16 +56,18 @@ at_raised old new w r i =
 pub round_begins : (old new : HelmView) (w v : WorldView) (published : List RackView) → AreShownOf old w published
     → new.net ≡ old.net → Raises old new v.front → v.net ≡ w.net → w.front < v.front → AreShownTo new v 0 published
 round_begins old new w v published h net r same rises = record {
-  racks = all_weaker (IsRackOf old.net old.helm) (IsRackOf new.net new.helm) published
-      (λ q k. subst (λ (n : Net). IsRackOf n new.helm q) (sym net)
-      (rack_later old.net old.helm new.helm q (raises_prefix old new v.front r) k))
-      h.racks;
-  early = all_weaker (λ (q : RackView). q.front ≤ w.front) (λ (q : RackView). q.front ≤ v.front) published
-      (λ q k. omega (arith, k, rises)) h.early;
+  up_to = record {
+    racks = all_weaker (IsRackOf old.net old.helm) (IsRackOf new.net new.helm) published
+        (λ q k. subst (λ (n : Net). IsRackOf n new.helm q) (sym net)
+        (rack_later old.net old.helm new.helm q (raises_prefix old new v.front r) k))
+        h.racks;
+    early = all_weaker (λ (q : RackView). q.front ≤ w.front) (λ (q : RackView). q.front ≤ v.front) published
+        (λ q k. omega (arith, k, rises)) h.early;
+    there = subst (λ (n : Net). HasRacks n published) (sym same) h.there;
+    last = λ e s low high. absurd (omega (arith, low, high));
+  };
   below = all_weaker (λ (q : RackView). q.front ≤ w.front)
       (λ (q : RackView). 0 < q.station → q.front < v.front) published (λ q k s. omega (arith, k, rises)) h.early;
-  there = subst (λ (n : Net). HasRacks n published) (sym same) h.there;
-  last = λ e s low high. absurd (omega (arith, low, high));
 }
 
 -- a rack of the next station at the front of the world may follow those that are published
@@ -87,7 +89,7 @@ may_publish : (h : HelmView) (w : WorldView) (done : ℕ) (r : RackView) (publis
     → AreShownTo h w done published → r.net ≡ h.net → r.station ≡ done + 1 → r.front ≡ w.front
     → MayBePublished published r
 may_publish h w done r published shown net station front =
-    MayBePublished-next h w done r published shown.racks shown.below net station front
+    MayBePublished-next h w done r published shown.up_to.racks shown.below net station front
 
 -- the last rack of a station, with one rack more, by whether that is of the station
 is_last : (s : ℕ) (racks : List RackView) (r : RackView) (b : Bool) → (r.station == s) ≡ b
@@ -99,40 +101,44 @@ round_goes_on : (h : HelmView) (w : WorldView) (done : ℕ) (r : RackView) (publ
     → AreShownTo h w done published → AreAtFront h.net h.helm w.front w.clones → r.net ≡ h.net → r.clones ≡ w.clones
     → r.station ≡ done + 1 → r.front ≡ w.front → AreShownTo h w (done + 1) (published ++ r ∷ [])
 round_goes_on h w done r published shown at net clones station front = record {
-  racks = all_push (IsRackOf h.net h.helm) published r shown.racks (record {
-    net_is = net;
-    at = subst (λ f. AreAtFront h.net h.helm f r.clones) (sym front)
-        (subst (λ cs. AreAtFront h.net h.helm w.front cs) (sym clones) at);
-  });
-  early = all_push (λ (q : RackView). q.front ≤ w.front) published r shown.early (omega (arith, front));
+  up_to = record {
+    racks = all_push (IsRackOf h.net h.helm) published r shown.up_to.racks (record {
+      net_is = net;
+      at = subst (λ f. AreAtFront h.net h.helm f r.clones) (sym front)
+          (subst (λ cs. AreAtFront h.net h.helm w.front cs) (sym clones) at);
+    });
+    early = all_push (λ (q : RackView). q.front ≤ w.front) published r shown.up_to.early (omega (arith, front));
+    there = λ s is. HasRack-push s published r (shown.up_to.there s is);
+    last = λ e s low high. ⊎_elim
+        (λ (k : s < done + 1).
+        let b = shown.up_to.last e s low (omega (arith, k)) in
+        let other : (r.station == s) ≡ false = grind (arith, nat_tests, k, station) in
+        (b.0, is_last s published r false other ∙ b.1, b.2))
+        (λ (k : done + 1 ≤ s).
+        let this : (r.station == s) ≡ true = grind (arith, nat_tests, k, high, station) in
+        (r, is_last s published r true this, front))
+        (cases_lt s (done + 1));
+  };
   below = all_push (λ (q : RackView). done + 1 < q.station → q.front < w.front) published r
       (all_weaker (λ (q : RackView). done < q.station → q.front < w.front)
       (λ (q : RackView). done + 1 < q.station → q.front < w.front) published
       (λ q k s. k (omega (arith, s))) shown.below)
       (λ s. absurd (omega (arith, s, station)));
-  there = λ s is. HasRack-push s published r (shown.there s is);
-  last = λ e s low high. ⊎_elim
-      (λ (k : s < done + 1).
-      let b = shown.last e s low (omega (arith, k)) in
-      let other : (r.station == s) ≡ false = grind (arith, nat_tests, k, station) in
-      (b.0, is_last s published r false other ∙ b.1, b.2))
-      (λ (k : done + 1 ≤ s).
-      let this : (r.station == s) ≡ true = grind (arith, nat_tests, k, high, station) in
-      (r, is_last s published r true this, front))
-      (cases_lt s (done + 1));
 }
 
 -- before the horizon a station may have its turn without a rack
 pub round_skips : (h : HelmView) (w : WorldView) (done : ℕ) (published : List RackView) → AreShownTo h w done published
     → (w.front ≡ w.net.horizon → ⊥) → AreShownTo h w (done + 1) published
 round_skips h w done published shown not = record {
-  racks = shown.racks;
-  early = shown.early;
+  up_to = record {
+    racks = shown.up_to.racks;
+    early = shown.up_to.early;
+    there = shown.up_to.there;
+    last = λ e. absurd (not e);
+  };
   below = all_weaker (λ (q : RackView). done < q.station → q.front < w.front)
       (λ (q : RackView). done + 1 < q.station → q.front < w.front) published
       (λ q k s. k (omega (arith, s))) shown.below;
-  there = shown.there;
-  last = λ e. absurd (not e);
 }
 
 -- ---- AreShownTo, at a station: all before it are done
@@ -143,7 +149,7 @@ pub may_show : (h : HelmView) (w : WorldView) (station : ℕ) (r : RackView) (pu
 may_show h w station r published is shown of net own front =
     let low = is.low in
     let next : r.station ≡ station - 1 + 1 = omega (arith, own, low) in (
-      subst (λ s. HasRack s published) (sym own) (shown.there station is),
+      subst (λ s. HasRack s published) (sym own) (shown.up_to.there station is),
       may_publish h w (station - 1) r published shown (net ∙ of) next front,
     )
 

@@ -1,6 +1,6 @@
 -- What a look tells stays true of the clones that a journal leaves.
 use Rattle.std.proofs.Common.{◌≡◌, ℕ, zero, suc, ◌<◌, List, [], ◌∷◌, length, map, take}
-use Rattle.std.proofs.Common.{Option, Some, None, IfSome, IfNone, position, refl, sym, ap, ap₂, ◌∙◌, subst, arith}
+use Rattle.std.proofs.Common.{Option, Some, None, position, refl, sym, ap, ap₂, ◌∙◌, subst, arith}
 use Rattle.std.proofs.lemmas.List.{length-take-le}
 use Rattle.std.specs.Str.{bytes_eq}
 use Rattle.sim_base.specs.Clones.{Clone, clone_at, place_of}
@@ -8,7 +8,7 @@ use Rattle.sim_base.proofs.ListLaws.{position-map}
 use Rattle.net_model.specs.Net.{Net}
 use Rattle.net_model.specs.Rules.{IsNet}
 use Rattle.stations.specs.Runs.{log_at}
-use Rattle.phys_proc.specs.Racks.{IsFoundOf, IsSeen}
+use Rattle.phys_proc.specs.Racks.{FindsClone, IsSeen}
 use Rattle.phys_proc.specs.declared.rack.Found.{Found}
 use Rattle.decision_book.specs.Journal.{after}
 use Rattle.live_study.specs.Laws.{KeepLogs, LooksStayTrue}
@@ -76,20 +76,17 @@ module _ (net : Net) (front : ℕ) (old new : List Clone) (keep : KeepLogs net f
   }
 
   -- what a glance has found of them it finds of the first of the others
-  first_found : (s : ℕ) (who : List ℕ) (o : Option Found) → IfSome o (λ f. IsFoundOf net old s front who f)
-      → IfSome o (λ f. IsFoundOf net first s front who f)
-  first_found s who None h = tt
-  first_found s who (Some f) h = (
-    h.0,
-    first_place who ∙ h.1,
-    first_seen s h.0 f.handled f.shared (place_of-bounds who old h.0 h.1) h.2,
-  )
-
-  -- and a name that it did not find is not there
-  first_unknown : (who : List ℕ) (o : Option Found) → IfNone o (place_of who old ≡ None)
-      → IfNone o (place_of who first ≡ None)
-  first_unknown who None h = first_place who ∙ h
-  first_unknown who (Some f) h = tt
+  first_found : (s : ℕ) (who : List ℕ) (o : Option Found) → FindsClone net old s front who o
+      → FindsClone net first s front who o
+  first_found s who None h = record { unknown = first_place who ∙ h.unknown; found = tt }
+  first_found s who (Some f) h = record {
+    unknown = tt;
+    found = (
+      h.found.0,
+      first_place who ∙ h.found.1,
+      first_seen s h.found.0 f.handled f.shared (place_of-bounds who old h.found.0 h.found.1) h.found.2,
+    );
+  }
 
 -- over a valid network, what a true glance tells is true of the clones that the journal leaves
 pub looks_stay_true : (net : Net) → IsNet net → LooksStayTrue net
@@ -99,8 +96,6 @@ looks_stay_true net valid events s who g right t =
     let many : length t.clones ≡ g.clones = sym t.many in
     record {
       few = omega (arith, keep.many, many);
-      unknown = subst (λ (n : ℕ). IfNone g.found (place_of who (take n final) ≡ None)) many
-          (first_unknown net g.front t.clones final keep who g.found t.unknown);
-      found = subst (λ (n : ℕ). IfSome g.found (λ f. IsFoundOf net (take n final) s g.front who f)) many
+      found = subst (λ (n : ℕ). FindsClone net (take n final) s g.front who g.found) many
           (first_found net g.front t.clones final keep s who g.found t.found);
     }

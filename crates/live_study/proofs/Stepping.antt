@@ -105,7 +105,7 @@ pub record Takes (h : HelmView) (cs : List Call) : Type 0 where
 takes_turn : (h : HelmView) (turn : Turn) (new : HelmView) (cs : List Call) → IsNextTurn h turn new cs → Takes h cs
 takes_turn h turn new cs t =
     let s : Situation = after h.net h.helm in
-    let taken = taken_behind h.net h.helm cs t.right in
+    let taken = taken_behind h.net h.helm cs t.over.right in
     let net : s.net ≡ h.net = net_of h.net h.helm in
     record {
       accepted = subst (λ f. AreAccepted h.net s.clones f (accepted_of cs)) (front_is h.net h.helm)
@@ -120,7 +120,7 @@ pub may_take : (h : HelmView) (w : WorldView) (turn : Turn) (new : HelmView) (cs
     → InStep h w
     → IsNextTurn h turn new cs → fresh ≡ turn.fresh.items → AreAccepted w.net w.clones w.front fresh
 may_take h w turn new cs fresh i t e =
-    subst (λ l. AreAccepted w.net w.clones w.front l) (sym (e ∙ t.fresh))
+    subst (λ l. AreAccepted w.net w.clones w.front l) (sym (e ∙ t.over.fresh))
     (subst (λ f. AreAccepted w.net w.clones f (accepted_of cs)) (sym i.front)
     (subst (λ l. AreAccepted w.net l (front_of h.helm) (accepted_of cs)) (sym i.clones)
     (subst (λ (n : Net). AreAccepted n (after h.net h.helm).clones (front_of h.helm) (accepted_of cs)) (sym i.net)
@@ -140,16 +140,16 @@ goes_ahead h w turn new cs fresh w2 i t e taken valid none =
     let of_net : w2.net ≡ h.net = net ∙ i.net in
     let of_front : w2.front ≡ front_of h.helm = front ∙ i.front in
     let of_clones : w2.clones ≡ (after h.net j).clones =
-    clones ∙ ap (clones_after_calls w.net w.clones) (e ∙ t.fresh)
+    clones ∙ ap (clones_after_calls w.net w.clones) (e ∙ t.over.fresh)
     ∙ ap (λ (n : Net). clones_after_calls n w.clones (accepted_of cs)) i.net
     ∙ ap (λ l. clones_after_calls h.net l (accepted_of cs)) i.clones ∙ sym (takes_turn h turn new cs t).clones in
     let next : turn.front ≡ next_front w2.net w2.clones w2.front =
-    t.front ∙ ap (λ l. next_front h.net l (front_of h.helm)) (sym of_clones)
+    t.over.front ∙ ap (λ l. next_front h.net l (front_of h.helm)) (sym of_clones)
     ∙ ap (λ (n : Net). next_front n w2.clones (front_of h.helm)) (sym of_net)
     ∙ ap (next_front w2.net w2.clones) (sym of_front) in
     let calls = front_calls h.helm cs in
-    let above = t.above in
-    let within = t.within in
+    let above = t.over.above in
+    let within = t.over.within in
     let horizon : w2.net.horizon ≡ h.net.horizon = ap (λ (n : Net). n.horizon) of_net in
     subst (λ (n : HelmView). IsAhead n w2 turn.front) (sym t.new_is) (record {
       net = of_net;
@@ -159,7 +159,7 @@ goes_ahead h w turn new cs fresh w2 i t e taken valid none =
       within = omega (arith, next);
       early = omega (arith, within, horizon);
       short = λ f there less.
-          let early = before_last h.net j turn.front f t.right there less in
+          let early = before_last h.net j turn.front f t.over.right there less in
           none_earlier w2.net w2.clones f w2.front valid (omega (arith, early, of_front, calls)) none;
     })
 

@@ -1,9 +1,9 @@
 -- Who calls and looks in a live study: analysts of its script.
 use Rattle.std.proofs.Common.{◌≡◌, ◌⊎◌, inl, inr, ℕ, zero, suc, ◌+◌, ◌<◌, ◌≤◌, nat_eq}
-use Rattle.std.proofs.Common.{List, [], ◌∷◌, length, map, sym, subst, arith}
+use Rattle.std.proofs.Common.{List, [], ◌∷◌, length, sym, subst, arith}
 use Rattle.std.specs.List.{All, AllByRecursion}
 use Rattle.std.proofs.lemmas.List.Elements.{All-from_recursion}
-use Rattle.sim_base.proofs.ListLaws.{all_append}
+use Rattle.sim_base.proofs.ListLaws.{all_append, all_of_map}
 use Rattle.decision_script.specs.declared.item.Act.{Act}
 use Rattle.decision_script.specs.declared.item.Act.TheVariants.{Decide, Look}
 use Rattle.decision_script.specs.declared.item.Item.{Item}
@@ -63,17 +63,11 @@ each_within many items (suc n) high =
     (looks_within many (n + 1) (acts_by (n + 1) items)
     (record { low = omega arith; high = omega (arith, high) }))
 
--- what holds of each image holds so of each element
-of_images : {A B : Type 0} (f : A → B) (P : B → Type 0) (xs : List A) → AllByRecursion P (map f xs)
-    → AllByRecursion (λ x. P (f x)) xs
-of_images f P [] all = tt
-of_images f P (x ∷ xs) all = (all.0, of_images f P xs all.1)
-
 -- each look that was made for a script is by one of its analysts
 pub lookers_within : (s : ScriptView) (looks : List Looked) → HasMadeLooks s looks
     → All (λ (l : Looked). IsAnalyst (length s.analysts) l.analyst) looks
 lookers_within s looks made =
     let many = length s.analysts in
     All-from_recursion (λ (l : Looked). IsAnalyst many l.analyst) looks
-    (of_images look_of (IsByOneOf many) looks
+    (all_of_map (IsByOneOf many) look_of looks
     (subst (AllByRecursion (IsByOneOf many)) (sym made) (each_within many s.items many (omega arith))))

@@ -6,15 +6,13 @@ use Rattle.std.specs.List.{AllByRecursion}
 use Rattle.std.proofs.lemmas.Bool.{cases_lt}
 use Rattle.std.proofs.lemmas.Bool.Decides.{nat_tests}
 use mathlib.Core.List.{IsPrefix}
-use Rattle.sim_base.specs.Clones.{Clone}
 use Rattle.sim_base.proofs.ListLaws.{all_left, all_right, all_weaker, prefix_trans}
 use Rattle.net_model.specs.Net.{Net, station_named}
 use Rattle.decision_book.specs.Journal.{Event}
 use Rattle.decision_book.proofs.Planned.{station_named-low}
 use Rattle.decision_desk.specs.Passes.{HelmView}
-use Rattle.phys_proc.specs.Racks.{RackView, IsFoundOf}
+use Rattle.phys_proc.specs.Racks.{RackView, FindsClone}
 use Rattle.phys_proc.specs.declared.rack.Glance.{Glance}
-use Rattle.phys_proc.specs.declared.rack.Found.{Found}
 use Rattle.shelf.specs.Racks.{AreLegal, IsGlance, MayComeAfter, latest, or_this}
 use Rattle.shelf.proofs.Legals.{front-later, latest-all}
 use Rattle.shelf.proofs.Prefixes.{prefix_shorter}
@@ -107,10 +105,6 @@ read_is_published P front s published read before r up at all begins e =
     (cases_lt (length before) (length published + 1))
 
 -- ---- true looks
--- what a glance has found of a clone
-abbrev SeenSo : Net → List Clone → ℕ → ℕ → List ℕ → Option Found → Type 0
-SeenSo n cs t f name o = IfSome o (λ x. IsFoundOf n cs t f name x)
-
 -- a glance of a rack of the journal is true
 true_glance : (net : Net) (events : List Event) (s : ℕ) (who : List ℕ) (r : RackView) (g : Glance)
     → IsRackOf net events r → r.station ≡ s → IsGlance r who g → IsTrueGlance net events s who g
@@ -118,10 +112,9 @@ true_glance net events s who r g of station is = record {
   clones = r.clones;
   at = subst (λ f. AreAtFront net events f r.clones) (sym is.front) of.at;
   many = is.clones;
-  unknown = is.unknown;
-  found = subst (λ f. SeenSo net r.clones s f who g.found) (sym is.front)
-      (subst (λ t. SeenSo net r.clones t r.front who g.found) station
-      (subst (λ (n : Net). SeenSo n r.clones r.station r.front who g.found) of.net_is is.found));
+  found = subst (λ f. FindsClone net r.clones s f who g.found) (sym is.front)
+      (subst (λ t. FindsClone net r.clones t r.front who g.found) station
+      (subst (λ (n : Net). FindsClone n r.clones r.station r.front who g.found) of.net_is is.found));
 }
 
 -- a look that was read at a seat which came to the horizon with what was published

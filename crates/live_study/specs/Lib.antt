@@ -1,6 +1,7 @@
 pub mod Asking
 pub mod Driving
 pub mod Engines
+pub mod Examples
 pub mod Laws
 pub mod Looks
 pub mod Lives

@@ -2,11 +2,11 @@
 use Rattle.std.specs.Prelude.{◌≡◌, ◌⊎◌, ℕ, ◌≤◌, List, [], ◌∷◌, ◌++◌, length, map, take, Some, None, IfSome, IfNone}
 use Rattle.std.specs.List.{AllByRecursion}
 use mathlib.Core.List.{IsPrefix}
-use Rattle.sim_base.specs.Clones.{Clone, base, place_of}
+use Rattle.sim_base.specs.Clones.{Clone, base}
 use Rattle.net_model.specs.Net.{HasStation, Net, station_named}
 use Rattle.decision_script.specs.Stating.{ScriptView}
 use Rattle.decision_book.specs.Journal.{Event, NewFront, after}
-use Rattle.phys_proc.specs.Racks.{RackView, IsFoundOf}
+use Rattle.phys_proc.specs.Racks.{RackView, FindsClone}
 use Rattle.phys_proc.specs.declared.rack.Glance.{Glance}
 use Rattle.shelf.specs.Racks.{AreLegal, HasRack, IsGlance, latest}
 use Rattle.journal_text.specs.declared.looked.Looked.{Looked}
@@ -31,8 +31,7 @@ pub record IsTrueGlance (net : Net) (events : List Event) (s : ℕ) (who : List 
   pub clones : List Clone
   pub at : AreAtFront net events g.front clones
   pub many : g.clones ≡ length clones
-  pub unknown : IfNone g.found (place_of who clones ≡ None)
-  pub found : IfSome g.found (λ f. IsFoundOf net clones s g.front who f)
+  pub found : FindsClone net clones s g.front who g.found
 
 -- what was seen at a look: nothing exactly where the network has no such station, and else a true glance
 pub record IsTrueLook (net : Net) (events : List Event) (l : Looked) : Type 0 where
@@ -45,8 +44,7 @@ pub record IsTrueLook (net : Net) (events : List Event) (l : Looked) : Type 0 wh
 -- many of them
 pub record IsTrueOf (net : Net) (clones : List Clone) (s : ℕ) (who : List ℕ) (g : Glance) : Type 0 where
   pub few : g.clones ≤ length clones
-  pub unknown : IfNone g.found (place_of who (take g.clones clones) ≡ None)
-  pub found : IfSome g.found (λ f. IsFoundOf net (take g.clones clones) s g.front who f)
+  pub found : FindsClone net (take g.clones clones) s g.front who g.found
 
 -- a later look of the same analyst at the same station is at no earlier front
 abbrev pub IsNoEarlier : Looked → Looked → Type 0

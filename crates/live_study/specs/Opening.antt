@@ -3,6 +3,7 @@ use Rattle.std.specs.Prelude.{◌≡◌, ℕ, zero, suc, ◌+◌, ◌≤◌, Lis
 use Rattle.std.specs.List.{All, AllByRecursion}
 use Rattle.atomic_table.specs.Seated.{TableId}
 use Rattle.net_model.specs.Net.{Net}
+use Rattle.decision_desk.specs.Desks.{desk_id}
 use Rattle.decision_desk.specs.Passes.{new_helm, new_passes}
 use Rattle.phys_proc.specs.Racks.{RackView}
 use Rattle.shelf.specs.Racks.{OneEach}
@@ -50,6 +51,6 @@ pub record HasReservedFor (many : ℕ) (reserve : Reserve) : Type 0 where
 pub record IsPrepared (net : Net) (many : ℕ) (p : Prepared) : Type 0 where
   pub world : p.world ≡ opening_world net
   pub racks : AreOpeningRacks p.world (length net.sites) p.racks.items
-  pub passes : p.passes.items ≡ new_passes p.desk.table.shared.table_id net many
-  pub helm : p.helm ≡ new_helm p.desk.table.shared.table_id net many
+  pub passes : p.passes.items ≡ new_passes (desk_id p.desk) net many
+  pub helm : p.helm ≡ new_helm (desk_id p.desk) net many
   pub reserve : HasReservedFor many p.reserve

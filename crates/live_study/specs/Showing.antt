@@ -43,20 +43,21 @@ pub record HaveActed (desk : TableId) (net : Net) (old new : List SeatedAnalyst)
       → HasActed desk net (slice_index_or old i d) (slice_index_or new i d)
 
 -- what is published: each is a rack of the helm's journal, at a front up to the world's; each station has one, which at
--- the horizon is at the horizon
-pub record AreShownOf (h : HelmView) (w : WorldView) (published : List RackView) : Type 0 where
+-- the horizon, for so many stations, is at the horizon
+pub record AreShownUpTo (h : HelmView) (w : WorldView) (done : ℕ) (published : List RackView) : Type 0 where
   pub racks : AllByRecursion (IsRackOf h.net h.helm) published
   pub early : AllByRecursion (λ q. q.front ≤ w.front) published
   pub there : HasRacks w.net published
-  pub last : w.front ≡ w.net.horizon → AreAllAt (length w.net.sites) w.front published
+  pub last : w.front ≡ w.net.horizon → AreAllAt done w.front published
+
+-- the same for all stations
+abbrev pub AreShownOf : HelmView → WorldView → List RackView → Type 0
+AreShownOf h w published = AreShownUpTo h w (length w.net.sites) published
 
 -- the same while the racks of a front are published: so many stations are done
 pub record AreShownTo (h : HelmView) (w : WorldView) (done : ℕ) (published : List RackView) : Type 0 where
-  pub racks : AllByRecursion (IsRackOf h.net h.helm) published
-  pub early : AllByRecursion (λ q. q.front ≤ w.front) published
+  pub up_to : AreShownUpTo h w done published
   pub below : AllByRecursion (λ q. done < q.station → q.front < w.front) published
-  pub there : HasRacks w.net published
-  pub last : w.front ≡ w.net.horizon → AreAllAt done w.front published
 
 -- a helm that raised its front to this one behind calls
 pub record Raises (old new : HelmView) (front : ℕ) : Type 0 where

@@ -29,10 +29,10 @@
 //! It carries a promise of README.md, **a live study has one legal history, and looks are true**: in the one journal
 //! each analyst's decisions stand in order, each once, and no others; none is answered Full, since no more are asked
 //! than a journal holds. Where the engine comes to the horizon, the world has the clones that this journal leaves,
-//! what clones share was counted once, and what was seen at each look is true of the clones that there were at its
-//! front of the journal; it stays true of those that the journal leaves, since nothing behind a front changes a log
-//! before it (`laws`). Where a log would get longer than the limit, the least station and there the least clone at the
-//! last front are named. That threads run side by side, no clause says.
+//! what clones share was counted once, and what was seen at each look is true of the clones that there were at the
+//! opening or at its front of the journal; it stays true of those that the journal leaves, since nothing behind a
+//! front changes a log before it (`laws`). Where a log would get longer than the limit, the least station and there
+//! the least clone at the last front are named. That threads run side by side, no clause says.
 #![tactic(auto)]
 
 pub mod analyst;
@@ -40,6 +40,7 @@ mod asking;
 mod begin;
 mod beside;
 mod engine;
+pub mod examples;
 pub mod laws;
 mod live;
 mod prepared;

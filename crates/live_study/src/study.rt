@@ -2,6 +2,7 @@
 ghost use Rattle.std.specs.Prelude.{◌≡◌, ◌+◌, ◌≤◌, length, map, IfOk, IfErr, OnErr};
 ghost use Rattle.std.specs.List.{AllByRecursion};
 ghost use Rattle.net_model.specs.declared.limits.TheConstants.{MOST_STATIONS};
+ghost use Rattle.decision_desk.specs.Desks.{desk_id};
 ghost use Rattle.decision_desk.specs.Passes.{new_helm, new_passes};
 ghost use Rattle.shelf.specs.Racks.{MayOpen};
 ghost use Rattle.world_core.specs.Worlds.{opening_world, total_handled};
@@ -47,9 +48,8 @@ fn open_desk(
     script: &Script,
 ) -> Result<(Desk, Vec<Pass>, Helm), NoMemory>
     ensures passes { IfOk result (λ r. r.1.items
-        ≡ new_passes r.0.table.shared.table_id model.now.value (length script.now.analysts)) }
-    ensures helm { IfOk result (λ r. r.2
-        ≡ new_helm r.0.table.shared.table_id model.now.value (length script.now.analysts)) }
+        ≡ new_passes (desk_id r.0) model.now.value (length script.now.analysts)) }
+    ensures helm { IfOk result (λ r. r.2 ≡ new_helm (desk_id r.0) model.now.value (length script.now.analysts)) }
 {
     Desk::begin(alloc, Arc::try_clone(model)?, script.analysts())
 }

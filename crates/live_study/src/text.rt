@@ -1,7 +1,7 @@
 //! The text of a live study's journal, with its looks behind it.
 ghost use Rattle.std.specs.Prelude.{◌≡◌, IfOk};
 ghost use Rattle.net_model.specs.Net.{Net};
-ghost use Rattle.journal_text.specs.JournalText.{journal_text as text_of};
+ghost use Rattle.journal_text.specs.JournalText.{journal_text as journal_text'};
 ghost use Rattle.live_study.specs.Lives.{all_looks};
 ghost use Rattle.live_study.specs.Looks.{HasMadeLooks};
 ghost use Rattle.live_study.specs.Scripts.{IsJournalOf};
@@ -32,7 +32,7 @@ pub fn live_journal_text(
     requires journal { (net : Net) × IsJournalOf net script.now live.now.book }
     requires made { HasMadeLooks script.now (all_looks live.now.looks.items) }
     ensures value { IfOk result (λ text. text.items ≡
-        text_of script.now.analysts live.now.book.events (all_looks live.now.looks.items)) }
+        journal_text' script.now.analysts live.now.book.events (all_looks live.now.looks.items)) }
 {
     let looks = looks_of(alloc, live.looks.as_slice())?;
     let book = live.book.book();

@@ -5,11 +5,11 @@ use Rattle.std.specs.Prelude.{Result, Ok, Err, OnOk, OnErr}
 use Rattle.std.proofs.lemmas.List.{drop-append-le}
 use Rattle.std.proofs.Math.Seq.{drop-append-add}
 use Rattle.sim_base.specs.Blocks.{of_blocks}
-use Rattle.log_chain.specs.Blocks.{AreBlocks}
+use Rattle.log_chain.specs.Blocks.{AreFullButLast}
 use Rattle.log_chain.specs.declared.blocks.TheConstants.{ENTRIES_OF_BLOCK}
 
 module _ {X : Type 0} where
-  -- ---- a push: of_blocks and AreBlocks
+  -- ---- a push: of_blocks and AreFullButLast
 
   -- to the last block
   pub all_of-set_last : (bs : List (List X)) (i : ℕ) (b c : List X) (e : X) → length bs ≡ i + 1 → b ≡ get_or bs i b
@@ -24,8 +24,8 @@ module _ {X : Type 0} where
       ∙ sym (append_assoc x (of_blocks (y ∷ ys)) (e ∷ []))
 
   -- which may be full then
-  pub blocks-set_last : (bs : List (List X)) (i : ℕ) (c : List X) → AreBlocks bs → length bs ≡ i + 1
-      → length c ≤ ENTRIES_OF_BLOCK → AreBlocks (set bs i c)
+  pub blocks-set_last : (bs : List (List X)) (i : ℕ) (c : List X) → AreFullButLast bs → length bs ≡ i + 1
+      → length c ≤ ENTRIES_OF_BLOCK → AreFullButLast (set bs i c)
   blocks-set_last [] i c h long small = absurd (omega (arith, long))
   blocks-set_last (x ∷ []) zero c h long small = small
   blocks-set_last (x ∷ []) (suc i) c h long small = absurd (omega (arith, long))
@@ -37,9 +37,9 @@ module _ {X : Type 0} where
       (h.0, blocks-set_last (y ∷ z ∷ zs) (suc i) c h.1 (omega (arith, long)) small)
 
   -- to a new block, where the last one is full or there is none
-  pub blocks-push : (bs : List (List X)) (b : List X) (e : X) → AreBlocks bs → b ≡ e ∷ []
+  pub blocks-push : (bs : List (List X)) (b : List X) (e : X) → AreFullButLast bs → b ≡ e ∷ []
       → ((i : ℕ) (l : List X) → length bs ≡ i + 1 → l ≡ get_or bs i l → ENTRIES_OF_BLOCK ≤ length l)
-      → AreBlocks (bs ++ b ∷ [])
+      → AreFullButLast (bs ++ b ∷ [])
   blocks-push [] b e h new full = omega (arith, ap length new)
   blocks-push (x ∷ []) b e h new full =
       (omega (arith, full 0 x (omega arith) refl, h), omega (arith, ap length new))
@@ -49,8 +49,8 @@ module _ {X : Type 0} where
   -- ---- a place: of_blocks
 
   -- the entries from a place on
-  pub all_of-drop : (bs : List (List X)) (i left : ℕ) (b : List X) → AreBlocks bs → i < length bs → b ≡ get_or bs i b
-      → left ≤ length b
+  pub all_of-drop : (bs : List (List X)) (i left : ℕ) (b : List X) → AreFullButLast bs → i < length bs
+      → b ≡ get_or bs i b → left ≤ length b
       → drop (ENTRIES_OF_BLOCK * i + left) (of_blocks bs) ≡ drop left b ++ of_blocks (drop (suc i) bs)
   all_of-drop [] i left b h there here within = absurd (omega (arith, there))
   all_of-drop (x ∷ xs) zero left b h there here within =
@@ -63,14 +63,15 @@ module _ {X : Type 0} where
       ∙ all_of-drop (y ∷ ys) i left b h.1 (omega (arith, there)) here within)
 
   -- no blocks have more entries
-  pub all_of-few : (bs : List (List X)) → AreBlocks bs → length (of_blocks bs) ≤ ENTRIES_OF_BLOCK * length bs
+  pub all_of-few : (bs : List (List X)) → AreFullButLast bs → length (of_blocks bs) ≤ ENTRIES_OF_BLOCK * length bs
   all_of-few [] h = omega arith
   all_of-few (x ∷ []) h = omega (arith, h, length-append x [])
   all_of-few (x ∷ y ∷ ys) h = omega (arith, h.0, length-append x (of_blocks (y ∷ ys)), all_of-few (y ∷ ys) h.1)
 
   -- behind the last entry of a block that is not full is no other
-  pub all_of-short : (bs : List (List X)) (i left : ℕ) (b : List X) → AreBlocks bs → i < length bs → b ≡ get_or bs i b
-      → length b ≤ left → left < ENTRIES_OF_BLOCK → length (of_blocks bs) ≤ ENTRIES_OF_BLOCK * i + left
+  pub all_of-short : (bs : List (List X)) (i left : ℕ) (b : List X) → AreFullButLast bs → i < length bs
+      → b ≡ get_or bs i b → length b ≤ left → left < ENTRIES_OF_BLOCK
+      → length (of_blocks bs) ≤ ENTRIES_OF_BLOCK * i + left
   all_of-short [] i left b h there here short small = absurd (omega (arith, there))
   all_of-short (x ∷ []) zero left b h there here short small = omega (arith, short, ap length here, length-append x [])
   all_of-short (x ∷ []) (suc i) left b h there here short small = absurd (omega (arith, there))

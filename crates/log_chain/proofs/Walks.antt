@@ -9,7 +9,7 @@ use Rattle.sim_base.specs.declared.entry.Entry.{Entry}
 use Rattle.sim_base.specs.declared.entry.Line.{Line}
 use Rattle.sim_base.specs.declared.message.Msg.{Msg}
 use Rattle.sim_base.specs.Blocks.{of_blocks}
-use Rattle.log_chain.specs.Blocks.{AreBlocks}
+use Rattle.log_chain.specs.Blocks.{AreFullButLast}
 use Rattle.log_chain.specs.Packing.{entry_of, entries_of}
 use Rattle.log_chain.specs.declared.packed.PackedEntry.{PackedEntry}
 use Rattle.log_chain.specs.declared.blocks.TheConstants.{ENTRIES_OF_BLOCK}
@@ -57,7 +57,7 @@ length-entries_of wide ps es is = sym (length-map ps (entry_of wide)) ∙ ap len
 -- in a block
 pub walk_from_block : (wide : List (Entry Msg Line)) (ps : List PackedEntry) (bs : List (List (Entry Msg Line)))
     (b : List (Entry Msg Line)) (i left at : ℕ)
-    → AreBlocks bs → i < length bs → b ≡ get_or bs i b → entries_of wide ps ≡ b → left ≤ length ps
+    → AreFullButLast bs → i < length bs → b ≡ get_or bs i b → entries_of wide ps ≡ b → left ≤ length ps
     → at ≡ ENTRIES_OF_BLOCK * i + left
     → entries_of wide (take (length ps - left) (drop left ps))
     ++ of_blocks (take (length bs - (i + 1)) (drop (i + 1) bs)) ≡ drop at (of_blocks bs)

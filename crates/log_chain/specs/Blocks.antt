@@ -4,7 +4,7 @@ use Rattle.log_chain.specs.declared.blocks.TheConstants.{ENTRIES_OF_BLOCK}
 
 module _ {X : Type 0} where
   -- all are full, the last one at most
-  abbrev pub AreBlocks : List (List X) → Type 0
-  AreBlocks [] = ⊤
-  AreBlocks (b ∷ []) = length b ≤ ENTRIES_OF_BLOCK
-  AreBlocks (b ∷ c ∷ bs) = (length b ≡ ENTRIES_OF_BLOCK) × AreBlocks (c ∷ bs)
+  abbrev pub AreFullButLast : List (List X) → Type 0
+  AreFullButLast [] = ⊤
+  AreFullButLast (b ∷ []) = length b ≤ ENTRIES_OF_BLOCK
+  AreFullButLast (b ∷ c ∷ bs) = (length b ≡ ENTRIES_OF_BLOCK) × AreFullButLast (c ∷ bs)

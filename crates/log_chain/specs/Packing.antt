@@ -21,8 +21,8 @@ use Rattle.log_chain.specs.declared.packed.PackedMsg.{PackedMsg}
 use Rattle.log_chain.specs.declared.packed.PackedLine.{PackedLine}
 
 -- a set of a parameter, its two values where a job has its count and its time of making
-abbrev pub set_of : Param → Job → Payload
-set_of p j = payload.Set (record { param = p; a = j.count; b = j.born })
+abbrev pub set_payload : Param → Job → Payload
+set_payload p j = payload.Set (record { param = p; a = j.count; b = j.born })
 
 -- what a message of a kind tells
 abbrev pub payload_of : Kind → Job → Payload
@@ -30,12 +30,12 @@ payload_of kind.Wide j = payload.Tick
 payload_of kind.Tick j = payload.Tick
 payload_of kind.Job j = payload.Job j
 payload_of kind.Done j = payload.Done j
-payload_of kind.Every j = set_of param.Every j
-payload_of kind.Service j = set_of param.Service j
-payload_of kind.Hold j = set_of param.Hold j
-payload_of kind.Servers j = set_of param.Servers j
-payload_of kind.Room j = set_of param.Room j
-payload_of kind.Weight j = set_of param.Weight j
+payload_of kind.Every j = set_payload param.Every j
+payload_of kind.Service j = set_payload param.Service j
+payload_of kind.Hold j = set_payload param.Hold j
+payload_of kind.Servers j = set_payload param.Servers j
+payload_of kind.Room j = set_payload param.Room j
+payload_of kind.Weight j = set_payload param.Weight j
 
 -- the key of a packed message
 abbrev pub key_of : PackedMsg → Key
@@ -57,12 +57,12 @@ counts_of line.Passed l = Passed l.first
 counts_of line.Sink l = Sink l.first (l.third * 2 ^ 32 + l.second)
 
 -- the line
-abbrev pub line_of : PackedLine → Line
-line_of l = counts_of l.kind l
+abbrev pub unpacked_line : PackedLine → Line
+unpacked_line l = counts_of l.kind l
 
 -- the entry that a packed one has in its own numbers
 abbrev pub unpacked_entry : PackedEntry → Entry Msg Line
-unpacked_entry p = record { msg = msg_of p.msg; line = line_of p.line }
+unpacked_entry p = record { msg = msg_of p.msg; line = unpacked_line p.line }
 
 -- whether the entry did not fit
 abbrev pub is_wide : Kind → Bool

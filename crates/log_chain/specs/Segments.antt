@@ -3,7 +3,7 @@ use Rattle.std.specs.Prelude.{◌≡◌, ℕ, ◌+◌, ◌*◌, ◌-◌, ◌<◌
 use Rattle.std.specs.Arc.{arc_value}
 use Rattle.std.specs.declared.sync.Arc.{Arc}
 use Rattle.sim_base.specs.Blocks.{of_blocks}
-use Rattle.log_chain.specs.Blocks.{AreBlocks}
+use Rattle.log_chain.specs.Blocks.{AreFullButLast}
 use Rattle.log_chain.specs.declared.log.TheConstants.{MOST_ENTRIES}
 
 module _ {X Z : Type 0} where
@@ -33,6 +33,6 @@ pub record IsChain {X Z : Type 0} (segments : List (Arc (List X) Z)) (shared : �
     (more : ℕ) : Type 0 where
   pub halving : IsHalving (lengths segments)
   pub count : shared ≡ length (entries_in segments)
-  pub blocks_fit : AreBlocks blocks
+  pub blocks_fit : AreFullButLast blocks
   pub tail : more ≡ length (of_blocks blocks)
   pub most : shared + more ≤ MOST_ENTRIES

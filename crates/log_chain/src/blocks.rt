@@ -1,7 +1,7 @@
 //! The tail of a log: blocks that it does not share, so that a push moves no entry.
 ghost use Rattle.std.specs.Prelude.{◌≡◌, ◌++◌, ◌∷◌, [], OnOk, OnErr, IfOk, IsTrue};
 ghost use Rattle.sim_base.specs.Blocks.{of_blocks};
-ghost use Rattle.log_chain.specs.Blocks.{AreBlocks};
+ghost use Rattle.log_chain.specs.Blocks.{AreFullButLast};
 ghost use Rattle.log_chain.specs.Packing.{FitWords};
 
 use crate::entry_list::EntryList;
@@ -13,8 +13,8 @@ pub const ENTRIES_OF_BLOCK: usize = 64;
 
 /// Adds an entry behind those of the blocks: to the last one, or to a new one where that is full.
 pub fn push(blocks: &mut Vec<EntryList>, entry: &Entry) -> Result<(), NoMemory>
-    requires blocks { AreBlocks blocks.old.items }
-    ensures blocks { AreBlocks blocks.new.items }
+    requires blocks { AreFullButLast blocks.old.items }
+    ensures blocks { AreFullButLast blocks.new.items }
     ensures ok { OnOk result (of_blocks blocks.new.items ≡ of_blocks blocks.old.items ++ entry.now ∷ []) }
     ensures err { OnErr result (of_blocks blocks.new.items ≡ of_blocks blocks.old.items) }
 {

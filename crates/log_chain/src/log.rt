@@ -166,6 +166,7 @@ impl Log {
     /// How many entries come before a time. It is found by halving.
     pub fn place_of_time(&self, time: u64) -> u64
         requires rises { RiseByTime self.now }
+        ensures within { result ≤ length self.now }
         ensures value { drop result self.now ≡ from_time time self.now }
     {
         let mut low = 0;

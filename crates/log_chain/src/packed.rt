@@ -1,7 +1,7 @@
 //! Entries in 32 bytes, where their numbers are small enough.
 ghost use Rattle.std.specs.Prelude.{◌≡◌, true, false, IfSome};
 ghost use Rattle.sim_base.specs.declared.message.Job.{Job as JobOf};
-ghost use Rattle.log_chain.specs.Packing.{set_of, payload_of, key_of, msg_of, line_of};
+ghost use Rattle.log_chain.specs.Packing.{set_payload, payload_of, key_of, msg_of, unpacked_line};
 ghost use Rattle.log_chain.specs.Packing.{is_wide, unpacked_entry, IsNarrow};
 
 use sim_base::{Change, Entry, Job, Key, Line, Msg, Param, Payload};
@@ -208,7 +208,7 @@ fn with_payload(msg: &Msg, kind: Kind, job: Job) -> Option<PackedMsg>
 // The kind of a message that sets the parameter.
 fn kind_of(param: Param) -> Kind
     ensures narrow { is_wide result ≡ false }
-    ensures value { (j : JobOf) → payload_of result j ≡ set_of param j }
+    ensures value { (j : JobOf) → payload_of result j ≡ set_payload param j }
 {
     match param {
         Param::Every => Kind::Every,
@@ -222,7 +222,7 @@ fn kind_of(param: Param) -> Kind
 
 // The counts in 12 bytes, or None where one is too large.
 fn pack_line(line: &Line) -> Option<PackedLine>
-    ensures value { IfSome result (λ l. line_of l ≡ line.now) }
+    ensures value { IfSome result (λ l. unpacked_line l ≡ line.now) }
 {
     match *line {
         Line::Source { sent } => with_counts(LineKind::Source, sent, 0, 0, 0),
@@ -316,7 +316,7 @@ fn unpack_payload(msg: &PackedMsg) -> Payload
 // A set of the parameter: its two values stand where a job has its count and its time of making.
 #[inline(always)]
 fn set(param: Param, values: &Job) -> Payload
-    ensures value { result ≡ set_of param values.now }
+    ensures value { result ≡ set_payload param values.now }
 {
     Payload::Set(Change {
         param,
@@ -328,7 +328,7 @@ fn set(param: Param, values: &Job) -> Payload
 // The counts of a packed line.
 #[inline(always)]
 fn unpack_line(line: &PackedLine) -> Line
-    ensures value { result ≡ line_of line.now }
+    ensures value { result ≡ unpacked_line line.now }
 {
     match line.kind {
         LineKind::Source => Line::Source {

@@ -1,7 +1,7 @@
 //! Walks along a log.
 ghost use Rattle.std.specs.Prelude.{◌≡◌, ◌++◌, ◌∷◌, [], ◌<◌, ◌≤◌, length, drop, IfSome, IfNone, option_map, slice_get};
 ghost use Rattle.sim_base.specs.Blocks.{of_blocks};
-ghost use Rattle.log_chain.specs.Blocks.{AreBlocks};
+ghost use Rattle.log_chain.specs.Blocks.{AreFullButLast};
 ghost use Rattle.log_chain.specs.Segments.{entries_in};
 ghost use Rattle.log_chain.specs.Stored.{entry_in};
 
@@ -159,7 +159,7 @@ pub fn from_segment<'a>(segments: &'a [Segment], blocks: &'a [EntryList], at: us
 
 /// A walk from a place among the blocks' entries on.
 pub fn from_block<'a>(blocks: &'a [EntryList], at: usize) -> Walk<'a>
-    requires sizes { AreBlocks blocks.now }
+    requires sizes { AreFullButLast blocks.now }
     ensures value { result ≡ drop at (of_blocks blocks.now) }
 {
     let i = at / ENTRIES_OF_BLOCK;

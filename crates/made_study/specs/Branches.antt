@@ -1,14 +1,13 @@
 -- The clones that the made script leaves.
-use Rattle.std.specs.Prelude.{ℕ, zero, suc, ◌+◌, ◌*◌, ◌/◌, ◌==◌, if◌then◌else◌, List, [], ◌∷◌, ◌++◌, None, map}
+use Rattle.std.specs.Prelude.{ℕ, zero, suc, ◌/◌, ◌==◌, if◌then◌else◌, List, [], ◌∷◌, ◌++◌, None, map}
 use Rattle.std.specs.List.{range_with_len}
 use Rattle.sim_base.specs.declared.decision.Planned.{Planned}
-use Rattle.sim_base.specs.declared.message.Param.TheVariants.{Service}
 use Rattle.sim_base.specs.Clones.{Clone, base}
-use Rattle.made_study.specs.Scripts.{plan_name}
+use Rattle.made_study.specs.Scripts.{change_of_plan, plan_name, time_of_plan}
 
 -- what a plan decides for itself: the first ward is station 3
 abbrev pub own_decision : ℕ → Planned
-own_decision j = record { at = 100 * j; station = 3; change = record { param = Service; a = 1; b = 2 + j } }
+own_decision j = record { at = time_of_plan j; station = 3; change = change_of_plan j }
 
 -- so many decisions, of a plan and of those that it goes back to, the earliest first
 abbrev pub last_decisions : ℕ → ℕ → List Planned

@@ -4,12 +4,8 @@ use Rattle.std.specs.List.{range_with_len}
 use Rattle.net_model.specs.declared.station.Kind.TheVariants.{Source, Server, Delay, Router, Sink}
 use Rattle.net_model.specs.declared.limits.TheConstants.{USUAL_LIMIT}
 use Rattle.net_model.specs.declared.station.Link.{Link}
-use Rattle.net_model.specs.Net.{Net, Site}
+use Rattle.net_model.specs.Net.{Net, Site, link}
 use Rattle.made_study.specs.Numbers.{longest_gap, longest_service, ward_name, ward_servers, wards}
-
--- a link to a station, with this delay and the weight 1
-abbrev pub link_to : ℕ → ℕ → Link
-link_to station delay = record { to = station; delay = delay; weight = 1 }
 
 -- the way from the triage to the ward of this number, which is station i + 2
 abbrev pub way : ℕ → Link
@@ -17,7 +13,7 @@ way i = record { to = i + 2; delay = 2; weight = i }
 
 -- the source of at most 5000 patients, who come up to the longest gap apart and go to the triage
 abbrev pub door : ℕ → Site
-door n = record { name = codes "door"; kind = Source 1 (longest_gap n) 5000 1; stream = 1; links = link_to 2 2 ∷ [] }
+door n = record { name = codes "door"; kind = Source 1 (longest_gap n) 5000 1; stream = 1; links = link 2 2 ∷ [] }
 
 -- the router that sends each patient to one of so many wards, drawn by the weights of the ways
 abbrev pub triage : ℕ → Site
@@ -34,12 +30,12 @@ ward count i = record {
   name = ward_name i;
   kind = Server (ward_servers i) 20 3 (longest_service i) false;
   stream = i + 2;
-  links = link_to (count + 3) 3 ∷ [];
+  links = link (count + 3) 3 ∷ [];
 }
 
 -- the delay between the wards and the exit
 abbrev pub walk : ℕ → Site
-walk count = record { name = codes "walk"; kind = Delay 0 4; stream = count + 3; links = link_to (count + 4) 2 ∷ [] }
+walk count = record { name = codes "walk"; kind = Delay 0 4; stream = count + 3; links = link (count + 4) 2 ∷ [] }
 
 -- the sink behind it
 abbrev pub exit : ℕ → Site

@@ -3,6 +3,7 @@ use Rattle.std.specs.Prelude.{ℕ, ◌+◌, ◌*◌, ◌/◌, ◌-◌, ◌==◌,
 use Rattle.std.specs.List.{flat_map, range_with_len}
 use Rattle.sim_base.specs.declared.decision.Decision.{Decision}
 use Rattle.sim_base.specs.declared.decision.Decision.TheVariants.{Fork, Set}
+use Rattle.sim_base.specs.declared.message.Change.{Change}
 use Rattle.sim_base.specs.declared.message.Param.TheVariants.{Service}
 use Rattle.decision_script.specs.declared.item.Act.TheVariants.{Decide}
 use Rattle.decision_script.specs.declared.item.Item.{Item}
@@ -22,9 +23,17 @@ parent j = if j == 1 then codes "base" else plan_name (j / 2)
 abbrev pub fork_of_plan : ℕ → Decision
 fork_of_plan j = Fork (plan_name j) (parent j)
 
--- from a time on, the first ward serves a patient for 1 to 2 + j
+-- when a plan changes the first ward
+abbrev pub time_of_plan : ℕ → ℕ
+time_of_plan j = 100 * j
+
+-- how it changes it: the ward serves a patient for 1 to 2 + j
+abbrev pub change_of_plan : ℕ → Change
+change_of_plan j = record { param = Service; a = 1; b = 2 + j }
+
+-- the set that makes this change
 abbrev pub set_of_plan : ℕ → Decision
-set_of_plan j = Set (plan_name j) (100 * j) (ward_name 1) (record { param = Service; a = 1; b = 2 + j })
+set_of_plan j = Set (plan_name j) (time_of_plan j) (ward_name 1) (change_of_plan j)
 
 -- two lines for a plan, both of the analyst main
 abbrev pub items_of_plan : ℕ → List Item

@@ -11,7 +11,7 @@ use Rattle.mailbox.specs.declared.mail.Letter.TheVariants.{Task, Answer}
 use Rattle.mailbox.specs.declared.mail.MailView.{MailView}
 use Rattle.mailbox.specs.declared.mail.MailView.TheVariants.{Alone, Opening, Holding, Sent, Idle, Working}
 use Rattle.mailbox.specs.Mail.{Slot, Hand, Mail, unshared, unopened, empty, waits, taken, answered}
-use Rattle.mailbox.specs.Mail.{caller_of, worker_of, state_of, IsRight, IsMailbox}
+use Rattle.mailbox.specs.Mail.{caller_of, worker_of, state_of, HasRightAnswer, IsMailbox}
 use Rattle.mailbox.specs.Mail.{HasOpened, HasGiven, HasUndone, HasCollected, HasTaken, HasGivenAnswer}
 
 -- whether a seat with this view is the caller's
@@ -85,7 +85,8 @@ module _ {T A : Type 0} where
   -- a step of the caller is allowed that is shown in each state in which the caller knows so much
   Allows-caller : (answers : T → A → Type 0) (slots id : ℕ) (m k : Hand T A) (f : ℕ → ℕ)
       (tells : Hand T A → ℕ → Hand T A → Type 0) → m ≡ k → is_caller k.0 ≡ true
-      → ((mail : Mail T A) → IsRight answers mail → caller_of mail ≡ k.0 → Shows answers k f tells (state_of mail) 0)
+      → ((mail : Mail T A) → HasRightAnswer answers mail → caller_of mail ≡ k.0
+      → Shows answers k f tells (state_of mail) 0)
       → Allows (IsMailbox answers) slots id m 0 f (tells m)
   Allows-caller answers slots id m k f tells has role shows s held one at small =
       let At : State (Slot T A) (MailView T) → Hand T A → Type 0 = λ u h. get_elem? u.views id ≡ some h.0 in
@@ -98,7 +99,7 @@ module _ {T A : Type 0} where
   -- the same of the worker
   Allows-worker : (answers : T → A → Type 0) (slots id : ℕ) (m k : Hand T A) (f : ℕ → ℕ)
       (tells : Hand T A → ℕ → Hand T A → Type 0) → m ≡ k → is_caller k.0 ≡ false
-      → ((mail : Mail T A) → IsRight answers mail → worker_of mail ≡ k.0 ∷ []
+      → ((mail : Mail T A) → HasRightAnswer answers mail → worker_of mail ≡ k.0 ∷ []
       → Shows answers k f tells (state_of mail) 1)
       → Allows (IsMailbox answers) slots id m 0 f (tells m)
   Allows-worker answers slots id m k f tells has role shows s held one at small =
@@ -112,7 +113,7 @@ module _ {T A : Type 0} where
   -- ---- the caller takes the slot
 
   -- in the one state in which the caller opens, what it does is in order
-  Shows-opens : (answers : T → A → Type 0) (mail : Mail T A) → IsRight answers mail → caller_of mail ≡ Opening
+  Shows-opens : (answers : T → A → Type 0) (mail : Mail T A) → HasRightAnswer answers mail → caller_of mail ≡ Opening
       → Shows answers (Opening, []) (λ n. n) (λ m _ w. HasOpened m w) (state_of mail) 0
   Shows-opens answers unshared r e = absurd cc
   Shows-opens answers unopened r e = (Holding, takes 0 None, refl, record { mail = empty; is = refl; right = tt }, refl)
@@ -130,7 +131,8 @@ module _ {T A : Type 0} where
   -- ---- a task is given
 
   -- in the one state in which the caller holds the slot, it gives in order
-  Shows-gives : (answers : T → A → Type 0) (x : T) (mail : Mail T A) → IsRight answers mail → caller_of mail ≡ Holding
+  Shows-gives : (answers : T → A → Type 0) (x : T) (mail : Mail T A) → HasRightAnswer answers mail
+      → caller_of mail ≡ Holding
       → Shows answers (Holding, (0, Some (Task x)) ∷ []) (λ _. WAITS) (λ m _ w. HasGiven m w) (state_of mail) 0
   Shows-gives answers x unshared r e = absurd cc
   Shows-gives answers x unopened r e = absurd cc
@@ -150,7 +152,8 @@ module _ {T A : Type 0} where
   -- ---- it is taken back
 
   -- in each state in which a task is out, the caller takes it back, or finds that it no longer waits
-  Shows-undoes : (answers : T → A → Type 0) (x : T) (mail : Mail T A) → IsRight answers mail → caller_of mail ≡ Sent x
+  Shows-undoes : (answers : T → A → Type 0) (x : T) (mail : Mail T A) → HasRightAnswer answers mail
+      → caller_of mail ≡ Sent x
       → Shows answers (Sent x, []) (λ n. either (nat_eq n WAITS) EMPTY n) HasUndone (state_of mail) 0
   Shows-undoes answers x unshared r e = absurd cc
   Shows-undoes answers x unopened r e = absurd cc
@@ -177,7 +180,7 @@ module _ {T A : Type 0} where
   -- ---- the worker takes it
 
   -- in each state in which the worker is idle, it takes the task that waits, or finds none
-  Shows-takes : (answers : T → A → Type 0) (mail : Mail T A) → IsRight answers mail → worker_of mail ≡ Idle ∷ []
+  Shows-takes : (answers : T → A → Type 0) (mail : Mail T A) → HasRightAnswer answers mail → worker_of mail ≡ Idle ∷ []
       → Shows answers (Idle, []) (λ n. either (nat_eq n WAITS) TAKEN n) HasTaken (state_of mail) 1
   Shows-takes answers unshared r e = absurd cc
   Shows-takes answers unopened r e = (Idle, keeps, tt, record { mail = unopened; is = refl; right = tt }, refl)
@@ -197,8 +200,8 @@ module _ {T A : Type 0} where
   -- ---- and answers it
 
   -- in the one state in which the worker has this task, it leaves an answer in order
-  Shows-leaves : (answers : T → A → Type 0) (x : T) (a : A) → answers x a → (mail : Mail T A) → IsRight answers mail
-      → worker_of mail ≡ Working x ∷ []
+  Shows-leaves : (answers : T → A → Type 0) (x : T) (a : A) → answers x a → (mail : Mail T A)
+      → HasRightAnswer answers mail → worker_of mail ≡ Working x ∷ []
       → Shows answers (Working x, (0, Some (Answer a)) ∷ []) (λ _. ANSWERED) (λ m _ w. HasGivenAnswer m w)
       (state_of mail) 1
   Shows-leaves answers x a is unshared r e = absurd cc
@@ -221,7 +224,8 @@ module _ {T A : Type 0} where
   -- ---- and the caller collects the answer
 
   -- in each state in which a task is out, the caller collects its answer, or finds none
-  Shows-collects : (answers : T → A → Type 0) (x : T) (mail : Mail T A) → IsRight answers mail → caller_of mail ≡ Sent x
+  Shows-collects : (answers : T → A → Type 0) (x : T) (mail : Mail T A) → HasRightAnswer answers mail
+      → caller_of mail ≡ Sent x
       → Shows answers (Sent x, []) (λ n. either (nat_eq n ANSWERED) EMPTY n) (HasCollected answers) (state_of mail) 0
   Shows-collects answers x unshared r e = absurd cc
   Shows-collects answers x unopened r e = absurd cc

@@ -73,15 +73,15 @@ module _ {T A : Type 0} where
   }
 
   -- the answer that lies there is one to the task
-  abbrev pub IsRight : (T → A → Type 0) → Mail T A → Type 0
-  IsRight answers (answered t a) = answers t a
-  IsRight answers _ = Unit {0}
+  abbrev pub HasRightAnswer : (T → A → Type 0) → Mail T A → Type 0
+  HasRightAnswer answers (answered t a) = answers t a
+  HasRightAnswer answers _ = Unit {0}
 
 -- the rule: the mailbox is in one of its states, and an answer in it is one to its task
 pub record IsMailbox {T A : Type 0} (answers : T → A → Type 0) (s : State (Slot T A) (MailView T)) : Type 0 where
   pub mail : Mail T A
   pub is : s ≡ state_of mail
-  pub right : IsRight answers mail
+  pub right : HasRightAnswer answers mail
 
 -- the seat is at this table, which has one word
 abbrev pub IsSeatOf : TableId → TableId → Type 0

@@ -17,9 +17,9 @@
 //! let parts = cut(alloc, senders, &[CloneSet::one(0), CloneSet::one(1).with(2)])?;
 //! ```
 //!
-//! `group` costs what its messages cost in an ordered map, `cut` one meeting of two sets for each copy. An engine may
-//! instead deliver each message as it is sent, since pending messages join their equals anyway; then these two calls
-//! say what it has to come to.
+//! `group` costs what it costs to put its messages into a `Pending` and to take them out, `cut` one meeting of two sets
+//! for each copy. An engine may instead deliver each message as it is sent, since pending messages join their equals
+//! anyway; then these two calls say what it has to come to.
 //!
 //! "No message is lost and none is given twice" stands on them: `laws` has that a clone takes of the grouped messages
 //! what it takes of those that were sent.

@@ -2,7 +2,7 @@
 use Rattle.std.specs.Prelude.{ℕ, zero, suc, List, [], ◌∷◌, ◌++◌, codes, decimal, false}
 use Rattle.net_model.specs.declared.station.Kind.TheVariants.{Source, Server, Sink}
 use Rattle.net_model.specs.declared.limits.TheConstants.{USUAL_LIMIT}
-use Rattle.net_model.specs.Net.{Net}
+use Rattle.net_model.specs.Net.{Net, link}
 
 -- the top, with the lookahead and the horizon given as they are written
 abbrev pub top_with : List ℕ → List ℕ → List ℕ
@@ -14,7 +14,7 @@ top_text = top_with (codes "2") (codes "20")
 
 -- the gate, with its last line given
 abbrev pub gate_with : List ℕ → List ℕ
-gate_with link = codes "[[station]]\nname = \"gate\"\nkind = \"source\"\nevery = [3, 3]\njobs = 2\n" ++ link
+gate_with last = codes "[[station]]\nname = \"gate\"\nkind = \"source\"\nevery = [3, 3]\njobs = 2\n" ++ last
 
 -- the gate with its link to the desk
 abbrev pub gate_text : List ℕ
@@ -90,13 +90,13 @@ small = record {
         name = codes "gate";
         kind = Source 3 3 2 1;
         stream = 1;
-        links = record { to = 2; delay = 2; weight = 1 } ∷ [];
+        links = link 2 2 ∷ [];
       }
       ∷ record {
         name = codes "desk";
         kind = Server 1 5 4 4 false;
         stream = 2;
-        links = record { to = 3; delay = 2; weight = 1 } ∷ [];
+        links = link 3 2 ∷ [];
       }
       ∷ record { name = codes "out"; kind = Sink; stream = 3; links = [] } ∷ [];
 }

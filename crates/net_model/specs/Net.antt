@@ -22,6 +22,10 @@ pub record Net : Type 0 where
   pub limit : ℕ
   pub sites : List Site
 
+-- a link to a station, with this delay and the weight 1
+abbrev pub link : ℕ → ℕ → Link
+link station delay = record { to = station; delay = delay; weight = 1 }
+
 -- the network has a station of this number
 pub record HasStation (net : Net) (s : ℕ) : Type 0 where
   pub low : 1 ≤ s

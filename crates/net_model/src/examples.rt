@@ -4,6 +4,7 @@
 //! to run.
 ghost use Rattle.std.specs.Prelude.{◌≡◌, ◌++◌, [], Ok, Err, codes};
 ghost use Rattle.sim_base.specs.declared.limits.TheConstants.{MOST_FILE_BYTES};
+ghost use Rattle.sim_base.specs.declared.name.TheConstants.{LONGEST_NAME};
 ghost use Rattle.net_model.specs.Text.{model};
 ghost use Rattle.net_model.specs.Examples.{cut_text, linked_desk, linked_out, named_desk, sinks, small};
 ghost use Rattle.net_model.specs.Examples.{small_text, timed_desk, top_text, top_with, with_top, without_link};
@@ -52,6 +53,7 @@ pub fn refused_links()
 /// The limits in numbers, as the format of model files gives them.
 pub fn limits_in_numbers()
     ensures bytes { MOST_FILE_BYTES ≡ 1048576 }
+    ensures name { LONGEST_NAME ≡ 16 }
     ensures stations { MOST_STATIONS ≡ 64 }
     ensures links { MOST_LINKS ≡ 16 }
     ensures time { MOST_TIME ≡ 1000000 }

@@ -21,7 +21,7 @@
 //!     let desk = model.find(&name);                   // Some(2): stations are numbered from 1, in the file's order
 //!
 //! A text is read once, in time linear in its length, but for names: each is compared with those before it, so
-//! the time is quadratic in the stations, of which there are few. `limits` names every bound.
+//! the time is quadratic in the stations, of which there are few. `limits` names every bound on a model's values.
 //!
 //! Which model a text states is defined in `specs/Text.antt`, key by key and in a fixed order of the rules, and
 //! `read_model` answers exactly that, out of memory apart. Every `Model` keeps the rules of `specs/Rules.antt`,

@@ -3,7 +3,7 @@ use Rattle.std.proofs.Common.{◌≡◌, ℕ, ◌<◌, ◌≤◌, ◌==◌, ◌&
 use Rattle.std.proofs.Common.{[], ◌∷◌, ◌++◌, inl, inr, refl, sym, ap, ◌∙◌, subst, arith, nat_lt, nat_le}
 use Rattle.std.proofs.lemmas.Bool.{cases_lt, lt-ltb, le-ltb, le-leb, lt-leb}
 use Rattle.sim_base.specs.declared.lists.TheConstants.{MOST_CLONES}
-use Rattle.phys_proc.specs.Ends.{ends_in, has_ended, AreClones}
+use Rattle.phys_proc.specs.Ends.{ends_in, has_ended, AreEndsOfClones}
 
 -- ---- has_ended
 
@@ -41,7 +41,7 @@ pub and_not : (b g later : Bool) → g ≡ not later → (b && not g) ≡ (b && 
 and_not b g true e = ap (λ x. b && not x) e
 and_not b g false e = ap (λ x. b && not x) e
 
--- ---- ends_in and AreClones
+-- ---- ends_in and AreEndsOfClones
 
 -- with an end listed last, a clone ends as with that end listed first
 ends_in-append : (horizon : ℕ) (es : List (ℕ × ℕ)) (e : ℕ × ℕ) (c : ℕ)
@@ -66,11 +66,11 @@ pub ends_in-more : (horizon : ℕ) (es all : List (ℕ × ℕ)) (clone at c : �
 ends_in-more horizon es all clone at c e = ap (λ l. ends_in horizon l c) e ∙ ends_in-append horizon es (clone, at) c
 
 -- with an end more, of a number that a clone may have, the ends are still those of such numbers
-pub AreClones-more : (es all : List (ℕ × ℕ)) (clone at : ℕ) → all ≡ es ++ (clone, at) ∷ [] → clone < MOST_CLONES
-    → AreClones es → AreClones all
-AreClones-more es all clone at e l f = subst AreClones (sym e) (both es f)
+pub AreEndsOfClones-more : (es all : List (ℕ × ℕ)) (clone at : ℕ) → all ≡ es ++ (clone, at) ∷ [] → clone < MOST_CLONES
+    → AreEndsOfClones es → AreEndsOfClones all
+AreEndsOfClones-more es all clone at e l f = subst AreEndsOfClones (sym e) (both es f)
   where
-    both : (es : List (ℕ × ℕ)) → AreClones es → AreClones (es ++ (clone, at) ∷ [])
+    both : (es : List (ℕ × ℕ)) → AreEndsOfClones es → AreEndsOfClones (es ++ (clone, at) ∷ [])
     both [] f = (l, tt)
     both (x ∷ xs) f = (f.0, both xs f.1)
 

@@ -6,7 +6,6 @@ use Rattle.std.specs.Prelude.{is_some}
 use Rattle.std.specs.List.{AllByRecursion, AllZip}
 use Rattle.std.proofs.Math.Bool.{and-true, and-false, or-true, or-false}
 use Rattle.std.proofs.Math.Nat.{mul-le-mul_right}
-use Rattle.std.specs.declared.cmp.Ordering.TheVariants.{Less}
 use Rattle.std.proofs.lemmas.Bool.{cases_Bool, cases_eq, ne_eqb, or_left, or_parts}
 use Rattle.sim_base.specs.Order.{msg_cmp}
 use Rattle.sim_base.specs.Pending.{spread_marks}
@@ -21,6 +20,7 @@ use Rattle.sim_base.specs.Marked.{SortedMarked}
 use Rattle.run_laws.specs.Copies.{IsForked, Carries, Disjoint, origin_of, part}
 use Rattle.std.proofs.lemmas.Bool.{false≢true}
 use Rattle.sim_base.proofs.ListLaws.{all_weaker}
+use Rattle.sim_base.proofs.Cutting.{SortedMarked-spread}
 use Rattle.phys_proc.specs.Own.{StationCopy, MarkedMessages, AreMarks, IsCopy, IsLowerBound}
 use Rattle.phys_proc.specs.Own.{IsLowerBoundOfAll, copy_after_fork, taken_at, all_clones, handled_alone_by}
 use Rattle.phys_proc.specs.Procs.{KeepsShares}
@@ -108,11 +108,6 @@ module _ (old new : ℕ) where
   all_spread P [] f = tt
   all_spread P (x ∷ xs) f = (f.0, all_spread P xs f.1)
 
-  -- and the spread messages are in order
-  sorted_spread : (xs : MarkedMessages) → SortedMarked msg_cmp xs → SortedMarked msg_cmp (spread xs)
-  sorted_spread [] s = tt
-  sorted_spread (x ∷ xs) s = (all_spread (λ z. msg_cmp x.0 z ≡ Less) xs s.0, sorted_spread xs s.1)
-
   -- the copy with the new clone
   abbrev forked_copy : StationCopy → StationCopy
   forked_copy a = record { set = set_after_fork a.set; state = a.state; log = a.log; pending = spread a.pending }
@@ -126,7 +121,7 @@ module _ (old new : ℕ) where
     state = refl;
     set = λ c. has-set_after_fork a.set c fresh;
     parts = λ c. taken_spread ends c a.pending marks;
-    sorted = sorted_spread a.pending sorted;
+    sorted = SortedMarked-spread union common (one old) (one new) msg_cmp a.pending sorted;
   }
 
 -- ---- copy_after_fork: only the copy of the old clone is changed
@@ -191,7 +186,8 @@ module _ (old new : ℕ) where
     forked_copy-fits : (a : StationCopy) → has a.set new ≡ false → IsCopy net s a → IsCopy net s (forked_copy old new a)
     forked_copy-fits a n f = IsCopy-like net s a (forked_copy old new a) f refl refl
         (f.inhabited.0, set_after_fork-has old new a.set f.inhabited.0 f.inhabited.1)
-        (sorted_spread old new a.pending f.sorted) (all_spread old new (λ m. m.to ≡ s) a.pending f.targets)
+        (SortedMarked-spread union common (one old) (one new) msg_cmp a.pending f.sorted)
+        (all_spread old new (λ m. m.to ≡ s) a.pending f.targets)
         (marks_grow a.set a.pending n f.marks)
 
     -- copies of a station, none of which has the new clone, are copies of it still with that clone

@@ -17,6 +17,7 @@ use Rattle.sim_base.specs.Marked.{SortedMarked}
 use Rattle.run_laws.specs.Copies.{Carries, IsNarrowed}
 use Rattle.sim_base.proofs.OrderEqual.{msg-timed}
 use Rattle.sim_base.proofs.ListLaws.{all_weaker, all_right}
+use Rattle.sim_base.proofs.Cutting.{SortedMarked-cut}
 use Rattle.run_laws.proofs.Parts.{part_no, all_part_of}
 use Rattle.phys_proc.specs.Ends.{ends_in, has_ended}
 use Rattle.phys_proc.proofs.Ends.{has_ended-is, and_not}
@@ -84,19 +85,6 @@ module _ (by : CloneSet) where
   marks_cut : (xs : MarkedMessages) → AllByRecursion (λ y. AreMarks by y.1) (cut xs)
   marks_cut [] = tt
   marks_cut (x ∷ xs) = marks_cons_marked (common x.1 by) x (cut xs) refl (marks_cut xs)
-
-  -- a message before the rest is in order with it
-  sorted_cons_marked : (o : Option CloneSet) (m : Msg) (rest : MarkedMessages)
-      → AllByRecursion (λ x. msg_cmp m x.0 ≡ Less) rest
-      → SortedMarked msg_cmp rest → SortedMarked msg_cmp (cons_marked o m rest)
-  sorted_cons_marked None m rest f s = s
-  sorted_cons_marked (Some k) m rest f s = (f, s)
-
-  -- and their order stays
-  sorted_cut : (xs : MarkedMessages) → SortedMarked msg_cmp xs → SortedMarked msg_cmp (cut xs)
-  sorted_cut [] s = tt
-  sorted_cut (x ∷ xs) s = sorted_cons_marked (common x.1 by) x.0 (cut xs) (all_cut (λ z. msg_cmp x.0 z ≡ Less) xs s.0)
-      (sorted_cut xs s.1)
 
 -- ---- prefixes and the first of a list
 
@@ -254,8 +242,9 @@ module _ (ends : ℕ → ℕ) where
     -- a copy for some of the clones is a copy
     pub copy_half : (a : StationCopy) (some : CloneSet) → IsCopy net s a → (c : ℕ) × (has some c ≡ true)
         → IsCopy net s (half a some)
-    copy_half a some f any = IsCopy-like net s a (half a some) f refl refl any (sorted_cut some a.pending f.sorted)
-        (all_cut some (λ m. m.to ≡ s) a.pending f.targets) (marks_cut some a.pending)
+    copy_half a some f any = IsCopy-like net s a (half a some) f refl refl any
+        (SortedMarked-cut common some msg_cmp a.pending f.sorted) (all_cut some (λ m. m.to ≡ s) a.pending f.targets)
+        (marks_cut some a.pending)
 
     -- whose clones see what they saw
     pub narrowed_half : (a : StationCopy) (some : CloneSet) → ((c : ℕ) → has some c ≡ true → has a.set c ≡ true)

@@ -10,6 +10,7 @@ use Rattle.sim_base.proofs.OrderEqual.{msg-timed}
 use Rattle.clone_sets.specs.Sets.{meet, union, empty}
 use Rattle.clone_sets.specs.declared.set.CloneSet.{CloneSet}
 use Rattle.sim_base.specs.Marked.{SortedMarked}
+use Rattle.run_laws.proofs.Running.{all_from_zero}
 use Rattle.sim_base.proofs.ListLaws.{all_weaker}
 use Rattle.phys_proc.specs.Own.{StationCopy, MarkedMessages, IsLowerBound, IsLowerBoundOfAll, with_message}
 use Rattle.phys_proc.proofs.Sends.{all_inserted}
@@ -55,11 +56,8 @@ IsLowerBoundOfAll-before t u xs l f = all_weaker (IsLowerBound u) (IsLowerBound 
 -- nothing is pending before time 0
 pub IsLowerBoundOfAll-zero : (xs : List StationCopy) → IsLowerBoundOfAll 0 xs
 IsLowerBoundOfAll-zero [] = tt
-IsLowerBoundOfAll-zero (x ∷ xs) = (none_before x.pending, IsLowerBoundOfAll-zero xs)
-  where
-    none_before : (q : MarkedMessages) → AllByRecursion (λ (y : Msg × CloneSet). 0 ≤ y.0.key.time) q
-    none_before [] = tt
-    none_before (y ∷ ys) = (omega arith, none_before ys)
+IsLowerBoundOfAll-zero (x ∷ xs) =
+    (all_from_zero (λ (y : Msg × CloneSet). y.0.key.time) x.pending, IsLowerBoundOfAll-zero xs)
 
 -- a copy more
 pub IsLowerBoundOfAll-put : (t u w : ℕ) (xs : List StationCopy) (x : StationCopy) → w ≡ min t u

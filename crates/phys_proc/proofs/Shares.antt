@@ -9,6 +9,7 @@ use Rattle.std.proofs.Math.Nat.{add-mul, mul-le-mul_left}
 use Rattle.std.proofs.lemmas.Nat.{mul-le}
 use Rattle.std.proofs.lemmas.Bool.{cases_Bool, false≢true}
 use Rattle.sim_base.specs.declared.lists.TheConstants.{MOST_CLONES}
+use Rattle.sim_base.proofs.ListLaws.{all_weaker, all_map, all_of_map}
 use Rattle.clone_sets.specs.Sets.{has, union, empty, size, members}
 use Rattle.clone_sets.specs.declared.set.CloneSet.{CloneSet}
 use Rattle.clone_sets.proofs.SetLaws.{has-empty, has-union, same_members}
@@ -25,23 +26,11 @@ use Rattle.phys_proc.proofs.Counting.{not_empty, in_some, some_in, size_all, all
 
 -- ---- but_pending: copies that differ in what is pending alone
 
--- what holds of copies, whatever is pending, holds of them without their pending messages
-all_map : (P : StationCopy → Type 0) → ((a : StationCopy) → P a → P (but_pending a)) → (xs : List StationCopy)
-    → AllByRecursion P xs → AllByRecursion P (map but_pending xs)
-all_map P f [] h = tt
-all_map P f (x ∷ xs) h = (f x h.0, all_map P f xs h.1)
-
--- and the other way round
-all_back : (P : StationCopy → Type 0) → ((a : StationCopy) → P (but_pending a) → P a) → (xs : List StationCopy)
-    → AllByRecursion P (map but_pending xs) → AllByRecursion P xs
-all_back P f [] h = tt
-all_back P f (x ∷ xs) h = (f x h.0, all_back P f xs h.1)
-
 -- copies that share no clone share none without their pending messages
 disjoint_map : (xs : List StationCopy) → Disjoint has xs → Disjoint has (map but_pending xs)
 disjoint_map [] d = tt
 disjoint_map (x ∷ xs) d = (
-  all_map (λ b. (c : ℕ) → Carries has x c → ¬ (Carries has b c)) (λ a h. h) xs d.0,
+  all_map (λ (b : StationCopy). (c : ℕ) → Carries has x c → ¬ (Carries has b c)) but_pending xs d.0,
   disjoint_map xs d.1,
 )
 
@@ -49,7 +38,7 @@ disjoint_map (x ∷ xs) d = (
 disjoint_back : (xs : List StationCopy) → Disjoint has (map but_pending xs) → Disjoint has xs
 disjoint_back [] d = tt
 disjoint_back (x ∷ xs) d = (
-  all_back (λ b. (c : ℕ) → Carries has x c → ¬ (Carries has b c)) (λ a h. h) xs d.0,
+  all_of_map (λ (b : StationCopy). (c : ℕ) → Carries has x c → ¬ (Carries has b c)) but_pending xs d.0,
   disjoint_back xs d.1,
 )
 
@@ -75,9 +64,9 @@ pub shares_same : (s handled : ℕ) (living : CloneSet) (xs ys : List StationCop
     KeepsShares (record { station = s; living = living; handled = handled; copies = ys })
 shares_same s handled living xs ys e k = record {
   shares = record {
-    inhabited = all_back (λ a. a.set ≢ empty) (λ a h. h) ys
+    inhabited = all_of_map (λ (a : StationCopy). a.set ≢ empty) but_pending ys
         (subst (AllByRecursion (λ a. a.set ≢ empty)) (sym e)
-        (all_map (λ a. a.set ≢ empty) (λ a h. h) xs k.shares.inhabited));
+        (all_map (λ (a : StationCopy). a.set ≢ empty) but_pending xs k.shares.inhabited));
     disjoint = disjoint_same xs ys e k.shares.disjoint;
     together = sym (clones_map ys) ∙ (ap all_clones e ∙ (clones_map xs ∙ k.shares.together));
   };
@@ -145,14 +134,10 @@ pub few_handled : (net : Net) (s handled : ℕ) (copies : List StationCopy) → 
     → all_sizes copies ≤ MOST_CLONES → net.limit ≤ MOST_LIMIT → handled ≤ handled_alone_by copies
     → handled ≤ ALL_COUNTS
 few_handled net s handled copies f l k h =
-    let a = alone_short net.limit copies (all_short copies f) in
+    let short = all_weaker (IsCopy net s) (λ (a : StationCopy). length a.log ≤ net.limit) copies (λ a is. is.short) f in
+    let a = alone_short net.limit copies short in
     let c = mul-le (all_sizes copies) net.limit MOST_CLONES MOST_LIMIT l k in
     omega (arith, a, c, h)
-  where
-    all_short : (xs : List StationCopy) → AllByRecursion (IsCopy net s) xs
-        → AllByRecursion (λ a. length a.log ≤ net.limit) xs
-    all_short [] f = tt
-    all_short (x ∷ xs) f = (f.0.short, all_short xs f.1)
 
 -- there are no more clones than numbers
 pub few_members : (k : CloneSet) (n : ℕ) → n ≡ size k → n ≡ length (members k) → size k ≤ MOST_CLONES

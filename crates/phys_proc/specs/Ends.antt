@@ -19,5 +19,5 @@ has_ended t [] c = false
 has_ended t (e ∷ es) c = (nat_le e.1 t && e.0 == c) || has_ended t es c
 
 -- the ends are those of numbers that clones may have
-abbrev pub AreClones : List (ℕ × ℕ) → Type 0
-AreClones es = AllByRecursion (λ e. e.0 < MOST_CLONES) es
+abbrev pub AreEndsOfClones : List (ℕ × ℕ) → Type 0
+AreEndsOfClones es = AllByRecursion (λ e. e.0 < MOST_CLONES) es

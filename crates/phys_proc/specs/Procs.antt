@@ -1,10 +1,10 @@
 -- All copies of a station.
-use Rattle.std.specs.Prelude.{◌≡◌, ◌≢◌, ◌⊎◌, ℕ, ◌≤◌, List, length, Option, Some}
+use Rattle.std.specs.Prelude.{◌≡◌, ◌≢◌, ◌⊎◌, ℕ, ◌≤◌, List, Option, Some}
 use Rattle.std.specs.List.{AllByRecursion}
 use Rattle.sim_base.specs.declared.message.Msg.{Msg}
 use Rattle.clone_sets.specs.Sets.{has, empty}
 use Rattle.clone_sets.specs.declared.set.CloneSet.{CloneSet}
-use Rattle.net_model.specs.Net.{Net}
+use Rattle.net_model.specs.Net.{Net, HasStation}
 use Rattle.net_model.specs.Rules.{IsNet}
 use Rattle.run_laws.specs.Queue.{In}
 use Rattle.run_laws.specs.FrontLaws as laws
@@ -35,8 +35,7 @@ pub record KeepsShares (p : ProcView) : Type 0 where
 -- they are copies of a station of the network, each with the state that the replay of its log gives
 pub record IsProc (net : Net) (p : ProcView) : Type 0 where
   pub valid : IsNet net
-  pub low : 1 ≤ p.station
-  pub high : p.station ≤ length net.sites
+  pub is_station : HasStation net p.station
   pub copies : AllByRecursion (IsCopy net p.station) p.copies
 
 -- a message that clone c of a copy takes

@@ -1,5 +1,5 @@
 -- What a reader sees of a station.
-use Rattle.std.specs.Prelude.{◌≡◌, ◌↔◌, ℕ, ◌<◌, ◌≤◌, List, true, length, Some}
+use Rattle.std.specs.Prelude.{◌≡◌, ◌↔◌, ℕ, ◌<◌, ◌≤◌, List, true, length, Option, Some, None, IfSome, IfNone}
 use Rattle.sim_base.specs.Clones.{Clone, clone_at, place_of}
 use Rattle.sim_base.specs.declared.lists.TheConstants.{MOST_CLONES}
 use Rattle.sim_base.specs.declared.message.Msg.{Msg}
@@ -55,3 +55,8 @@ pub record IsSeen (net : Net) (cs : List Clone) (s front c handled shared : ℕ)
 -- what was found of the clone of this name
 abbrev pub IsFoundOf : Net → List Clone → ℕ → ℕ → List ℕ → Found → Type 0
 IsFoundOf net cs s front who f = (c : ℕ) × (place_of who cs ≡ Some c) × IsSeen net cs s front c f.handled f.shared
+
+-- the clone of this name is found, unless there is none
+pub record FindsClone (net : Net) (cs : List Clone) (s front : ℕ) (who : List ℕ) (o : Option Found) : Type 0 where
+  pub unknown : IfNone o (place_of who cs ≡ None)
+  pub found : IfSome o (λ f. IsFoundOf net cs s front who f)

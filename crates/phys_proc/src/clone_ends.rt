@@ -19,13 +19,13 @@ pub struct CloneEnds {
 
 impl Model for CloneEnds {
     ghost use Rattle.std.specs.Prelude.{List, ℕ};
-    ghost use Rattle.phys_proc.specs.Ends.{AreClones};
+    ghost use Rattle.phys_proc.specs.Ends.{AreEndsOfClones};
 
     ghost Value = { List (ℕ × ℕ) };
 
     ghost view = { λ e. e.ended.items };
 
-    ghost invariant = { λ e. AreClones e.ended.items };
+    ghost invariant = { λ e. AreEndsOfClones e.ended.items };
 }
 
 impl CloneEnds {

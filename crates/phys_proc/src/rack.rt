@@ -1,11 +1,10 @@
 //! Racks: what a reader sees of a station at a window boundary (front).
-ghost use Rattle.std.specs.Prelude.{◌≡◌, ◌<◌, IfOk, IfSome, IfNone, length, true, false, None};
+ghost use Rattle.std.specs.Prelude.{◌≡◌, ◌<◌, IfOk, IfSome, IfNone, length, true, false};
 ghost use Rattle.std.specs.List.{AllByRecursion};
-ghost use Rattle.sim_base.specs.Clones.{place_of};
 ghost use Rattle.sim_base.specs.declared.lists.TheConstants.{MOST_CLONES};
 ghost use Rattle.clone_sets.specs.Sets.{has, size};
 ghost use Rattle.run_laws.specs.Queue.{In};
-ghost use Rattle.phys_proc.specs.Racks.{RackCopyView, view_of_copy, IsFoundOf};
+ghost use Rattle.phys_proc.specs.Racks.{RackCopyView, view_of_copy, FindsClone};
 
 use crate::copy::PhysCopy;
 use clone_sets::CloneSet;
@@ -118,9 +117,7 @@ impl Rack {
 
     // What it shows of the clone of this name.
     fn find(&self, who: &Name) -> Option<Found>
-        ensures unknown { IfNone result (place_of who.now self.now.clones ≡ None) }
-        ensures found { IfSome result (λ f. IsFoundOf self.now.net self.now.clones self.now.station self.now.front
-            who.now f) }
+        ensures found { FindsClone self.now.net self.now.clones self.now.station self.now.front who.now result }
     {
         let Some(c) = self.lists.find(who) else {
             return None;
@@ -135,9 +132,7 @@ impl Rack {
     pub fn glance(&self, who: &Name) -> Glance
         ensures front { result.front ≡ self.now.front }
         ensures clones { result.clones ≡ length self.now.clones }
-        ensures unknown { IfNone result.found (place_of who.now self.now.clones ≡ None) }
-        ensures found { IfSome result.found (λ f. IsFoundOf self.now.net self.now.clones self.now.station
-            self.now.front who.now f) }
+        ensures found { FindsClone self.now.net self.now.clones self.now.station self.now.front who.now result.found }
     {
         Glance {
             front: self.front,

@@ -2,7 +2,6 @@ pub mod SamePlans
 pub mod Joined
 pub mod Heads
 pub mod Pieces
-pub mod Calls
 pub mod Puts
 pub mod Partings
 pub mod LogLaws

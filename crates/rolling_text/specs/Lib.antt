@@ -5,5 +5,4 @@ pub mod Texts
 pub mod Puts
 pub mod Orders
 pub mod GivenSpans
-pub mod Counting
 pub mod TextSpans

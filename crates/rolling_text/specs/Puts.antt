@@ -1,7 +1,8 @@
 -- The put of a text in parts.
-use Rattle.std.specs.Prelude.{◌≡◌, ℕ, ◌≤◌, Bool, List, [], ◌++◌, if◌then◌else◌}
+use Rattle.std.specs.Prelude.{◌≡◌, ℕ, ◌+◌, ◌≤◌, Bool, List, [], ◌∷◌, ◌++◌, length, Option, if◌then◌else◌}
+use Rattle.std.specs.List.{concat}
 use Rattle.sim_outer.specs.Bytes.{IsAppended, IsPrefixAppended}
-use Rattle.sim_outer.specs.Counts.{IsCounted, HasRisen}
+use Rattle.sim_outer.specs.Counts.{AreCounted, IsCounted, HasRisen}
 use Rattle.sim_outer.specs.Views.{SinkView}
 use Rattle.rolling_text.specs.Pages.{PageView}
 
@@ -23,6 +24,18 @@ pub record IsCutOff (text : List ℕ) (old new : SinkView) : Type 0 where
   pub failed : HasRisen old.faults new.faults
   pub later : old.faults ≤ new.faults
   pub counted : IsCounted old.calls new.calls
+
+-- texts were cut off: those before one were put, each in one call, and that one was cut off in the last call
+pub record AreCut (texts : List (List ℕ)) (old new : SinkView) : Type 0 where
+  pub whole : List (List ℕ)
+  pub text : List ℕ
+  pub others : List (List ℕ)
+  pub parts : texts ≡ whole ++ text ∷ others
+  pub between : Option (List ℕ)
+  pub before : IsAppended old.bytes (concat whole) between
+  pub bytes : IsPrefixAppended between text new.bytes
+  pub failed : HasRisen old.faults new.faults
+  pub calls : AreCounted (length whole + 1) old.calls new.calls
 
 -- of what is to be put this is left; what was taken stands behind the page where it is kept
 pub record IsPutTo (keeps : Bool) (all left : List ℕ) (page page_now : PageView) (old new : SinkView) : Type 0 where

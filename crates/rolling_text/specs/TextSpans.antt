@@ -1,8 +1,8 @@
 -- Spans of a clone's text.
-use Rattle.std.specs.Prelude.{◌≡◌, ◌+◌, ◌<◌, ◌≤◌, true, length, Result, OnOk, OnErr}
+use Rattle.std.specs.Prelude.{◌≡◌, ◌+◌, ◌≤◌, true, length, Result, OnOk, OnErr}
 use Rattle.sim_base.specs.Clones.{clone_at}
 use Rattle.sim_outer.specs.Views.{SinkView}
-use Rattle.rolling_text.specs.Orders.{Span, span_between}
+use Rattle.rolling_text.specs.Orders.{HasSpan, Span, span_between}
 use Rattle.rolling_text.specs.Pages.{PageView}
 use Rattle.rolling_text.specs.Puts.{IsPutTo, IsCutOff}
 use Rattle.rolling_text.specs.Texts.{CanPut, rest}
@@ -16,8 +16,7 @@ span_of traces span = span_between traces span.c span.from span.until
 
 -- it may be put: its clone is there, and a page that keeps it has free bytes for it and for all lines behind it
 pub record MayPut (traces : WorldTracesView) (span : TextSpan) (texts : Texts) : Type 0 where
-  pub there : span.c < length traces.clones
-  pub order : span.from ≤ span.until
+  pub has_span : HasSpan traces span.c span.from span.until
   pub can : CanPut traces.net texts
   pub fits : span.keeps ≡ true → length texts.page.text
       + length (rest traces.net (clone_at traces.clones span.c) span.from) ≤ texts.page.reserved

@@ -9,7 +9,7 @@ ghost use Rattle.stations.specs.Runs.{simulation, trace_of};
 ghost use Rattle.run_laws.specs.SharedTexts.{entries_from};
 ghost use Rattle.log_chain.specs.Times.{RiseByTime, from_time};
 ghost use Rattle.trace_report.specs.Slots.{AreNames};
-ghost use Rattle.rolling_text.specs.Texts.{HaveShortLines, body, parting_at};
+ghost use Rattle.rolling_text.specs.Texts.{HaveShortLines, body, parting_at as parting_at'};
 ghost use Rattle.rolling_text.specs.declared.texts.TheConstants.{MOST_TEXT};
 ghost use Rattle.rolling_text.specs.WorldTraces.{IsOverWith, MayTrace};
 
@@ -59,9 +59,9 @@ fn bound_of(world: &World, c: u32) -> usize
 }
 
 /// From which time on the lines of a clone differ from those of the one before it: all of them, where there is none.
-pub(crate) fn parts_at(traces: &WorldTraces<'_>, c: u32) -> u64
+pub(crate) fn parting_at(traces: &WorldTraces<'_>, c: u32) -> u64
     requires there { c < length traces.now.clones }
-    ensures value { result ≡ parting_at traces.now.net traces.now.clones c }
+    ensures value { result ≡ parting_at' traces.now.net traces.now.clones c }
 {
     if c == 0 {
         return 0;
@@ -77,7 +77,7 @@ pub(crate) fn greatest_bound(traces: &WorldTraces<'_>) -> usize
 {
     let mut most = 0usize;
     for c in 0..traces.len() {
-        meet_rest(traces.world, &traces.names, c, parts_at(traces, c));
+        meet_rest(traces.world, &traces.names, c, parting_at(traces, c));
         most = most.max(bound_of(traces.world, c));
     }
     most

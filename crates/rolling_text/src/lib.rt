@@ -18,15 +18,15 @@
 //! ```
 //!
 //! A text is put in one call, whose parts are put as they are made: the name line and what is kept of the text before
-//! it, and then its own lines, 16 KiB at a time. Of these the next text's are kept, in a buffer for which `prepare`
-//! reserves 256 bytes a line, and no line is longer; memory that nothing kept reaches is never touched. So the text of
-//! a clone that no other follows takes hardly any memory. A line that is not kept costs its entry from the stations'
-//! logs, merged by key, and its bytes. `put_alone` puts the text of one log in the same way.
+//! it, and then its own lines, 16 KiB at a time. Of these, the lines that the next text has too are kept, in a buffer
+//! for which `prepare` reserves 256 bytes a line, and no line is longer; memory that nothing kept reaches is never
+//! touched. So the text of a clone that no other follows takes hardly any memory. A line that is not kept costs its
+//! entry from the stations' logs, merged by key, and its bytes. `put_alone` puts the text of one log in the same way.
 //!
 //! Long texts are put by several workers, which stay for a whole text. The text is cut into spans of about 8,192 lines.
-//! The others are makers: each merges what comes in a span and makes its lines in a buffer of its own, one span after
-//! another. The caller puts these in order, and gives each maker its next span before it puts what that maker has made;
-//! every so many spans it makes one itself:
+//! The workers beside the caller are makers: each merges what comes in a span and makes its lines in a buffer of its
+//! own, one span after another. The caller puts these in order, and gives each maker its next span before it puts what
+//! that maker has made; every so many spans it makes one itself:
 //!
 //! ```text
 //!            put | span of 1 | span of 2 | the caller's | not given yet

@@ -1,16 +1,16 @@
 //! Texts into a sink, one after the other.
-ghost use Rattle.std.specs.Prelude.{◌≡◌, ◌+◌, ◌<◌, ◌≤◌, ◌++◌, length, drop, codes, IfOk, OnOk, OnErr};
+ghost use Rattle.std.specs.Prelude.{◌≡◌, ◌+◌, ◌<◌, ◌≤◌, ◌++◌, length, drop, map, codes, IfOk, OnOk, OnErr};
 ghost use Rattle.sim_base.specs.Clones.{clone_at};
-ghost use Rattle.sim_outer.specs.Bytes.{IsAppended, IsPrefixAppended};
-ghost use Rattle.sim_outer.specs.Counts.{AreCounted, HasRisen};
+ghost use Rattle.sim_outer.specs.Bytes.{IsAppended};
+ghost use Rattle.sim_outer.specs.Counts.{AreCounted};
 ghost use Rattle.rolling_text.specs.declared.texts.TheConstants.{MARGIN};
-ghost use Rattle.rolling_text.specs.Counting.{AreCountedTo};
-ghost use Rattle.rolling_text.specs.Puts.{IsPartPut, IsPut, IsCutOff};
-ghost use Rattle.rolling_text.specs.Texts.{AllFit, AreLeft, AreTextsReady, CanPut, body, parting_at, rest};
+ghost use Rattle.rolling_text.specs.Puts.{AreCut, IsPartPut, IsPut, IsCutOff};
+ghost use Rattle.rolling_text.specs.Texts.{AllFit, AreLeft, AreTextsReady, CanPut, body, rest};
+ghost use Rattle.rolling_text.specs.Texts.{parting_at as parting_at'};
 ghost use Rattle.trace_report.specs.Outputs.{clone_text, clone_texts};
 
 use crate::beside::put_lines;
-use crate::bounds::parts_at;
+use crate::bounds::parting_at;
 use crate::logs::len_between;
 use crate::page::Page;
 use crate::text_span::TextSpan;
@@ -44,7 +44,7 @@ fn put_head(page: &mut Page, name: &Name) -> usize
 // so many bytes are dropped, and puts its name line before them. Returns where that begins.
 fn begin_text(traces: &WorldTraces<'_>, c: u32, time: u64, dropped: usize, page: &mut Page) -> usize
     requires there { c < length traces.now.clones }
-    requires time { time ≡ parting_at traces.now.net traces.now.clones c }
+    requires time { time ≡ parting_at' traces.now.net traces.now.clones c }
     requires margin { MARGIN ≤ length page.old.text }
     requires left { AreLeft traces.now.net traces.now.clones c dropped (drop MARGIN page.old.text) }
     // from what it returns on, the page has the text of the clone up to the time
@@ -142,13 +142,13 @@ fn put_text<'a, O: Sink, R: Threads + Wait + Sync>(
     ensures err { OnErr result (IsCutOff (clone_text traces.now.net (clone_at traces.now.clones c))
         (O.view out.old) (O.view out.new)) }
     // what the page has of it for the next one
-    ensures left { IfOk result (λ n. next ≡ parting_at traces.now.net traces.now.clones (c + 1) →
+    ensures left { IfOk result (λ n. next ≡ parting_at' traces.now.net traces.now.clones (c + 1) →
         AreLeft traces.now.net traces.now.clones (c + 1) n (drop MARGIN texts.new.page.text)) }
     ensures margin { OnOk result (MARGIN ≤ length texts.new.page.text) }
     ensures reserved { OnOk result (texts.old.page.reserved ≤ texts.new.page.reserved) }
     ensures can { CanPut traces.now.net texts.new }
 {
-    let time = parts_at(traces, c);
+    let time = parting_at(traces, c);
     let late = time.max(next);
     let start = begin_text(traces, c, time, dropped, &mut texts.page);
     match texts.page.put_from(start, out) {
@@ -178,23 +178,19 @@ pub fn put_texts<'a, O: Sink, R: Threads + Wait + Sync>(
     out: &mut O,
 ) -> Result<(), PutFailed>
     requires ready { AreTextsReady traces.now.net traces.now.clones texts }
-    // all texts, or the beginning of them and a fault
+    // all texts, each in one call, or those before one, and a prefix of it in the last call, which failed
     ensures ok { OnOk result (IsAppended (O.view out.old).bytes (clone_texts traces.now.net traces.now.clones)
         (O.view out.new).bytes) }
-    ensures part { OnErr result (IsPrefixAppended (O.view out.old).bytes (clone_texts traces.now.net traces.now.clones)
-        (O.view out.new).bytes) }
-    ensures cause { OnErr result (HasRisen (O.view out.old).faults (O.view out.new).faults) }
-    ensures later { (O.view out.old).faults ≤ (O.view out.new).faults }
-    // a call for each text, or for those up to the one that failed
     ensures each { OnOk result (AreCounted (length traces.now.clones) (O.view out.old).calls (O.view out.new).calls) }
-    ensures some { OnErr result (AreCountedTo (length traces.now.clones) (O.view out.old).calls
-        (O.view out.new).calls) }
+    ensures cut { OnErr result (AreCut (map (clone_text traces.now.net) traces.now.clones)
+        (O.view out.old) (O.view out.new)) }
+    ensures later { (O.view out.old).faults ≤ (O.view out.new).faults }
 {
     let clones = traces.len();
     let mut dropped = 0;
     for c in 0..clones {
         // where there is no next clone, nobody asks what it drops
-        let next = parts_at(traces, (c + 1).min(clones - 1));
+        let next = parting_at(traces, (c + 1).min(clones - 1));
         match put_text(
             rt, alloc, traces, workers, &mut texts, c, dropped, next, out,
         ) {

@@ -21,7 +21,7 @@ use Rattle.run_laws.specs.Handlers.{HandlesLawfully}
 use Rattle.run_laws.specs.Runs.{log_at}
 use Rattle.run_laws.specs.Sharing.{prefixes, same_list, logs_at}
 use Rattle.run_laws.specs.StepLaws.{AreReady}
-use Rattle.run_laws.specs.CountLaws.{AreSized, AreWithinLimitAt, AreFew}
+use Rattle.run_laws.specs.CountLaws.{TellsSizes, AreWithinLimitAt, AreFew}
 use Rattle.run_laws.specs.Prefixes.{IsCount, IsGained}
 use Rattle.run_laws.specs.Copies.{Copy, Carries, handle_until, takes, messages_taken, view, IsCutLog, GainTogether}
 use Rattle.run_laws.proofs.Running.{all_from_zero, run_is}
@@ -84,7 +84,7 @@ module _ {S M N K : Type 0} {sim : Simulation S M N} {Good : ℕ → S → Type 
 
   -- several together
   pub few_gains_together : (size : K → ℕ) (old : List (Copy S M N K)) (n : ℕ) →
-      AreReady K sim Good s old → AreSized has size old →
+      AreReady K sim Good s old → TellsSizes has size old →
       GainTogether sim has ends s bound old n → n ≤ sum_by (λ a. size a.set) old * sim.limit
   few_gains_together size [] n ready sized e = omega (arith, e)
   few_gains_together size (a ∷ old) n ready sized h =

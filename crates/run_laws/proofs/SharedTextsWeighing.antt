@@ -86,7 +86,7 @@ module _ {M N : Type 0} (to : M → ℕ) (weigh : Entry M N → ℕ) where
       let all = sum_by-cons weigh e es in
       omega (arith, others, rest, all)
 
--- ---- from_on
+-- ---- is_early, is_late
 
 -- x comes before a time
 abbrev is_early : {X : Type 0} → (X → ℕ) → ℕ → X → Bool

@@ -14,7 +14,7 @@ use Rattle.run_laws.specs.Fronts.{next_front}
 use Rattle.run_laws.specs.Handlers.{IsStation, HandlesLawfully, SendsToStations, AllAreForStations}
 use Rattle.run_laws.specs.Laws.{entries_before, window, WindowsGive}
 use Rattle.run_laws.specs.Copies.{Copy, Carries, takes, messages_taken, alone_from, IsStepped}
-use Rattle.run_laws.specs.Copies.{ends_of, Stands, AllStepped, HasReceived, IsDelivered}
+use Rattle.run_laws.specs.Copies.{ends_of, Stands, EachIsStepped, HasReceived, IsDelivered}
 use Rattle.run_laws.proofs.Queue.{same_elements}
 use Rattle.run_laws.proofs.Lists.{in_filter, filter_keeps, sorted_filter, in_own}
 use Rattle.run_laws.proofs.Running.{all_from_zero, run_is}
@@ -229,7 +229,7 @@ pub stands_after_window : {S M N K : Type 0} {sim : Simulation S M N} {Good : �
     (front bound : ℕ) (olds news : ℕ → List (Copy S M N K)) (sent : ℕ → List (M × K)) (s : ℕ)
     (done : List (Copy S M N K)) →
     AllAreForStations sim cs → front ≤ bound → bound ≤ next_front sim cs front →
-    AllStepped sim has cs front bound olds news sent → IsStation sim s →
+    EachIsStepped sim has cs front bound olds news sent → IsStation sim s →
     IsDelivered sim has cs s sent (news s) done → Stands sim has cs bound s done
 stands_after_window {S} {M} {N} {K} {sim} {Good} law to_stations has cs front bound olds news sent s done for_stations
     later within all here got =

@@ -11,7 +11,7 @@ use Rattle.run_laws.specs.Runs.{log_at}
 use Rattle.run_laws.specs.Sharing.{handled_alone}
 use Rattle.run_laws.specs.Prefixes.{Apart, IsCount}
 use Rattle.run_laws.specs.Copies.{Copy, Carries, Disjoint, Stands}
-use Rattle.run_laws.specs.CountLaws.{AreSized}
+use Rattle.run_laws.specs.CountLaws.{TellsSizes}
 use Rattle.run_laws.proofs.Queue.{all_in}
 use Rattle.run_laws.proofs.Lists.{in_append, append_old, append_new}
 use Rattle.run_laws.proofs.Prefixes.{apart_append, count_same}
@@ -147,12 +147,12 @@ by_places f (c ∷ cs) =
 
 module _ {S M N K : Type 0} (has : K → ℕ → Bool) (size : K → ℕ) where
   -- the clones of all copies
-  all_members : (xs : List (Copy S M N K)) → AreSized has size xs → List ℕ
+  all_members : (xs : List (Copy S M N K)) → TellsSizes has size xs → List ℕ
   all_members [] f = []
   all_members (x ∷ xs) f = (f x (inl refl)).members ++ all_members xs (λ a i. f a (inr i))
 
   -- each of them is carried by one of the copies
-  member_of : (xs : List (Copy S M N K)) (f : AreSized has size xs) (z : ℕ) → In z (all_members xs f) →
+  member_of : (xs : List (Copy S M N K)) (f : TellsSizes has size xs) (z : ℕ) → In z (all_members xs f) →
       (a : Copy S M N K) × In a xs × Carries has a z
   unfolding all_members
   member_of [] f z i = absurd i
@@ -162,7 +162,7 @@ module _ {S M N K : Type 0} (has : K → ℕ → Bool) (size : K → ℕ) where
   ]
 
   -- and each clone that a copy carries is one of them
-  has_member : (xs : List (Copy S M N K)) (f : AreSized has size xs) (a : Copy S M N K) (z : ℕ) → In a xs →
+  has_member : (xs : List (Copy S M N K)) (f : TellsSizes has size xs) (a : Copy S M N K) (z : ℕ) → In a xs →
       Carries has a z → In z (all_members xs f)
   unfolding all_members
   has_member [] f a z i h = absurd i
@@ -172,7 +172,7 @@ module _ {S M N K : Type 0} (has : K → ℕ → Bool) (size : K → ℕ) where
       (has_member xs (λ a i. f a (inr i)) a z i h)
 
   -- none of them is there twice, where the copies are disjoint
-  apart_members : (xs : List (Copy S M N K)) (f : AreSized has size xs) → Disjoint has xs → Apart (all_members xs f)
+  apart_members : (xs : List (Copy S M N K)) (f : TellsSizes has size xs) → Disjoint has xs → Apart (all_members xs f)
   unfolding all_members
   apart_members [] f d = tt
   apart_members (x ∷ xs) f d = apart_append (f x (inl refl)).members (all_members xs (λ a i. f a (inr i)))
@@ -182,7 +182,7 @@ module _ {S M N K : Type 0} (has : K → ℕ → Bool) (size : K → ℕ) where
       ((f x (inl refl)).exact z i) h.2)
 
   -- a sum over them, of a number that is the same for all clones of a copy
-  sum_by-members : (g : ℕ → ℕ) (weight : Copy S M N K → ℕ) (xs : List (Copy S M N K)) (f : AreSized has size xs) →
+  sum_by-members : (g : ℕ → ℕ) (weight : Copy S M N K → ℕ) (xs : List (Copy S M N K)) (f : TellsSizes has size xs) →
       ((a : Copy S M N K) (c : ℕ) → In a xs → Carries has a c → g c ≡ weight a) →
       sum_by g (all_members xs f) ≡ sum_by (λ a. size a.set * weight a) xs
   unfolding all_members
@@ -198,7 +198,7 @@ module _ {S M N K : Type 0} (has : K → ℕ → Bool) (size : K → ℕ) where
       omega (arith, rest, own, both, a)
 
   module _ (sim : Simulation S M N) (cs : List Clone) (front s : ℕ) (copies : List (Copy S M N K))
-      (sized : AreSized has size copies)
+      (sized : TellsSizes has size copies)
       (st : Stands sim has cs front s copies) where
     -- what is the same for all clones of a copy sums up to as much as each copy's, so many times
     sum-copies : (g : Clone → ℕ) (weight : Copy S M N K → ℕ) →

@@ -3,10 +3,10 @@ use Rattle.std.proofs.Common.{◌≡◌, ℕ, zero, suc, ◌<◌, ◌≤◌, min
 use Rattle.std.proofs.Common.{inl, inr, ◌==◌, refl, ap, subst, arith, map, eq-eqb, eqb-true}
 use Rattle.std.specs.declared.cmp.Ordering.{Ordering}
 use Rattle.std.specs.declared.cmp.Ordering.TheVariants.{Less, Equal}
-use Rattle.std.specs.List.{AllByRecursion}
 use Rattle.std.proofs.lemmas.Bool.{cases_eq}
 use Rattle.sim_base.specs.Clones.{Clone}
 use Rattle.sim_base.specs.declared.entry.Entry.{Entry}
+use Rattle.sim_base.proofs.ListLaws.{all_of_map}
 use Rattle.sim_base.proofs.OrderLaws.{entry_total}
 use Rattle.run_laws.specs.Queue.{In, Sorted}
 use Rattle.run_laws.specs.Simulation.{Simulation}
@@ -25,13 +25,8 @@ use Rattle.run_laws.proofs.Merges.{in_merge, merge_has, sorted_merge, ties_are_o
 sorted_entries : {M N : Type 0} (cmp : M → M → Ordering) (es : List (Entry M N)) → Sorted cmp (map (λ e. e.msg) es) →
     Sorted (λ e f. cmp e.msg f.msg) es
 sorted_entries cmp [] s = tt
-sorted_entries {M} {N} cmp (e ∷ es) s = (before es s.0, sorted_entries cmp es s.1)
-  where
-    -- what the entry comes before
-    before : (fs : List (Entry M N)) → AllByRecursion (λ m. cmp e.msg m ≡ Less) (map (λ e. e.msg) fs) →
-        AllByRecursion (λ f. cmp e.msg f.msg ≡ Less) fs
-    before [] h = tt
-    before (f ∷ fs) h = (h.0, before fs h.1)
+sorted_entries {M} {N} cmp (e ∷ es) s =
+    (all_of_map (λ (m : M). cmp e.msg m ≡ Less) (λ (f : Entry M N). f.msg) es s.0, sorted_entries cmp es s.1)
 
 module _ {S M N : Type 0} {sim : Simulation S M N} {Good : ℕ → S → Type 0} {sender number : M → ℕ} {next : S → ℕ}
     (law : HandlesLawfully sim Good) (stations : SendsToStations sim Good)

@@ -300,7 +300,8 @@ module _ {S M N K : Type 0} (sim : Simulation S M N) (has : K → ℕ → Bool) 
     pub sorted : (a : Copy S M N K) → In a copies → SortedMarked sim.order a.pending
 
   -- the results of the copies of each station at a bound, and what each station sent
-  pub record AllStepped (front bound : ℕ) (olds news : ℕ → List (Copy S M N K)) (sent : ℕ → List (M × K)) : Type 0 where
+  pub record EachIsStepped (front bound : ℕ) (olds news : ℕ → List (Copy S M N K)) (sent : ℕ → List (M × K)) :
+      Type 0 where
     pub stood : (r : ℕ) → IsStation sim r → Stands front r (olds r)
     pub stepped : (r : ℕ) → IsStation sim r → IsStepped sim has (ends_of sim cs) r bound (olds r) (news r) (sent r)
     pub no_other : (r : ℕ) → ¬ (IsStation sim r) → sent r ≡ []

@@ -8,7 +8,8 @@ use Rattle.run_laws.specs.Simulation.{Simulation}
 use Rattle.run_laws.specs.Runs.{IsTimelyPlan, IsTimelyEnd, MayFork}
 use Rattle.run_laws.specs.Fronts.{IsWindow}
 use Rattle.run_laws.specs.Handlers.{IsStation, AllAreForStations}
-use Rattle.run_laws.specs.Copies.{Copy, AreOf, IsGiven, IsForked, first_copy, ends_of, Stands, AllStepped, IsDelivered}
+use Rattle.run_laws.specs.Copies.{Copy, AreOf, IsGiven, IsForked, first_copy, ends_of, Stands, EachIsStepped}
+use Rattle.run_laws.specs.Copies.{IsDelivered}
 
 -- K are sets of clones
 module _ {S M N : Type 0} (K : Type 0) (sim : Simulation S M N) where
@@ -23,8 +24,8 @@ module _ {S M N : Type 0} (K : Type 0) (sim : Simulation S M N) where
   StandsAfterWindow = (has : K → ℕ → Bool) (cs : List Clone) (front bound : ℕ) (olds news : ℕ → List (Copy S M N K))
       (sent : ℕ → List (M × K)) (s : ℕ) (done : List (Copy S M N K)) →
       AllAreForStations sim cs → IsWindow sim cs front bound →
-      AllStepped sim has cs front bound olds news sent → IsStation sim s → IsDelivered sim has cs s sent (news s) done →
-      Stands sim has cs bound s done
+      EachIsStepped sim has cs front bound olds news sent → IsStation sim s →
+      IsDelivered sim has cs s sent (news s) done → Stands sim has cs bound s done
 
   -- a decision of clone who, at or after the front and for this station, is given to that clone alone
   abbrev pub StandsAfterDecision : Type 0

@@ -28,8 +28,8 @@ pub record Counting (M N K : Type 0) : Type 0 where
 
 module _ {S M N K : Type 0} (has : K → ℕ → Bool) (size : K → ℕ) where
   -- size tells how many clones each of these copies has
-  abbrev pub AreSized : List (Copy S M N K) → Type 0
-  AreSized copies = (a : Copy S M N K) → In a copies → IsCount (λ c. Carries has a c) (size a.set)
+  abbrev pub TellsSizes : List (Copy S M N K) → Type 0
+  TellsSizes copies = (a : Copy S M N K) → In a copies → IsCount (λ c. Carries has a c) (size a.set)
 
 module _ {S M N : Type 0} (sim : Simulation S M N) where
   -- no clone's log at a station is beyond the limit
@@ -122,7 +122,7 @@ module _ {S M N : Type 0} (K : Type 0) (sim : Simulation S M N) where
   -- and so it is for several copies
   abbrev pub CopiesGainFew : (ℕ → S → Type 0) → Type 0
   CopiesGainFew Good = (has : K → ℕ → Bool) (ends : ℕ → ℕ) (s bound n : ℕ) (size : K → ℕ) (old : List (Copy S M N K)) →
-      AreReady K sim Good s old → AreSized has size old →
+      AreReady K sim Good s old → TellsSizes has size old →
       GainTogether sim has ends s bound old n → n ≤ sum_by (λ a. size a.set) old * sim.limit
 
   module _ (has : K → ℕ → Bool) (cs : List Clone) (s : ℕ) where
@@ -155,7 +155,7 @@ module _ {S M N : Type 0} (K : Type 0) (sim : Simulation S M N) where
     pub front : ℕ
     pub station : ℕ
     pub copies : List (Copy S M N K)
-    pub sized : AreSized has size copies
+    pub sized : TellsSizes has size copies
     pub stand : Stands sim has clones front station copies
 
   -- each clone by itself would handle the messages of its copy's log

@@ -76,12 +76,12 @@ busy_trace =
     ∷ catch_at 8 0 1 6 ∷ catch_at 11 0 2 2 ∷ []
 
 -- catches nothing at 8 or later: the ball that is thrown in at 7 does not bounce
-abbrev pub brief : Clone
-brief = record { name = codes "brief"; plans = throw_in 7 1 ∷ []; end = Some 8 }
+abbrev pub until_eight : Clone
+until_eight = record { name = codes "until-eight"; plans = throw_in 7 1 ∷ []; end = Some 8 }
 
 -- and its trace
-abbrev pub brief_trace : List (Entry Ball ℕ)
-brief_trace = catch_at 2 0 1 1 ∷ catch_at 5 0 2 1 ∷ catch_at 7 1 1 2 ∷ []
+abbrev pub until_eight_trace : List (Entry Ball ℕ)
+until_eight_trace = catch_at 2 0 1 1 ∷ catch_at 5 0 2 1 ∷ catch_at 7 1 1 2 ∷ []
 
 -- a ball at 11 is still caught, one at the horizon no more
 abbrev pub last_minute : Clone
@@ -91,9 +91,9 @@ last_minute = record { name = codes "last-minute"; plans = throw_in 12 1 ∷ thr
 abbrev pub last_minute_trace : List (Entry Ball ℕ)
 last_minute_trace = catch_at 2 0 1 1 ∷ catch_at 5 0 2 1 ∷ catch_at 8 0 1 2 ∷ catch_at 11 0 2 2 ∷ catch_at 11 2 1 3 ∷ []
 
--- the base clone, busy and brief
+-- the base clone, busy and until_eight
 abbrev pub all_three : List Clone
-all_three = base ∷ busy ∷ brief ∷ []
+all_three = base ∷ busy ∷ until_eight ∷ []
 
 -- with a twin of busy, the clone at place 1
 abbrev pub with_twin : List Clone

@@ -8,7 +8,7 @@ ghost use Rattle.run_laws.specs.Fronts.{least_of, least, AreFronts};
 ghost use Rattle.run_laws.specs.FrontLaws.{least_to};
 ghost use Rattle.run_laws.specs.Sharing.{copies, handled_once, handled_to_limit, handled_alone, IsBeyond};
 ghost use Rattle.run_laws.specs.Handlers.{HandlesLawfully, SendsToStations};
-ghost use Rattle.run_laws.specs.Examples.{game, AnyState, base_trace, busy, busy_trace, brief, brief_trace};
+ghost use Rattle.run_laws.specs.Examples.{game, AnyState, base_trace, busy, busy_trace, until_eight, until_eight_trace};
 ghost use Rattle.run_laws.specs.Examples.{last_minute, last_minute_trace, all_three, with_twin, merged_trace};
 ghost use Rattle.run_laws.specs.Examples.{same_catch, window_of, catch_at, ball};
 
@@ -16,14 +16,14 @@ ghost use Rattle.run_laws.specs.Examples.{same_catch, window_of, catch_at, ball}
 pub fn traces()
     ensures plain { trace_of game base ≡ base_trace }
     ensures busy { trace_of game busy ≡ busy_trace }
-    ensures ended { trace_of game brief ≡ brief_trace }
+    ensures ended { trace_of game until_eight ≡ until_eight_trace }
 {}
 
 /// The next fronts of one clone, of all three, and of one that ends.
 pub fn fronts()
     ensures plain { AreFronts game (base ∷ []) 0 (5 ∷ 8 ∷ 11 ∷ 12 ∷ []) }
     ensures all { AreFronts game all_three 0 (5 ∷ 8 ∷ 11 ∷ 12 ∷ []) }
-    ensures ended { AreFronts game (brief ∷ []) 0 (5 ∷ 8 ∷ 12 ∷ []) }
+    ensures ended { AreFronts game (until_eight ∷ []) 0 (5 ∷ 8 ∷ 12 ∷ []) }
 {}
 
 /// What comes at the horizon is pending, and never due.
@@ -36,9 +36,9 @@ pub fn at_the_horizon()
 
 /// The least time that is due: of a clone, by its stations, and of several.
 pub fn due_times()
-    ensures clone { least_of game brief 5 ≡ Some 5 }
-    ensures stations { least_to game brief 5 2 ≡ Some 5 }
-    ensures after_its_end { least_of game brief 8 ≡ None }
+    ensures clone { least_of game until_eight 5 ≡ Some 5 }
+    ensures stations { least_to game until_eight 5 2 ≡ Some 5 }
+    ensures after_its_end { least_of game until_eight 8 ≡ None }
     ensures all { least game all_three 6 ≡ Some 6 }
 {}
 
@@ -54,9 +54,9 @@ pub fn windows()
         ∷ catch_at 6 12 1 4 ∷ catch_at 7 11 1 5 ∷ [] }
     ensures nothing_aside { (window_of busy 1 5 8).at.aside ≡ [] }
     ensures aside { (window_of busy 2 5 8).at.aside ≡ ball 8 0 1 ∷ [] }
-    ensures ended { (window_of brief 1 7 12).at.log ≡ catch_at 2 0 1 1 ∷ catch_at 7 1 1 2 ∷ [] }
+    ensures ended { (window_of until_eight 1 7 12).at.log ≡ catch_at 2 0 1 1 ∷ catch_at 7 1 1 2 ∷ [] }
     ensures due { due_at game busy 1 5 ≡ ball 5 2 1 ∷ ball 6 1 1 ∷ [] }
-    ensures due_before_end { due_at game brief 1 7 ≡ ball 7 1 1 ∷ [] }
+    ensures due_before_end { due_at game until_eight 1 7 ≡ ball 7 1 1 ∷ [] }
 {}
 
 /// What the three clones have in common at each station.

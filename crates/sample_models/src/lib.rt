@@ -102,7 +102,7 @@ seed = 42
 name = "gate"
 kind = "source"
 every = [3, 3]
-jobs = 2
+jobs = 3
 link = [{ to = "fan", delay = 2 }]
 [[station]]
 name = "fan"
@@ -128,14 +128,14 @@ horizon = 20
 name = "low"
 kind = "source"
 every = [3, 3]
-jobs = 2
+jobs = 1
 class = 2
 link = [{ to = "desk", delay = 2 }]
 [[station]]
 name = "high"
 kind = "source"
-every = [7, 7]
-jobs = 1
+every = [2, 2]
+jobs = 3
 link = [{ to = "desk", delay = 2 }]
 [[station]]
 name = "desk"

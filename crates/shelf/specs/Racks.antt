@@ -1,10 +1,9 @@
 -- Which lists of racks may be published, and what readers are shown after them.
 use Rattle.std.specs.Prelude.{◌≡◌, ◌==◌, ℕ, ◌+◌, ◌<◌, ◌≤◌, Bool, true, false, List}
-use Rattle.std.specs.Prelude.{[], ◌∷◌, Option, Some, None, IfSome, IfNone, length, slice_get}
+use Rattle.std.specs.Prelude.{[], ◌∷◌, Option, Some, None, length, slice_get}
 use Rattle.std.specs.List.{AllByRecursion}
 use mathlib.Core.List.{IsPrefix}
-use Rattle.sim_base.specs.Clones.{place_of}
-use Rattle.phys_proc.specs.Racks.{RackView, IsFoundOf}
+use Rattle.phys_proc.specs.Racks.{RackView, FindsClone}
 use Rattle.phys_proc.specs.declared.rack.Glance.{Glance}
 
 -- rack r may come later than rack q: it is of the same network, and of q's station it shows a later front
@@ -71,5 +70,4 @@ IsLonger xs ys = IsPrefix xs ys × (length xs < length ys)
 pub record IsGlance (rack : RackView) (who : List ℕ) (glance : Glance) : Type 0 where
   pub front : glance.front ≡ rack.front
   pub clones : glance.clones ≡ length rack.clones
-  pub unknown : IfNone glance.found (place_of who rack.clones ≡ None)
-  pub found : IfSome glance.found (λ f. IsFoundOf rack.net rack.clones rack.station rack.front who f)
+  pub found : FindsClone rack.net rack.clones rack.station rack.front who glance.found

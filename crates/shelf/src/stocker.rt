@@ -2,6 +2,7 @@
 ghost use Rattle.std.specs.Prelude.{All, ◌≡◌, ◌+◌, ◌<◌, ◌≤◌, ◌++◌, ◌∷◌, []};
 ghost use Rattle.std.specs.Prelude.{length, map, List, Some, IfOk, IfSome, IfNone, OnOk, OnErr};
 ghost use Rattle.std.specs.Arc.{arc_value};
+ghost use Rattle.left_right.specs.Handles.{published as shown_version};
 ghost use Rattle.net_model.specs.declared.limits.TheConstants.{MOST_STATIONS};
 ghost use Rattle.phys_proc.specs.Racks.{RackView};
 ghost use Rattle.shelf.specs.Racks.{AreShown, HasRack, MayBePublished, MayOpen, with_rack};
@@ -140,7 +141,7 @@ impl<J: Naming, R: Wait + Drop> Stocker<J, R>
 where
     ShownVersion<J>: Absorb<NextVersion<J>, State = ()>,
 {
-    /// Makes this the rack of its station for all looks from now on. Out of memory readers see what they saw.
+    /// Makes this the last rack of its station. Out of memory readers are shown what they were shown.
     pub fn publish(&mut self, alloc: Global, rack: Rack) -> Result<(), NoMemory>
         requires there { HasRack rack.station self.old.published }
         requires may { MayBePublished self.old.published rack }
@@ -149,6 +150,7 @@ where
         ensures readers { self.new.readers ≡ self.old.readers }
         ensures same { OnErr result ((self.new.published ≡ self.old.published)
             × (self.new.spares.items ≡ self.old.spares.items)) }
+        ensures shown { OnErr result (shown_version self.new.writer ≡ shown_version self.old.writer) }
     {
         if self.published.len() >= MOST_RACKS {
             return Err(NoMemory);

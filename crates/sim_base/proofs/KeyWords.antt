@@ -1,8 +1,13 @@
 -- Words are in the order of their keys.
-use Rattle.std.proofs.Common.{◌≡◌, ◌⊎◌, inl, inr, ℕ, ◌<◌, refl, arith, Ordering, Less, Equal, Greater, nat_cmp}
+use Rattle.std.proofs.Common.{◌≡◌, ◌⊎◌, inl, inr, ℕ, ◌<◌, refl, subst, arith}
+use Rattle.std.proofs.Common.{Ordering, Less, Equal, Greater, nat_cmp}
 use Rattle.std.specs.Cmp.{ranks}
 use Rattle.std.specs.Ordering.{MatchOrdering, ordering_then}
-use Rattle.sim_base.specs.KeyWords.{WordsAreOrdered}
+use Rattle.sim_base.specs.KeyWords.{FitsWord, key_word}
+use Rattle.sim_base.specs.Order.{key_cmp}
+use Rattle.sim_base.specs.declared.message.Key.{Key}
+use Rattle.sim_base.specs.declared.message.TheConstants.{WORD_PLACES}
+use Rattle.sim_base.proofs.OrderEqual.{three_same}
 
 -- ---- ordering_then
 
@@ -20,10 +25,26 @@ last_number x y Less m f g = inl refl
 last_number x y Equal m f g = inr (refl, g m)
 last_number x y Greater m f g = absurd (f m)
 
+-- what is less by two orders one after the other is less by the first, or ties there and is less by the second
+by_two : (x y : ℕ) (s : Ordering) → ordering_then (nat_cmp x y) s ≡ Less → (x < y) ⊎ ((x ≡ y) × (s ≡ Less))
+by_two x y s e = by (nat_cmp x y) (ranks x y) e
+  where
+    -- by how the two numbers lie
+    by : (r : Ordering) → MatchOrdering r (x < y) (x ≡ y) (y < x) → ordering_then r s ≡ Less
+        → (x < y) ⊎ ((x ≡ y) × (s ≡ Less))
+    by Less m e = inl m
+    by Equal m e = inr (m, e)
+    by Greater m e = absurd (cc)
+
+-- what is less by number is less
+by_last : (x y : ℕ) → nat_cmp x y ≡ Less → x < y
+by_last x y e = subst (λ r. MatchOrdering r (x < y) (x ≡ y) (y < x)) e (ranks x y)
+
 -- ---- key_word
 
--- words are in the order of their keys, and where the keys are equal in that of the places
-pub words-ordered : WordsAreOrdered
+-- a word is less only where its key is, or where the keys are equal and its place is less
+pub words-ordered : (p q : ℕ) (j k : Key) → FitsWord j → FitsWord k → p < WORD_PLACES → q < WORD_PLACES
+    → key_word p j < key_word q k → (key_cmp j k ≡ Less) ⊎ ((key_cmp j k ≡ Equal) × (p < q))
 words-ordered p q j k a b l m h =
     let sj = a.sender in
     let sk = b.sender in
@@ -35,3 +56,31 @@ words-ordered p q j k a b l m h =
     (λ g. omega (arith, g, t, h, nj, nk, l, m)) (λ s.
     last_number j.number k.number (nat_cmp j.number k.number) (ranks j.number k.number)
     (λ g. omega (arith, g, t, s, h, l, m)) (λ n. omega (arith, t, s, n, h))))
+
+-- and it is less there
+pub key_word-lt : (p q : ℕ) (j k : Key) → FitsWord j → FitsWord k → p < WORD_PLACES → q < WORD_PLACES
+    → (key_cmp j k ≡ Less) ⊎ ((key_cmp j k ≡ Equal) × (p < q)) → key_word p j < key_word q k
+key_word-lt p q j k a b l m (inl e) =
+    let sj = a.sender in
+    let sk = b.sender in
+    let nj = a.number in
+    let nk = b.number in
+    elim (by_two j.time k.time _ e) [
+      | inl t ↦ omega (arith, t, sj, sk, nj, nk, l, m)
+      | inr ts ↦
+          let t = ts.0 in
+          elim (by_two j.sender k.sender _ ts.1) [
+            | inl s ↦ omega (arith, t, s, nj, nk, l, m)
+            | inr sn ↦
+                let s = sn.0 in
+                let n = by_last j.number k.number sn.1 in
+                omega (arith, t, s, n, l, m)
+          ]
+    ]
+key_word-lt p q j k a b l m (inr e) =
+    let same = three_same j.time j.sender j.number k.time k.sender k.number e.0 in
+    let t = same.0 in
+    let s = same.1 in
+    let n = same.2 in
+    let below = e.1 in
+    omega (arith, t, s, n, below)

@@ -1,5 +1,5 @@
 -- Keys as words of 64 bits: time, sender, number, and then a place, each in bits of its own.
-use Rattle.std.specs.Prelude.{◌≡◌, ◌⊎◌, ℕ, ◌+◌, ◌*◌, ◌<◌}
+use Rattle.std.specs.Prelude.{◌≡◌, ◌⊎◌, ◌↔◌, ℕ, ◌+◌, ◌*◌, ◌<◌}
 use Rattle.std.specs.declared.cmp.Ordering.TheVariants.{Less, Equal}
 use Rattle.sim_base.specs.Order.{key_cmp}
 use Rattle.sim_base.specs.declared.message.Key.{Key}
@@ -15,7 +15,7 @@ pub record FitsWord (k : Key) : Type 0 where
 abbrev pub key_word : ℕ → Key → ℕ
 key_word place k = ((k.time * WORD_SENDERS + k.sender) * WORD_NUMBERS + k.number) * WORD_PLACES + place
 
--- words are in the order of their keys, and where the keys are equal in that of the places
+-- a word is less exactly where its key is, or where the keys are equal and its place is less
 abbrev pub WordsAreOrdered : Type 0
 WordsAreOrdered = (p q : ℕ) (j k : Key) → FitsWord j → FitsWord k → p < WORD_PLACES → q < WORD_PLACES
-    → key_word p j < key_word q k → (key_cmp j k ≡ Less) ⊎ ((key_cmp j k ≡ Equal) × (p < q))
+    → (key_word p j < key_word q k) ↔ ((key_cmp j k ≡ Less) ⊎ ((key_cmp j k ≡ Equal) × (p < q)))

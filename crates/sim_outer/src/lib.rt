@@ -32,6 +32,7 @@
 //! read or an output that was cut off is counted as a fault, never passed over.
 #![tactic(auto)]
 
+pub mod examples;
 pub mod inputs;
 pub mod mem_inputs;
 pub mod mem_sink;

@@ -20,14 +20,14 @@ use Rattle.std.proofs.Common.{
 }
 use Rattle.std.proofs.lemmas.Bool.{cases_lt}
 use Rattle.std.proofs.lemmas.List.{get_or_append_left, get_or-append_right, get_or-append-add}
-use Rattle.crew_pool.specs.Tasks.{EachReady, MayRunAll, AnswersTo, EachAnswers}
+use Rattle.crew_pool.specs.Tasks.{EachAt, MayRunAll, AnswersTo}
 use Rattle.standing_crew.specs.Parts.{EachReadyFrom, MayRunFrom, EachAnsweredFrom}
 
 -- ---- EachReadyFrom
 
 -- where each item of a call is ready, so is each of a run of them
 EachReadyFrom-run : {X : Type 0} (ready : ℕ → X → Type 0) (before run after : List X)
-    → EachReady ready (before ++ (run ++ after)) → EachReadyFrom ready (length before) run
+    → EachAt ready (before ++ (run ++ after)) → EachReadyFrom ready (length before) run
 EachReadyFrom-run ready before run after each i d less =
     let here : get_or (before ++ (run ++ after)) (length before + i) d ≡ get_or run i d =
     get_or-append-add before (run ++ after) i d ∙ get_or_append_left run after d i less in
@@ -77,7 +77,7 @@ EachAnsweredFrom-append answers first xs zs ys ws one two = (
 
 -- answers from task 0 on are those of the whole call
 pub EachAnsweredFrom-start : {X Y : Type 0} (answers : ℕ → X → Y → Type 0) (xs : List X) (ys : List Y)
-    → EachAnsweredFrom answers 0 xs ys → EachAnswers (AnswersTo answers xs) ys
+    → EachAnsweredFrom answers 0 xs ys → EachAt (AnswersTo answers xs) ys
 EachAnsweredFrom-start answers xs ys all i e less d =
     let number : 0 + i ≡ i = omega arith in
     subst (λ m. answers m (get_or xs i d) (get_or ys i e)) number (all.1 i e less d)

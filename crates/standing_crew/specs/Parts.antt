@@ -1,6 +1,6 @@
 -- A part of a call: a run of neighbouring items, and the answers to it.
 use Rattle.std.specs.Prelude.{◌≡◌, ℕ, ◌+◌, ◌≤◌, List, [], ◌∷◌, ◌++◌, length, Option, Some, None}
-use Rattle.crew_pool.specs.Tasks.{EachReady, AnswersTo, EachAnswers}
+use Rattle.crew_pool.specs.Tasks.{EachAt, AnswersTo}
 use Rattle.crew_pool.specs.declared.crew.TheConstants.{MOST_TASKS}
 
 -- what a worker is given: the work, the number of the first task, and an item for each task from there
@@ -11,7 +11,7 @@ pub record PartView (W X : Type 0) : Type 0 where
 
 -- the item at each place may be given to the task of this number, counted from the first
 abbrev pub EachReadyFrom : {X : Type 0} → (ℕ → X → Type 0) → ℕ → List X → Type 0
-EachReadyFrom ready first items = EachReady (λ i. ready (first + i)) items
+EachReadyFrom ready first items = EachAt (λ i. ready (first + i)) items
 
 -- the tasks from the first on may be run on these items: none is past the last of a call, each item ready for its task
 pub record MayRunFrom {X : Type 0} (takes : ℕ → X → Type 0) (first : ℕ) (items : List X) : Type 0 where
@@ -21,7 +21,7 @@ pub record MayRunFrom {X : Type 0} (takes : ℕ → X → Type 0) (first : ℕ) 
 -- as many answers as items, each an answer of the task of this number, counted from the first, to the item of its place
 abbrev pub EachAnsweredFrom : {X Y : Type 0} → (ℕ → X → Y → Type 0) → ℕ → List X → List Y → Type 0
 EachAnsweredFrom answers first items outs =
-    (length outs ≡ length items) × EachAnswers (AnswersTo (λ i. answers (first + i)) items) outs
+    (length outs ≡ length items) × EachAt (AnswersTo (λ i. answers (first + i)) items) outs
 
 -- these are answers to the items of a part
 abbrev pub IsAnsweredBy : {W X Y : Type 0} → (W → ℕ → X → Y → Type 0) → PartView W X → List Y → Type 0

@@ -38,7 +38,7 @@ pub(crate) fn hand_out<W: Work + Send + Drop>(
     items: Vec<W::In>,
     size: usize,
 ) -> Result<PartsOut<W>, NoMemory>
-    // what it asks: items for at most `MOST_TASKS` tasks, each ready for its task, and lines that nothing is out on
+    // what it asks: items for at most `MOST_TASKS` tasks, each ready for its task, and callers that nothing is out on
     requires may_run { MayRunAll (W.ready work.now.value) items.items }
     requires idle { All (λ caller. caller ≡ None) callers.items }
     // what it gives: the parts that are out, one after the other from task 0 on, and callers that nothing is out on

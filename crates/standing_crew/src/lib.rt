@@ -27,9 +27,9 @@
 //! some thousand times before it does, and holds a processor while it looks. Small work is given to no worker at all.
 //! Whoever starts the workers rings the end of the bell on each way out, since they wait for it.
 //!
-//! The promise that it carries is that of `crew_pool`: **the same answers for every number of workers and every order
-//! of their steps**. The contract of [`Team::all`] is the one of `Crew::all`, and neither the workers nor what was
-//! taken back occur in it. No contract says how fast a team is, or that a worker ever runs.
+//! The promise that it carries is that of `crew_pool`: **an answer to each item at its place, for every number of
+//! workers and every order of their steps**. The contract of [`Team::all`] is the one of `Crew::all`, and neither the
+//! workers nor what was taken back occur in it. No contract says how fast a team is, or that a worker ever runs.
 #![tactic(auto)]
 
 pub mod bell;

@@ -1,20 +1,14 @@
 -- Links and their weights.
-use Rattle.std.proofs.Common.{◌≡◌, ◌≤◌, List, [], ◌∷◌, length, arith}
-use Rattle.std.specs.List.{AllByRecursion}
+use Rattle.std.proofs.Common.{◌≡◌, ◌≤◌, List, length, arith}
 use Rattle.std.proofs.lemmas.List.{length-map}
 use Rattle.sim_base.specs.Weights.{IsWeight}
+use Rattle.sim_base.proofs.ListLaws.{all_map}
 use Rattle.net_model.specs.declared.station.Link.{Link}
 use Rattle.sim_draw.specs.Drawing.{AreWeights}
 use Rattle.stations.specs.Fits.{AreLinks}
 use Rattle.stations.specs.Sending.{weights_of}
 
 -- ---- weights_of
-
--- where the weight of each link is one, so is each of their weights
-weights_of-IsWeight : (links : List Link) → AllByRecursion (λ l. IsWeight l.weight) links
-    → AllByRecursion IsWeight (weights_of links)
-weights_of-IsWeight [] all = tt
-weights_of-IsWeight (l ∷ ls) all = (all.0, weights_of-IsWeight ls all.1)
 
 -- the weights of links are weights
 pub are_weights : (links : List Link) → AreLinks links → AreWeights (weights_of links)
@@ -23,5 +17,5 @@ are_weights links are =
     record {
       some = omega (arith, count, are.some);
       few = omega (arith, count, are.few);
-      all = weights_of-IsWeight links are.weights;
+      all = all_map IsWeight (λ (l : Link). l.weight) links are.weights;
     }

@@ -1,5 +1,5 @@
 -- What a router keeps, and what it sends.
-use Rattle.std.proofs.Common.{◌≡◌, ℕ, ◌+◌, ◌-◌, ◌%◌, ◌≤◌, List, length, Bool}
+use Rattle.std.proofs.Common.{◌≡◌, ℕ, ◌+◌, ◌-◌, ◌≤◌, List, length, Bool}
 use Rattle.std.proofs.Common.{true, false, if◌then◌else◌, refl, ◌∙◌, slice_get, slice_set, length-set, arith}
 use Rattle.std.specs.List.{AllByRecursion}
 use Rattle.sim_base.specs.declared.message.Job.{Job as JobOf}
@@ -64,16 +64,14 @@ module _ (net : Net) (site : Site) (now : ℕ) (links : AllByRecursion (IsLink n
 
   -- a job that is sent on is at most `MOST_SENDS` messages
   router_job-grown : (j : JobOf) (s : RouterState) → Grown net now MOST_SENDS a (router_job site now j s a)
-  router_job-grown j s = by (routes_by_turn site.kind)
+  router_job-grown j s = by (routes_by_turn site.kind) _
     where
-      -- by whether it routes by turn
-      by : (b : Bool) → Grown net now MOST_SENDS a
-          (if b then send_over (slice_get site.links (s.passed % length site.links)) now j a else route_by site.links
-          s.weights.items now j a)
-      by true = grown-more net now 1 MOST_SENDS a _
-          (grown-over net now site.links (s.passed % length site.links) j a links ahead) (omega arith)
-      by false = grown-more net now 1 MOST_SENDS a _ (grown-route net now site.links s.weights.items j a links ahead)
-          (omega arith)
+      -- by whether it routes by turn, over whichever link
+      by : (b : Bool) (i : ℕ) → Grown net now MOST_SENDS a
+          (if b then send_over (slice_get site.links i) now j a else route_by site.links s.weights.items now j a)
+      by true i = grown-more net now 1 MOST_SENDS a _ (grown-over net now site.links i j a links ahead) (omega arith)
+      by false i = grown-more net now 1 MOST_SENDS a _
+          (grown-route net now site.links s.weights.items j a links ahead) (omega arith)
 
   -- ---- router_on
 

@@ -11,7 +11,6 @@ use Rattle.sim_base.specs.declared.entry.Entry.{Entry}
 use Rattle.sim_base.specs.declared.entry.Line.{Line}
 use Rattle.sim_base.specs.declared.entry.Line.TheVariants.{Source, Server, Passed, Sink}
 use Rattle.sim_base.specs.declared.decision.Planned.{Planned}
-use Rattle.net_model.specs.declared.station.Link.{Link}
 pub mod OneDesk
 pub mod Draws
 pub mod FullRoom
@@ -67,10 +66,6 @@ passed n = Passed n
 -- got, stay
 abbrev pub sink : ℕ → ℕ → Line
 sink got stay = Sink got stay
-
--- a link to a station, with this delay and the weight 1
-abbrev pub link : ℕ → ℕ → Link
-link to delay = record { to = to; delay = delay; weight = 1 }
 
 -- time, station, parameter and its two values
 abbrev pub set_at : ℕ → ℕ → Param → ℕ → ℕ → Planned

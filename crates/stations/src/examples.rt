@@ -11,8 +11,10 @@ ghost use Rattle.stations.specs.Examples.OneDesk.{brief, brief_trace, two_branch
 ghost use Rattle.stations.specs.Examples.OneDesk.{quick_desk_trace, gate, desk, out};
 ghost use Rattle.stations.specs.Examples.Draws.{drawn_gate, drawn_gate_trace};
 ghost use Rattle.stations.specs.Examples.FullRoom.{three_sources, no_room_trace, more_servers, more_servers_trace};
+ghost use Rattle.stations.specs.Examples.FullRoom.{desk as shared_desk, less, less_log};
 ghost use Rattle.stations.specs.Examples.SeveralLinks.{several_links, several_links_trace};
-ghost use Rattle.stations.specs.Examples.Routers.{fan_network, fan_trace};
+ghost use Rattle.stations.specs.Examples.Routers.{fan_network, by_turn_trace, by_weights_trace};
+ghost use Rattle.stations.specs.Examples.Routers.{lighter, lighter_trace, fan};
 ghost use Rattle.stations.specs.Examples.Changes.{answers, server_changes, server_answers};
 ghost use Rattle.stations.specs.Examples.Changes.{delay_changes, delay_answers, weight_changes};
 ghost use Rattle.stations.specs.Examples.Changes.{weight_answers, turn_answers, IsIgnored};
@@ -55,14 +57,26 @@ pub fn servers_are_added()
     ensures { trace_of (three_sources 5) more_servers ≡ more_servers_trace }
 {}
 
-/// A router by turn, and a delay behind it.
-pub fn router_by_turn()
-    ensures { trace_of (fan_network true) base ≡ fan_trace }
+/// Fewer servers end no service, and a smaller room sends nobody away.
+pub fn fewer_servers_and_less_room()
+    ensures { log_at (three_sources 5) less shared_desk 20 ≡ less_log }
 {}
 
-/// A router by weights, whose draws here pick the same links.
+/// A router by turn, and a delay behind it: after the last link the first comes again, and nothing is drawn.
+pub fn router_by_turn()
+    ensures trace { trace_of (fan_network true) base ≡ by_turn_trace }
+    ensures drawn { (state_at (fan_network true) base fan 20).sender.draws.count ≡ 0 }
+{}
+
+/// A router by weights: a word is drawn for each job.
 pub fn router_by_weights()
-    ensures { trace_of (fan_network false) base ≡ fan_trace }
+    ensures trace { trace_of (fan_network false) base ≡ by_weights_trace }
+    ensures drawn { (state_at (fan_network false) base fan 20).sender.draws.count ≡ 3 }
+{}
+
+/// The weight of the first link becomes less: the jobs take the second.
+pub fn weight_that_changes()
+    ensures { trace_of (fan_network false) lighter ≡ lighter_trace }
 {}
 
 /// A source, a server and a delay that choose among several links: each draws its link before its time.

@@ -1,6 +1,7 @@
 -- The first log of a trace that is full, and the lengths of all.
-use Rattle.std.proofs.Common.{◌≡◌, inl, inr, ℕ, ◌<◌, ◌≤◌, ◌==◌, refl, ap, sym, subst}
+use Rattle.std.proofs.Common.{◌≡◌, ◌⊎◌, inl, inr, ℕ, ◌<◌, ◌≤◌, ◌==◌, min, refl, ap, sym, subst}
 use Rattle.std.proofs.Common.{◌∙◌, List, [], ◌∷◌, ◌++◌, length, length-append, append-nil, Option, Some, None, arith}
+use Rattle.std.specs.List.{AllByRecursion}
 use Rattle.std.proofs.lemmas.Bool.{cases_eq, cases_lt}
 use Rattle.std.proofs.lemmas.List.{append_assoc}
 use Rattle.std.proofs.lemmas.List.Elements.{filter-append}
@@ -8,14 +9,21 @@ use Rattle.sim_base.specs.Clones.{Clone}
 use Rattle.sim_base.specs.declared.message.Msg.{Msg}
 use Rattle.sim_base.specs.declared.entry.Entry.{Entry}
 use Rattle.sim_base.specs.declared.entry.Line.{Line}
+use Rattle.sim_base.proofs.ListLaws.{all_right}
 use Rattle.net_model.specs.Net.{Net, HasStation}
+use Rattle.net_model.specs.Rules.{IsNet}
+use Rattle.run_laws.specs.Handlers.{AreForStations, IsStation}
+use Rattle.run_laws.specs.Runs.{end_of}
 use Rattle.run_laws.specs.World.{log_of}
+use Rattle.run_laws.proofs.ForStations.{trace_for_stations}
 use Rattle.run_laws.proofs.Worlds.{log_here, log_there}
-use Rattle.stations.specs.Runs.{trace_of}
+use Rattle.stations.specs.Runs.{simulation, trace_of}
+use Rattle.stations.proofs.GoodLaws.{lawful-stations, stations-to_stations}
 use Rattle.solo_run.specs.Limit.{receiver, first_beyond}
 use Rattle.solo_run.proofs.OneTurn.{beyond_append, beyond_here, beyond_later}
 use Rattle.study_run.specs.Limits.{IsFirstFull, IsWithin, MeetsLimitAlone}
-use Rattle.study_run.specs.Laws.{FullIsFound, FullIsLonger, FullIsOne, NotWithinAndMetAlone, WithinIsNotFull}
+use Rattle.study_run.specs.Laws.{FullIsFound, FullIsLonger, FullIsOne, NotWithinAndMetAlone}
+use Rattle.study_run.specs.Laws.{WithinIsNotFull, WithinOrMetAlone}
 
 -- ---- first_beyond
 
@@ -154,3 +162,27 @@ pub met_alone : (net : Net) (c : Clone) (s : ℕ) → HasStation net s
     → first_beyond net.limit [] (trace_of net c) ≡ Some s → MeetsLimitAlone net c s
 met_alone net c s is some =
     record { is_station = is; first = full_at net.limit [] (trace_of net c) s (λ t. omega arith) some }
+
+-- where decisions are for stations, the log that is full first is a station's
+full_is_station : (net : Net) (c : Clone) (s : ℕ) → IsNet net → AreForStations (simulation net) c.plans
+    → IsFirstFull net.limit (trace_of net c) s → HasStation net s
+full_is_station net c s valid there f =
+    let For : Entry Msg Line → Type 0 = λ e. IsStation (simulation net) e.msg.to in
+    let all : AllByRecursion For (trace_of net c) = trace_for_stations (lawful-stations net valid)
+    (stations-to_stations net valid) c.plans (min net.horizon (end_of (simulation net) c)) there in
+    let rest = all_right For f.done (f.entry ∷ f.rest) (subst (AllByRecursion For) f.parts all) in
+    let is = subst (IsStation (simulation net)) f.is_for rest.0 in
+    record { low = is.0; high = is.1 }
+
+-- what the walk finds, or not
+either_alone : (net : Net) (c : Clone) → IsNet net → AreForStations (simulation net) c.plans → (o : Option ℕ)
+    → first_beyond net.limit [] (trace_of net c) ≡ o → IsWithin net c ⊎ ((s : ℕ) × MeetsLimitAlone net c s)
+either_alone net c valid there None none = inl (within_alone net c none)
+either_alone net c valid there (Some s) some =
+    let first = full_at net.limit [] (trace_of net c) s (λ t. omega arith) some in
+    inr (s, met_alone net c s (full_is_station net c s valid there first) some)
+
+-- all logs are within the limit, or it is met
+pub within_or_met_alone : WithinOrMetAlone
+within_or_met_alone net valid c there =
+    either_alone net c valid there (first_beyond net.limit [] (trace_of net c)) refl

@@ -6,7 +6,9 @@ use Rattle.sim_base.specs.declared.entry.Entry.{Entry}
 use Rattle.sim_base.specs.declared.entry.Line.{Line}
 use Rattle.net_model.specs.Net.{Net}
 use Rattle.net_model.specs.Rules.{IsNet}
+use Rattle.run_laws.specs.Handlers.{AreForStations}
 use Rattle.run_laws.specs.World.{log_of}
+use Rattle.stations.specs.Runs.{simulation}
 use Rattle.solo_run.specs.Limit.{receiver, first_beyond}
 use Rattle.world_core.specs.Overs.{most_handled}
 use Rattle.world_core.specs.Worlds.{total_handled}
@@ -59,6 +61,11 @@ FullIsFound = (limit : ℕ) (trace : List (Entry Msg Line)) (s : ℕ) → IsFirs
 abbrev pub WithinIsNotFull : Type 0
 WithinIsNotFull = (limit : ℕ) (trace : List (Entry Msg Line)) →
     ((s : ℕ) → length (log_of receiver s trace) ≤ limit) ↔ (first_beyond limit [] trace ≡ None)
+
+-- so the logs of a run of one clone, with decisions for stations, are within the limit, or it is met
+abbrev pub WithinOrMetAlone : Type 0
+WithinOrMetAlone = (net : Net) → IsNet net → (c : Clone) → AreForStations (simulation net) c.plans →
+    IsWithin net c ⊎ ((s : ℕ) × MeetsLimitAlone net c s)
 
 -- the logs of a clone's run are not all within the limit where it is met
 abbrev pub NotWithinAndMetAlone : Type 0

@@ -5,6 +5,7 @@ ghost use Rattle.study_run.specs.Accepted.{AcceptedIsTaken};
 ghost use Rattle.study_run.specs.Laws.{FullIsFound, FullIsLonger, FullIsOne, MeetingIsFound};
 ghost use Rattle.study_run.specs.Laws.{MeetingIsOne, NotWithinAndMet, NotWithinAndMetAlone, TotalIsFew};
 ghost use Rattle.study_run.specs.Laws.{TotalIsOfReport, WithinIsNotFound, WithinIsNotFull, WithinOrMet};
+ghost use Rattle.study_run.specs.Laws.{WithinOrMetAlone};
 
 /// Where the limit is met in a run of clones: there is one such place, and it is there exactly where some log of the
 /// whole run is longer.
@@ -22,6 +23,7 @@ pub fn first_full_log()
     ensures found { FullIsFound }
     ensures longer { FullIsLonger }
     ensures within { WithinIsNotFull }
+    ensures either { WithinOrMetAlone }
     ensures not_both { NotWithinAndMetAlone }
 {}
 

@@ -14,6 +14,8 @@ pub fn make_report(alloc: Global, model: &Model, world: &World) -> Result<Vec<u8
     requires may_report { MayReport model.now world.now }
     ensures text { IfOk result (λ text. text.items ≡ report model.now world.now.clones) }
 {
+    // for its clauses: clones are few, and their logs within the limit
+    let _short = world.lists();
     let mut figures = Vec::new(alloc);
     for s in 0..model.len() {
         figures.push(world.figures(s + 1))?;

@@ -5,13 +5,14 @@ use Rattle.sim_base.specs.declared.entry.Line.{Line}
 use Rattle.sim_base.specs.declared.message.Key.{Key}
 use Rattle.sim_base.specs.declared.message.Payload.{Payload}
 use Rattle.net_model.specs.Net.{Net}
-use Rattle.trace_report.specs.TraceText.{key_text, payload_text, counts_text, entry_line}
+use Rattle.trace_report.specs.TraceText.{line_start, payload_text, counts_text, entry_line}
 
--- ---- key_text, payload_text, counts_text
+-- ---- line_start, payload_text, counts_text
 
--- the key, what the message tells, and the counts, one behind the other, are an entry's line
+-- the start, what the message tells, and the counts, one behind the other, are an entry's line
 pub line_of_parts : (net : Net) (key : Key) (to : ℕ) (payload : Payload) (counts : Line) (before : List ℕ)
-    → (((before ++ key_text net key to) ++ payload_text net payload) ++ codes " ") ++ (counts_text counts ++ codes "\n")
+    → (((before ++ line_start net key to) ++ payload_text net payload) ++ codes " ")
+    ++ (counts_text counts ++ codes "\n")
     ≡ before ++ entry_line net (record {
       msg = record { key = key; to = to; payload = payload };
       line = counts;

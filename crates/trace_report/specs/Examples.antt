@@ -3,8 +3,7 @@ use Rattle.std.specs.Prelude.{ℕ, List, [], ◌∷◌, ◌++◌, codes}
 use Rattle.sim_base.specs.declared.figures.Figures.{Figures}
 use Rattle.net_model.specs.declared.limits.TheConstants.{USUAL_LIMIT}
 use Rattle.net_model.specs.declared.station.Kind.TheVariants.{Source, Sink}
-use Rattle.net_model.specs.Net.{Net}
-use Rattle.stations.specs.Examples.{link}
+use Rattle.net_model.specs.Net.{Net, link}
 
 -- the text of the trace of two jobs at a desk that serves one at a time, as that of the base clone
 abbrev pub one_desk_text : List ℕ
@@ -53,8 +52,8 @@ text_of_two =
     ++ codes "total handled=13 alone=17\n"
 
 -- a source of jobs of class 2, and where they leave
-abbrev pub two_classes : Net
-two_classes = record {
+abbrev pub second_class : Net
+second_class = record {
   format = 2;
   lookahead = 2;
   horizon = 20;

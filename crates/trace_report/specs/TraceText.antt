@@ -56,15 +56,15 @@ counts_text (Passed passed) = codes "passed=" ++ decimal passed
 counts_text (Sink got stay) = codes "got=" ++ decimal got ++ codes " stay=" ++ decimal stay
 
 -- what a line begins with, up to the payload: the time, the receiver, the sender and its running count
-abbrev pub key_text : Net → Key → ℕ → List ℕ
-key_text net key to =
+abbrev pub line_start : Net → Key → ℕ → List ℕ
+line_start net key to =
     decimal key.time ++ codes " " ++ station_name net to ++ codes " " ++ station_name net key.sender ++ codes " "
     ++ decimal key.number ++ codes " "
 
--- the line of an entry: its key, what the message tells, and the counts after it
+-- the line of an entry: its start, what the message tells, and the counts after it
 abbrev pub entry_line : Net → Entry Msg Line → List ℕ
 entry_line net entry =
-    key_text net entry.msg.key entry.msg.to ++ payload_text net entry.msg.payload ++ codes " "
+    line_start net entry.msg.key entry.msg.to ++ payload_text net entry.msg.payload ++ codes " "
     ++ counts_text entry.line ++ codes "\n"
 
 -- the trace text of a clone of this name with these entries

@@ -8,7 +8,7 @@ pub record WritesPiece (piece : List ℕ) (most at end : ℕ) (old new : List �
   pub near : end ≤ at + most
 
 -- the piece stands behind what was written before the place, and ends as many bytes on as it has
-pub record WritesAll (piece : List ℕ) (at end : ℕ) (old new : List ℕ) : Type 0 where
+pub record WritesExactly (piece : List ℕ) (at end : ℕ) (old new : List ℕ) : Type 0 where
   pub text : take end new ≡ take at old ++ piece
   pub size : length new ≡ length old
   pub place : end ≡ at + length piece

@@ -7,7 +7,7 @@ ghost use Rattle.net_model.specs.Examples.{small};
 ghost use Rattle.stations.specs.Examples.{at, job};
 ghost use Rattle.stations.specs.Examples.OneDesk.{one_desk_trace};
 ghost use Rattle.trace_report.specs.Examples.{one_desk_text, figures_alone, alone_text, figures_of_two, text_of_two};
-ghost use Rattle.trace_report.specs.Examples.{two_classes};
+ghost use Rattle.trace_report.specs.Examples.{second_class};
 ghost use Rattle.trace_report.specs.TraceText.{trace_text, entry_line};
 ghost use Rattle.trace_report.specs.ReportText.{report_text};
 ghost use Rattle.sim_base.specs.declared.entry.Line.TheVariants.{Sink};
@@ -25,7 +25,7 @@ pub fn report_of_two_branches()
 
 /// In format 2 a job is written with its class; a clone that handled nothing has a head alone.
 pub fn jobs_with_classes()
-    ensures class { entry_line two_classes (at 5 2 1 1 (job 1 0 3) (Sink 1 2))
+    ensures class { entry_line second_class (at 5 2 1 1 (job 1 0 3) (Sink 1 2))
         ≡ codes "5 out low 1 job low.0:2 got=1 stay=2\n" }
-    ensures nothing { trace_text two_classes (codes "base") [] ≡ codes "clone base\n" }
+    ensures nothing { trace_text second_class (codes "base") [] ≡ codes "clone base\n" }
 {}

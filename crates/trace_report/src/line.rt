@@ -8,8 +8,8 @@ ghost use Rattle.log_chain.specs.Packing.{unpacked_entry};
 ghost use Rattle.log_chain.specs.Stored.{entry_in};
 ghost use Rattle.sim_base.specs.Params.{param_word};
 ghost use Rattle.trace_report.specs.TraceText.{station_name, class_text, job_text, values_text};
-ghost use Rattle.trace_report.specs.TraceText.{change_text, payload_text, counts_text, key_text, entry_line};
-ghost use Rattle.trace_report.specs.Writers.{WritesAll, WritesPiece};
+ghost use Rattle.trace_report.specs.TraceText.{change_text, payload_text, counts_text, line_start, entry_line};
+ghost use Rattle.trace_report.specs.Writers.{WritesExactly, WritesPiece};
 ghost use Rattle.trace_report.specs.declared.line.TheConstants.{MOST_LINE};
 ghost use Rattle.sim_base.specs.declared.name.TheConstants.{LONGEST_NAME};
 ghost use Rattle.trace_report.specs.declared.lengths.TheConstants.{LONGEST_CLASS, LONGEST_JOB, LONGEST_WORD};
@@ -159,7 +159,7 @@ fn put_counts(bytes: &mut [u8], at: usize, counts: &Line) -> usize
 fn put_key(bytes: &mut [u8], at: usize, model: &Model, names: &Names, key: &Key, to: u32) -> usize
     requires names { AreNames model.now names.now }
     requires free { at + LONGEST_KEY ≤ length bytes.old }
-    ensures written { WritesPiece (key_text model.now key.now to) LONGEST_KEY at result bytes.old bytes.new }
+    ensures written { WritesPiece (line_start model.now key.now to) LONGEST_KEY at result bytes.old bytes.new }
 {
     let at = put_number(bytes, at, key.time);
     let at = put(bytes, at, b" ");
@@ -190,7 +190,7 @@ pub const MOST_LINE: usize = 256;
 pub fn write_line(bytes: &mut [u8], at: usize, model: &Model, names: &Names, entry: &Entry) -> usize
     requires names { AreNames model.now names.now }
     requires free { at + MOST_LINE ≤ length bytes.old }
-    ensures written { WritesAll (entry_line model.now entry.now) at result bytes.old bytes.new }
+    ensures written { WritesExactly (entry_line model.now entry.now) at result bytes.old bytes.new }
 {
     let at = put_key(bytes, at, model, names, &entry.msg.key, entry.msg.to);
     let at = put_payload(bytes, at, model, names, &entry.msg.payload);
@@ -208,7 +208,7 @@ fn write_packed(
 ) -> usize
     requires names { AreNames model.now names.now }
     requires free { at + MOST_LINE ≤ length bytes.old }
-    ensures written { WritesAll (entry_line model.now (unpacked_entry packed.now)) at result bytes.old bytes.new }
+    ensures written { WritesExactly (entry_line model.now (unpacked_entry packed.now)) at result bytes.old bytes.new }
 {
     // a copy, which no byte that is written can change, so that each part is read once
     let packed = *packed;
@@ -229,7 +229,7 @@ pub fn write_stored(
 ) -> usize
     requires names { AreNames model.now names.now }
     requires free { at + MOST_LINE ≤ length bytes.old }
-    ensures written { WritesAll (entry_line model.now (entry_in stored.entry)) at result bytes.old bytes.new }
+    ensures written { WritesExactly (entry_line model.now (entry_in stored.entry)) at result bytes.old bytes.new }
 {
     match stored {
         StoredEntry::Packed(packed) => write_packed(bytes, at, model, names, packed),

@@ -5,7 +5,7 @@
 ghost use Rattle.std.specs.Prelude.{◌+◌, ◌≤◌, ◌++◌, length, decimal};
 ghost use Rattle.sim_base.specs.declared.name.TheConstants.{LONGEST_NAME};
 ghost use Rattle.trace_report.specs.declared.digits.TheConstants.{LONGEST_NUMBER};
-ghost use Rattle.trace_report.specs.Writers.{WritesAll, WritesPiece};
+ghost use Rattle.trace_report.specs.Writers.{WritesExactly, WritesPiece};
 
 use crate::digits::digits;
 use itoa::write_digits;
@@ -16,7 +16,7 @@ use sim_base::name::LONGEST_NAME;
 #[inline(always)]
 pub fn put(bytes: &mut [u8], at: usize, piece: &[u8]) -> usize
     requires free { at + length piece.now ≤ length bytes.old }
-    ensures written { WritesAll piece.now at result bytes.old bytes.new }
+    ensures written { WritesExactly piece.now at result bytes.old bytes.new }
 {
     let end = at + piece.len();
     bytes[at..end].copy_from_slice(piece);

@@ -24,7 +24,7 @@ use Rattle.run_laws.specs.Fronts.{IsWindow}
 use Rattle.run_laws.specs.Handlers.{IsStation, AllAreForStations}
 use Rattle.run_laws.specs.Runs.{log_at}
 use Rattle.run_laws.specs.SharedTexts.{station_sum}
-use Rattle.run_laws.specs.Copies.{IsStepped, SoFarGiven, takes, messages_taken, ends_of, Stands, AllStepped}
+use Rattle.run_laws.specs.Copies.{IsStepped, SoFarGiven, takes, messages_taken, ends_of, Stands, EachIsStepped}
 use Rattle.run_laws.specs.Copies.{IsDelivered}
 use Rattle.run_laws.proofs.Queue.{all_in, all_from}
 use Rattle.run_laws.proofs.Lists.{in_append, append_old, append_new}
@@ -240,7 +240,7 @@ module _ (net : Net) (cs : List Clone) (front bound : ℕ) (procs : List ProcVie
       let p = proc_of i l in
       let st = (world.stood i p.0 p.1).copies in
       let a = st.carried c there in
-      let copy = all_in (IsCopy net p.0.station) p.0.copies a.0 (world.stood i p.0 p.1).proc.copies a.1 in
+      let copy = all_in (IsCopy net p.0.station) p.0.copies a.0 (world.stood i p.0 p.1).station.proc.copies a.1 in
       let short : length (log_at (simulation net) (clone_at cs c) (i + 1) front) ≤ net.limit =
       subst (λ k. length k ≤ net.limit) (st.log a.0 c a.1 a.2) copy.short in
       omega (arith, short, long)
@@ -294,9 +294,9 @@ module _ (net : Net) (cs : List Clone) (front bound : ℕ) (procs : List ProcVie
         rw (c, d, e) ((is_flow i l f.0 f.1).windows (none i f.0 f.1))
 
     -- and so have all of them
-    all_stepped : AllStepped (simulation net) has cs front bound (by_number [] (copies_at procs))
+    each_is_stepped : EachIsStepped (simulation net) has cs front bound (by_number [] (copies_at procs))
         (by_number [] (done_at flows)) (by_number [] (sent_at flows))
-    all_stepped = record {
+    each_is_stepped = record {
       stood = λ r here. stood_at r here;
       stepped = λ r here. stepped_at r here;
       no_other = λ r other. others r other;
@@ -363,7 +363,7 @@ module _ (net : Net) (cs : List Clone) (front bound : ℕ) (procs : List ProcVie
         subst (λ s. Stands (simulation net) has cs bound s (after_window flows i)) (sym (add-one i))
         (stands_after_window (lawful-stations net world.valid) (stations-to_stations net world.valid) has cs front bound
         (by_number [] (copies_at procs)) (by_number [] (done_at flows)) (by_number [] (sent_at flows)) (suc i)
-        (after_window flows i) for_stations world.window.later world.window.within all_stepped
+        (after_window flows i) for_stations world.window.later world.window.within each_is_stepped
         (omega arith, omega arith)
         (subst (λ s. IsDelivered (simulation net) has cs s (by_number [] (sent_at flows)) (done_at flows i)
         (after_window flows i)) (add-one i) (is_delivered i l)))

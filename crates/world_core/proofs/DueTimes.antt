@@ -12,6 +12,7 @@ use Rattle.sim_base.specs.Clones.{Clone, clone_at}
 use Rattle.sim_base.specs.Same.{same_entry}
 use Rattle.sim_base.specs.declared.message.Msg.{Msg}
 use Rattle.sim_base.specs.declared.lists.TheConstants.{MOST_CLONES}
+use Rattle.sim_base.proofs.ListLaws.{all_weaker}
 use Rattle.sim_base.proofs.SameEntry.{same_entry-Decides}
 use Rattle.clone_sets.specs.Sets.{has, size}
 use Rattle.clone_sets.specs.declared.set.CloneSet.{CloneSet}
@@ -211,7 +212,7 @@ module _ (net : Net) (cs : List Clone) (ended : List (ℕ × ℕ)) (front : ℕ)
 module _ (net : Net) (cs : List Clone) (front i : ℕ) (p : ProcView) (here : StandsAt net cs front i p) where
   -- the station's different logs are as many as its copies
   many_copies : copies net cs (i + 1) front ≡ length p.copies
-  many_copies = copies_are_logs (lawful-stations net here.proc.valid) sets_join cs
+  many_copies = copies_are_logs (lawful-stations net here.station.proc.valid) sets_join cs
       (i + 1) front p.copies here.copies same_entry same_entry-Decides
 
   -- what the clones of copies would handle alone is a sum over the copies
@@ -230,8 +231,8 @@ module _ (net : Net) (cs : List Clone) (front i : ℕ) (p : ProcView) (here : St
 -- the logs of a station's copies are short
 pub all_short : (net : Net) (s : ℕ) (xs : List StationCopy) → net.limit ≤ MOST_LIMIT → AllByRecursion (IsCopy net s) xs
     → AllByRecursion (λ (a : StationCopy). length a.log ≤ MOST_LIMIT) xs
-all_short net s [] l h = tt
-all_short net s (x ∷ xs) l h = let k = h.0 in let e = k.short in (omega (arith, e, l), all_short net s xs l h.1)
+all_short net s xs l h = all_weaker (IsCopy net s) (λ (a : StationCopy). length a.log ≤ MOST_LIMIT) xs
+    (λ a is. let e = is.short in omega (arith, e, l)) h
 
 -- ---- the figures of a station of a world
 

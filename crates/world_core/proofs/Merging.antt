@@ -71,7 +71,7 @@ module _ (net : Net) (cs : List Clone) (ended : List (ℕ × ℕ)) (front : ℕ)
       → HasLog p.copies who log → length log ≤ net.limit
   log_short i p log got h =
       let is_copy : IsCopy net p.station h.copy =
-      all_in (IsCopy net p.station) p.copies h.copy (world.each i p got).proc.copies h.is_copy in
+      all_in (IsCopy net p.station) p.copies h.copy (world.each i p got).station.proc.copies h.is_copy in
       let short = is_copy.short in
       let same : length log ≡ length h.copy.log = ap length h.is_log in
       omega (arith, short, same)

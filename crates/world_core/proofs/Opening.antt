@@ -69,8 +69,7 @@ world_begins net procs valid count first = record {
       let f = first i p got in
       let l = slice_get_within procs i p got in
       record {
-        proc = f.station.proc;
-        number = f.station.number;
+        station = f.station;
         living = λ c. ap (λ k. has k c) f.living ∙ first_lives c;
         once = f.once ∙ sym (handled-0 (simulation net) same_entry (base ∷ []) (i + 1));
         copies = subst (Stands (simulation net) has (base ∷ []) 0 (i + 1)) (sym f.copies)

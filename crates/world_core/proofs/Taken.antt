@@ -135,13 +135,12 @@ module _ (net : Net) (cs : List Clone) (name : List ℕ) (old : ℕ) (there : ol
           let w = world.each i (get_or procs i q) p in
           let d = done.each i (get_or procs i q) q p got in
           record {
-            proc = d.proc net w.proc;
-            number = d.station ∙ w.number;
+            station = record { proc = d.proc net w.station.proc; number = d.station ∙ w.station.number };
             living = λ c. ap (λ k. has k c) d.living ∙ living_forked (get_or procs i q).living c w.living;
             once = d.once ∙ w.once ∙ sym (handled-forked (simulation net) same_entry same_entry-Decides cs name old
                 (i + 1) front may_fork);
             copies = stands_fork (simulation net) has cs old name front (i + 1)
-                (get_or procs i q).copies q.copies may_fork (d.copies net (ends_of (simulation net) cs) w.proc)
+                (get_or procs i q).copies q.copies may_fork (d.copies net (ends_of (simulation net) cs) w.station.proc)
                 w.copies;
           }
 
@@ -185,8 +184,7 @@ module _ (net : Net) (cs : List Clone) (who : ℕ) (plan : Planned) (there : who
           let w = world.each i (get_or procs i q) p in
           let d = done.each i (get_or procs i q) q p got in
           record {
-            proc = d.proc net w.proc;
-            number = d.station ∙ w.number;
+            station = record { proc = d.proc net w.station.proc; number = d.station ∙ w.station.number };
             living = λ c. ap (λ k. has k c) d.living ∙ w.living c ∙ ap (nat_lt c) (sym (length-set cs who with_set));
             once = d.once ∙ w.once ∙ sym (handled-added (lawful-stations net world.valid) same_entry cs front
                 (i + 1) who plan tells timely);
@@ -238,8 +236,7 @@ module _ (net : Net) (cs : List Clone) (who at : ℕ) (there : who < length cs)
         (λ l. world.for_stations who there) (λ c n l. world.for_stations c l) c
         (let many = length-set cs who with_end in omega (arith, many, l));
     each = λ i p got. let w = world.each i p got in record {
-      proc = w.proc;
-      number = w.number;
+      station = w.station;
       living = λ c. w.living c ∙ ap (nat_lt c) (sym (length-set cs who with_end));
       once = w.once ∙ sym (handled-ended (lawful-stations net world.valid) same_entry cs front
           (i + 1) who at there timely);

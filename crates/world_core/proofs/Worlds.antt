@@ -30,14 +30,14 @@ pub stands_for_reader : (net shown_net : Net) (cs shown : List Clone) (front i :
 stands_for_reader net shown_net cs shown front i p e f at =
     subst (λ n. Stands (simulation n) has shown front p.station p.copies) (sym e)
     (subst (λ ds. Stands (simulation net) has ds front p.station p.copies) (sym f)
-    (subst (λ s. Stands (simulation net) has cs front s p.copies) (sym at.number) at.copies))
+    (subst (λ s. Stands (simulation net) has cs front s p.copies) (sym at.station.number) at.copies))
 
 -- the stations of a world may step, each its own copies
 pub are_stations : (net : Net) (cs : List Clone) (ended : List (ℕ × ℕ)) (front : ℕ) (procs : List ProcView)
     → WorldStands net cs ended front procs → AreStations net procs
 are_stations net cs ended front procs world = record {
   few = let n = world.count in let k = world.valid.few in omega (arith, n, k);
-  procs_in_order = λ i p got. let h = world.each i p got in record { proc = h.proc; number = h.number };
+  procs_in_order = λ i p got. (world.each i p got).station;
 }
 
 -- the clones of a world are in its network
@@ -120,8 +120,7 @@ module _ (net : Net) (cs : List Clone) (ended : List (ℕ × ℕ)) (front bound 
               let e : done_at flows i ≡ f.0.done.copies = done_at-got flows i f.0 f.1 in
               let c : after_window flows i ≡ q.copies = ap (with_mail (sent_to i (all_sent flows))) e ∙ sym d.copies in
               record {
-                proc = d.proc net s.proc;
-                number = d.station ∙ s.number;
+                station = record { proc = d.proc net s.proc; number = d.station ∙ s.number };
                 living = λ c. ap (λ k. has k c) (d.living ∙ s.living (none i f.0 f.1)) ∙ w.living c;
                 once = d.once ∙ s.once (none i f.0 f.1) ∙ ap (λ n. n + f.0.handled) w.once
                     ∙ sym (grown_at net cs front bound procs flows world_stepped world.for_stations none i l f.0 f.1);

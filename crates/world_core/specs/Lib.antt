@@ -7,4 +7,4 @@ pub mod Taking
 pub mod Forking
 pub mod Tracing
 pub mod Posts
-pub mod Jobs
+pub mod Tasks

@@ -3,6 +3,7 @@ use Rattle.std.specs.Prelude.{◌≡◌, ℕ, ◌+◌, ◌*◌, ◌<◌, ◌≤�
 use Rattle.sim_base.specs.Clones.{Clone, clone_at}
 use Rattle.clone_sets.specs.Sets.{empty, IsFirst}
 use Rattle.net_model.specs.Net.{Net, HasStation}
+use Rattle.run_laws.specs.CountLaws.{AreWithinLimitAt}
 use Rattle.run_laws.specs.Sharing.{IsWithinLimit}
 use Rattle.stations.specs.Runs.{IsBeyond, simulation}
 use Rattle.world_core.specs.declared.flow.Flow.{Flow}
@@ -15,7 +16,7 @@ pub record IsFirstBeyond (net : Net) (cs : List Clone) (bound station who : ℕ)
   pub is_station : HasStation net station
   pub clone : who < length cs
   pub beyond : IsBeyond net station bound (clone_at cs who)
-  pub least_station : (s : ℕ) → 1 ≤ s → s < station → (c : ℕ) → c < length cs → ¬ (IsBeyond net s bound (clone_at cs c))
+  pub least_station : (s : ℕ) → 1 ≤ s → s < station → AreWithinLimitAt (simulation net) cs s bound
   pub least_clone : (c : ℕ) → c < who → ¬ (IsBeyond net station bound (clone_at cs c))
 
 -- no clone has a log beyond the limit

@@ -13,7 +13,8 @@ use Rattle.run_laws.specs.Copies.{Stands, ends_of}
 use Rattle.run_laws.specs.Runs.{end_of}
 use Rattle.phys_proc.specs.Ends.{ends_in}
 use Rattle.phys_proc.specs.Own.{StationCopy}
-use Rattle.phys_proc.specs.Procs.{ProcView, IsProc}
+use Rattle.phys_proc.specs.Procs.{ProcView}
+use Rattle.world_core.specs.Windows.{IsNumbered}
 
 -- what contracts see of a world: its network, its clones with their decisions and ends, and how far all have come
 pub record WorldView : Type 0 where
@@ -32,8 +33,7 @@ copies_at procs i = unwrap_or (option_map (λ p. p.copies) (slice_get procs i)) 
 -- the copies at place i are those of station i + 1, and they stand for the clones at the front: each clone is in one
 -- copy, whose log, state and messages are the clone's own, and two clones share a copy where their logs are equal
 pub record StandsAt (net : Net) (cs : List Clone) (front i : ℕ) (p : ProcView) : Type 0 where
-  pub proc : IsProc net p
-  pub number : p.station ≡ i + 1
+  pub station : IsNumbered net i p
   pub living : (c : ℕ) → has p.living c ≡ nat_lt c (length cs)
   pub once : p.handled ≡ handled_once net cs (i + 1) front
   pub copies : Stands (simulation net) has cs front (i + 1) p.copies

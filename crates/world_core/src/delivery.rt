@@ -2,9 +2,9 @@
 ghost use Rattle.std.specs.Prelude.{◌≡◌, ◌∷◌, [], ◌<◌, IfOk, OnOk};
 ghost use Rattle.world_core.specs.Windows.{AllDelivered, AreStationsInOrder, MayGiveAll, MayStep};
 
-use crate::jobs::{mail_for, procs_of};
 use crate::posts::posts_of;
 use crate::shared_ends::SharedEnds;
+use crate::tasks::{mail_for, procs_of};
 use crate::timed_proc::TimedProc;
 use crate::windows::Window;
 use clone_sets::CloneSet;
@@ -66,8 +66,8 @@ fn give_by_team<L: Ledger, R: Wait>(
     let mut steps = Steps::<L>::new(blank);
     let work = Arc::new(alloc, work)?;
     let posts = posts_of(alloc, procs, sent)?;
-    let jobs = mail_for(alloc, posts)?;
-    let (team, answers) = team.all(rt, alloc, work, jobs, &NoGate, &mut steps)?;
+    let tasks = mail_for(alloc, posts)?;
+    let (team, answers) = team.all(rt, alloc, work, tasks, &NoGate, &mut steps)?;
     let given = procs_of(alloc, answers)?;
     Ok((given, team))
 }

@@ -25,7 +25,7 @@
 //! let trace = world.trace(alloc, 0)?;                                      // as `base` by itself would handle it
 //! ```
 //!
-//! What it costs: a window looks at one time of each station, and moves the copies of those with something due. Where
+//! What it costs: a window looks at one time of each station, and steps the copies of those with something due. Where
 //! the window before it handled much, a team or a crew is handed all stations, which takes two lists with a place for
 //! each. A crew starts its threads anew for each window, a team wakes workers that wait: so the team steps windows of
 //! [`TEAM_WINDOW`] messages, a crew only those of [`SMALL_WINDOW`](world::SMALL_WINDOW). Windows in which less is due
@@ -41,13 +41,13 @@
 
 mod delivery;
 mod flow;
-pub mod jobs;
 mod looking;
 mod posts;
 mod racks;
 mod shared_ends;
 mod shared_lists;
 mod taking;
+pub mod tasks;
 mod timed_proc;
 mod tracing;
 pub mod windows;

@@ -1,7 +1,7 @@
 //! When clones end (their stop times), which the workers that stay from window to window share.
 ghost use Rattle.std.specs.Prelude.{◌≡◌, ◌<◌, ◌∷◌, ◌++◌, [], IfOk, OnOk, OnErr};
 ghost use Rattle.sim_base.specs.declared.lists.TheConstants.{MOST_CLONES};
-ghost use Rattle.phys_proc.specs.Ends.{AreClones, EndsWith};
+ghost use Rattle.phys_proc.specs.Ends.{AreEndsOfClones, EndsWith};
 
 use phys_proc::CloneEnds;
 use sim_base::NoMemory;
@@ -18,18 +18,18 @@ pub struct SharedEnds {
 
 impl std::marker::Model for SharedEnds {
     ghost use Rattle.std.specs.Prelude.{◌≡◌, List, ℕ};
-    ghost use Rattle.phys_proc.specs.Ends.{AreClones};
+    ghost use Rattle.phys_proc.specs.Ends.{AreEndsOfClones};
 
     ghost Value = { List (ℕ × ℕ) };
 
     ghost view = { λ e. e.listed.items };
 
-    ghost invariant = { λ e. AreClones e.listed.items × (e.made.value ≡ e.listed.items) };
+    ghost invariant = { λ e. AreEndsOfClones e.listed.items × (e.made.value ≡ e.listed.items) };
 }
 
 // The ends of this list, made anew.
 fn made_of(alloc: Global, listed: &[(u32, u64)]) -> Result<CloneEnds, NoMemory>
-    requires clones { AreClones listed.now }
+    requires clones { AreEndsOfClones listed.now }
     ensures value { IfOk result (λ made. made ≡ listed.now) }
 {
     let mut made = CloneEnds::none(alloc);

@@ -11,9 +11,9 @@ ghost use Rattle.world_core.specs.Windows.{AllFlow, AreStations, IsFlow, MayStep
 ghost use Rattle.world_core.specs.Stepping.{FirstOver, IsPlaceOfOver, AllStepped, SteppedAt};
 
 use crate::flow::Flow;
-use crate::jobs::{Job, JobAnswer, flows_of, steps_for};
 use crate::racks::share_of;
 use crate::shared_ends::SharedEnds;
+use crate::tasks::{StationTask, TaskAnswer, flows_of, steps_for};
 use crate::timed_proc::TimedProc;
 use clone_sets::CloneSet;
 use crew_pool::{Crew, Gate, Work};
@@ -84,16 +84,16 @@ impl Window {
 }
 
 impl Work for Window {
-    type In = Job;
+    type In = StationTask;
 
-    type Out = JobAnswer;
+    type Out = TaskAnswer;
 
     ghost use Rattle.phys_proc.specs.Ends.{ends_in};
-    ghost use Rattle.world_core.specs.Jobs.{IsJobAnswer, IsJob, steps_of};
+    ghost use Rattle.world_core.specs.Tasks.{IsTaskAnswer, IsStationTask, steps_of};
 
-    ghost ready = { λ w i job. IsJob w.net i job };
+    ghost ready = { λ w i task. IsStationTask w.net i task };
 
-    ghost answers = { λ w i job answer. IsJobAnswer w.net (ends_in w.net.horizon w.ends) w.bound i job answer };
+    ghost answers = { λ w i task answer. IsTaskAnswer w.net (ends_in w.net.horizon w.ends) w.bound i task answer };
 
     ghost cost = { λ answer. steps_of answer };
 
@@ -101,25 +101,25 @@ impl Work for Window {
         &self,
         alloc: Global,
         i: u32,
-        item: Job,
+        item: StationTask,
         steps: &mut Steps<L>,
-    ) -> Result<JobAnswer, NoMemory> {
+    ) -> Result<TaskAnswer, NoMemory> {
         match item {
-            Job::Step(proc) => {
+            StationTask::Step(proc) => {
                 let flow = self.step(alloc, i, proc, steps)?;
-                Ok(JobAnswer::Stepped(flow))
+                Ok(TaskAnswer::Stepped(flow))
             }
-            Job::Give(post) => {
+            StationTask::Give(post) => {
                 let proc = post.hand_over()?;
-                Ok(JobAnswer::Given(proc))
+                Ok(TaskAnswer::Given(proc))
             }
         }
     }
 
-    fn spent(&self, out: &JobAnswer) -> u64 {
+    fn spent(&self, out: &TaskAnswer) -> u64 {
         match out {
-            JobAnswer::Stepped(flow) => flow.handled,
-            JobAnswer::Given(_) => 0,
+            TaskAnswer::Stepped(flow) => flow.handled,
+            TaskAnswer::Given(_) => 0,
         }
     }
 
@@ -342,16 +342,16 @@ fn run_tasks<C: Crew, G: Gate, L: Ledger, R: Threads + Wait + Sync>(
         r.0.items) }
     ensures cost { IfOk result (λ r. steps.new ≡ steps.old + all_handled r.0.items) }
 {
-    let jobs = steps_for(alloc, procs)?;
+    let tasks = steps_for(alloc, procs)?;
     match team {
         Some(team) => {
             let work = Arc::new(alloc, work)?;
-            let (team, answers) = team.all(rt, alloc, work, jobs, gate, steps)?;
+            let (team, answers) = team.all(rt, alloc, work, tasks, gate, steps)?;
             let flows = flows_of(alloc, answers)?;
             Ok((flows, Some(team)))
         }
         None => {
-            let answers = crew.all(rt, alloc, &work, jobs, gate, steps)?;
+            let answers = crew.all(rt, alloc, &work, tasks, gate, steps)?;
             let flows = flows_of(alloc, answers)?;
             Ok((flows, None))
         }

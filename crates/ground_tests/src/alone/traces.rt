@@ -105,51 +105,75 @@ pub fn more_servers_trace() -> [Entry; 13] {
     ]
 }
 
-/// The first job goes by the delay, the second straight on.
-pub fn fan_trace() -> [Entry; 7] {
+/// By turn the first job goes by the delay, the second straight on, and the third by the delay again.
+pub fn by_turn_trace() -> [Entry; 11] {
     [
         at(3, 1, 1, 0, Payload::Tick, source(1)),
         at(5, 2, 1, 1, job(1, 0, 3), passed(1)),
         at(6, 1, 1, 2, Payload::Tick, source(2)),
         at(7, 3, 2, 0, job(1, 0, 3), passed(1)),
         at(8, 2, 1, 3, job(1, 1, 6), passed(2)),
+        at(9, 1, 1, 4, Payload::Tick, source(3)),
         at(10, 4, 3, 0, job(1, 0, 3), sink(1, 7)),
+        at(11, 2, 1, 5, job(1, 2, 9), passed(3)),
         at(11, 4, 2, 1, job(1, 1, 6), sink(2, 12)),
+        at(13, 3, 2, 2, job(1, 2, 9), passed(2)),
+        at(16, 4, 3, 1, job(1, 2, 9), sink(3, 19)),
     ]
 }
 
-/// Who waits is served by class.
-pub fn by_class_trace() -> [Entry; 12] {
+/// By weights the third goes straight on.
+pub fn by_weights_trace() -> [Entry; 10] {
     [
         at(3, 1, 1, 0, Payload::Tick, source(1)),
-        at(5, 3, 1, 1, job(1, 0, 3), server(1, 0, 0, 0)),
+        at(5, 2, 1, 1, job(1, 0, 3), passed(1)),
         at(6, 1, 1, 2, Payload::Tick, source(2)),
-        at(7, 2, 2, 0, Payload::Tick, source(1)),
-        at(8, 3, 1, 3, job(1, 1, 6), server(1, 1, 0, 0)),
-        at(9, 3, 2, 1, job(2, 0, 7), server(1, 2, 0, 0)),
-        at(9, 3, 3, 0, done(1, 0, 3), server(1, 1, 1, 0)),
-        at(11, 4, 3, 1, job(1, 0, 3), sink(1, 8)),
-        at(13, 3, 3, 2, done(2, 0, 7), server(1, 0, 2, 0)),
-        at(15, 4, 3, 3, job(2, 0, 7), sink(2, 16)),
-        at(17, 3, 3, 4, done(1, 1, 6), server(0, 0, 3, 0)),
-        at(19, 4, 3, 5, job(1, 1, 6), sink(3, 29)),
+        at(7, 3, 2, 0, job(1, 0, 3), passed(1)),
+        at(8, 2, 1, 3, job(1, 1, 6), passed(2)),
+        at(9, 1, 1, 4, Payload::Tick, source(3)),
+        at(10, 4, 3, 0, job(1, 0, 3), sink(1, 7)),
+        at(11, 2, 1, 5, job(1, 2, 9), passed(3)),
+        at(11, 4, 2, 1, job(1, 1, 6), sink(2, 12)),
+        at(14, 4, 2, 2, job(1, 2, 9), sink(3, 17)),
+    ]
+}
+
+/// Who waits is served by class, and in a class as he came.
+pub fn by_class_trace() -> [Entry; 14] {
+    [
+        at(2, 2, 2, 0, Payload::Tick, source(1)),
+        at(3, 1, 1, 0, Payload::Tick, source(1)),
+        at(4, 3, 2, 1, job(2, 0, 2), server(1, 0, 0, 0)),
+        at(4, 2, 2, 2, Payload::Tick, source(2)),
+        at(5, 3, 1, 1, job(1, 0, 3), server(1, 1, 0, 0)),
+        at(6, 3, 2, 3, job(2, 1, 4), server(1, 2, 0, 0)),
+        at(6, 2, 2, 4, Payload::Tick, source(3)),
+        at(8, 3, 2, 5, job(2, 2, 6), server(1, 3, 0, 0)),
+        at(8, 3, 3, 0, done(2, 0, 2), server(1, 2, 1, 0)),
+        at(10, 4, 3, 1, job(2, 0, 2), sink(1, 8)),
+        at(12, 3, 3, 2, done(2, 1, 4), server(1, 1, 2, 0)),
+        at(14, 4, 3, 3, job(2, 1, 4), sink(2, 18)),
+        at(16, 3, 3, 4, done(2, 2, 6), server(1, 0, 3, 0)),
+        at(18, 4, 3, 5, job(2, 2, 6), sink(3, 30)),
     ]
 }
 
 /// Who waits is served as he came.
-pub fn by_arrival_trace() -> [Entry; 12] {
+pub fn by_arrival_trace() -> [Entry; 14] {
     [
+        at(2, 2, 2, 0, Payload::Tick, source(1)),
         at(3, 1, 1, 0, Payload::Tick, source(1)),
-        at(5, 3, 1, 1, job(1, 0, 3), server(1, 0, 0, 0)),
-        at(6, 1, 1, 2, Payload::Tick, source(2)),
-        at(7, 2, 2, 0, Payload::Tick, source(1)),
-        at(8, 3, 1, 3, job(1, 1, 6), server(1, 1, 0, 0)),
-        at(9, 3, 2, 1, job(2, 0, 7), server(1, 2, 0, 0)),
-        at(9, 3, 3, 0, done(1, 0, 3), server(1, 1, 1, 0)),
-        at(11, 4, 3, 1, job(1, 0, 3), sink(1, 8)),
-        at(13, 3, 3, 2, done(1, 1, 6), server(1, 0, 2, 0)),
-        at(15, 4, 3, 3, job(1, 1, 6), sink(2, 17)),
-        at(17, 3, 3, 4, done(2, 0, 7), server(0, 0, 3, 0)),
-        at(19, 4, 3, 5, job(2, 0, 7), sink(3, 29)),
+        at(4, 3, 2, 1, job(2, 0, 2), server(1, 0, 0, 0)),
+        at(4, 2, 2, 2, Payload::Tick, source(2)),
+        at(5, 3, 1, 1, job(1, 0, 3), server(1, 1, 0, 0)),
+        at(6, 3, 2, 3, job(2, 1, 4), server(1, 2, 0, 0)),
+        at(6, 2, 2, 4, Payload::Tick, source(3)),
+        at(8, 3, 2, 5, job(2, 2, 6), server(1, 3, 0, 0)),
+        at(8, 3, 3, 0, done(2, 0, 2), server(1, 2, 1, 0)),
+        at(10, 4, 3, 1, job(2, 0, 2), sink(1, 8)),
+        at(12, 3, 3, 2, done(1, 0, 3), server(1, 1, 2, 0)),
+        at(14, 4, 3, 3, job(1, 0, 3), sink(2, 19)),
+        at(16, 3, 3, 4, done(2, 1, 4), server(1, 0, 3, 0)),
+        at(18, 4, 3, 5, job(2, 1, 4), sink(3, 33)),
     ]
 }

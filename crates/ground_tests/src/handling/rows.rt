@@ -85,11 +85,11 @@ pub fn delay_rows() -> [Row; 4] {
     ]
 }
 
-/// After the change the job goes over the second link, without it over the first; a router takes no tick
-/// and no done.
+/// After the change the job goes over the second link, without it, and with one of the other link, over the
+/// first; a router takes no tick and no done.
 pub fn router_rows() -> [Row; 4] {
     [
-        silent(4, change(Param::Weight, 1, 3), passed(0)),
+        silent(4, change(Param::Weight, 1, 1), passed(0)),
         sending(5, job(0), passed(1), 1, 8),
         silent(6, Payload::Tick, passed(1)),
         silent(6, done(0), passed(1)),

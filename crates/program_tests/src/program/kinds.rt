@@ -52,8 +52,8 @@ const ROWS: &[Row] = &[
     Row {
         shows: "a router by turn, and a delay",
         model: FAN_BY_TURN,
-        traces: texts::FAN,
-        report: texts::FAN_REPORT,
+        traces: texts::FAN_BY_TURN,
+        report: texts::FAN_BY_TURN_REPORT,
         ..PLAIN
     },
     Row {
@@ -61,8 +61,8 @@ const ROWS: &[Row] = &[
         model: FAN_BY_TURN,
         old: "turn",
         new: "weights",
-        traces: texts::FAN,
-        report: texts::FAN_REPORT,
+        traces: texts::FAN_BY_WEIGHTS,
+        report: texts::FAN_BY_WEIGHTS_REPORT,
         ..PLAIN
     },
     Row {

@@ -216,31 +216,51 @@ pub const MORE_SERVERS: &str = r#"clone base
 12 out desk 5 job s3.0 got=3 stay=26
 "#;
 
-/// A router and a delay.
-pub const FAN: &str = r#"clone base
+/// A router by turn, and a delay.
+pub const FAN_BY_TURN: &str = r#"clone base
 3 gate gate 0 tick sent=1
 5 fan gate 1 job gate.0 passed=1
 6 gate gate 2 tick sent=2
 7 slow fan 0 job gate.0 passed=1
 8 fan gate 3 job gate.1 passed=2
+9 gate gate 4 tick sent=3
 10 out slow 0 job gate.0 got=1 stay=7
+11 fan gate 5 job gate.2 passed=3
 11 out fan 1 job gate.1 got=2 stay=12
+13 slow fan 2 job gate.2 passed=2
+16 out slow 1 job gate.2 got=3 stay=19
+"#;
+
+/// The same with a router by weights.
+pub const FAN_BY_WEIGHTS: &str = r#"clone base
+3 gate gate 0 tick sent=1
+5 fan gate 1 job gate.0 passed=1
+6 gate gate 2 tick sent=2
+7 slow fan 0 job gate.0 passed=1
+8 fan gate 3 job gate.1 passed=2
+9 gate gate 4 tick sent=3
+10 out slow 0 job gate.0 got=1 stay=7
+11 fan gate 5 job gate.2 passed=3
+11 out fan 1 job gate.1 got=2 stay=12
+14 out fan 2 job gate.2 got=3 stay=17
 "#;
 
 /// The lesser class first.
 pub const CLASSES: &str = r#"clone base
+2 high high 0 tick sent=1
 3 low low 0 tick sent=1
-5 desk low 1 job low.0:2 busy=1 wait=0 done=0 lost=0
-6 low low 2 tick sent=2
-7 high high 0 tick sent=1
-8 desk low 3 job low.1:2 busy=1 wait=1 done=0 lost=0
-9 desk high 1 job high.0:1 busy=1 wait=2 done=0 lost=0
-9 desk desk 0 done low.0:2 busy=1 wait=1 done=1 lost=0
-11 out desk 1 job low.0:2 got=1 stay=8
-13 desk desk 2 done high.0:1 busy=1 wait=0 done=2 lost=0
-15 out desk 3 job high.0:1 got=2 stay=16
-17 desk desk 4 done low.1:2 busy=0 wait=0 done=3 lost=0
-19 out desk 5 job low.1:2 got=3 stay=29
+4 desk high 1 job high.0:1 busy=1 wait=0 done=0 lost=0
+4 high high 2 tick sent=2
+5 desk low 1 job low.0:2 busy=1 wait=1 done=0 lost=0
+6 desk high 3 job high.1:1 busy=1 wait=2 done=0 lost=0
+6 high high 4 tick sent=3
+8 desk high 5 job high.2:1 busy=1 wait=3 done=0 lost=0
+8 desk desk 0 done high.0:1 busy=1 wait=2 done=1 lost=0
+10 out desk 1 job high.0:1 got=1 stay=8
+12 desk desk 2 done high.1:1 busy=1 wait=1 done=2 lost=0
+14 out desk 3 job high.1:1 got=2 stay=18
+16 desk desk 4 done high.2:1 busy=1 wait=0 done=3 lost=0
+18 out desk 5 job high.2:1 got=3 stay=30
 "#;
 
 /// A branch that ends at 9.
@@ -371,22 +391,31 @@ out copies=1 handled=3 alone=3
 total handled=13 alone=13
 "#;
 
-/// The report behind `FAN`.
-pub const FAN_REPORT: &str = r#"report
-gate copies=1 handled=2 alone=2
-fan copies=1 handled=2 alone=2
+/// The report behind `FAN_BY_TURN`.
+pub const FAN_BY_TURN_REPORT: &str = r#"report
+gate copies=1 handled=3 alone=3
+fan copies=1 handled=3 alone=3
+slow copies=1 handled=2 alone=2
+out copies=1 handled=3 alone=3
+total handled=11 alone=11
+"#;
+
+/// The report behind `FAN_BY_WEIGHTS`.
+pub const FAN_BY_WEIGHTS_REPORT: &str = r#"report
+gate copies=1 handled=3 alone=3
+fan copies=1 handled=3 alone=3
 slow copies=1 handled=1 alone=1
-out copies=1 handled=2 alone=2
-total handled=7 alone=7
+out copies=1 handled=3 alone=3
+total handled=10 alone=10
 "#;
 
 /// The report behind `CLASSES`.
 pub const CLASSES_REPORT: &str = r#"report
-low copies=1 handled=2 alone=2
-high copies=1 handled=1 alone=1
-desk copies=1 handled=6 alone=6
+low copies=1 handled=1 alone=1
+high copies=1 handled=3 alone=3
+desk copies=1 handled=7 alone=7
 out copies=1 handled=3 alone=3
-total handled=12 alone=12
+total handled=14 alone=14
 "#;
 
 /// The report of a sink that nothing reaches.

@@ -5,8 +5,8 @@ use Rattle.sim_base.specs.declared.entry.Entry.{Entry}
 use Rattle.sim_base.specs.declared.entry.Line.{Line}
 use Rattle.net_model.specs.declared.station.Kind.TheVariants.{Source, Server, Sink}
 use Rattle.net_model.specs.declared.limits.TheConstants.{USUAL_LIMIT}
-use Rattle.net_model.specs.Net.{Net}
-use Rattle.stations.specs.Examples.{at, tick, job, done, source, server, sink, link}
+use Rattle.net_model.specs.Net.{Net, link}
+use Rattle.stations.specs.Examples.{at, tick, job, done, source, server, sink}
 
 -- the number of the source of class 2
 abbrev pub low : ℕ
@@ -24,7 +24,7 @@ desk = 3
 abbrev pub out : ℕ
 out = 4
 
--- two jobs of class 2, one every 3, and one of class 1 at 7; one server, which serves for 4, by class or not
+-- a job of class 2 at 3, and three of class 1, one every 2; one server, which serves for 4, by class or not
 abbrev pub two_classes : Bool → Net
 two_classes by_class = record {
   format = 2;
@@ -33,38 +33,40 @@ two_classes by_class = record {
   seed = 0;
   limit = USUAL_LIMIT;
   sites =
-      record { name = codes "low"; kind = Source 3 3 2 2; stream = 1; links = link desk 2 ∷ [] }
-      ∷ record { name = codes "high"; kind = Source 7 7 1 1; stream = 2; links = link desk 2 ∷ [] }
+      record { name = codes "low"; kind = Source 3 3 1 2; stream = 1; links = link desk 2 ∷ [] }
+      ∷ record { name = codes "high"; kind = Source 2 2 3 1; stream = 2; links = link desk 2 ∷ [] }
       ∷ record { name = codes "desk"; kind = Server 1 5 4 4 by_class; stream = 3; links = link out 2 ∷ [] }
       ∷ record { name = codes "out"; kind = Sink; stream = 4; links = [] } ∷ [];
 }
 
--- at 9 two jobs wait: one of class 2, which came first, and one of class 1
-abbrev pub until_nine : List (Entry Msg Line)
-until_nine =
-    at 3 low low 0 tick (source 1)
-    ∷ at 5 desk low 1 (job low 0 3) (server 1 0 0 0)
-    ∷ at 6 low low 2 tick (source 2)
-    ∷ at 7 high high 0 tick (source 1)
-    ∷ at 8 desk low 3 (job low 1 6) (server 1 1 0 0)
-    ∷ at 9 desk high 1 (job high 0 7) (server 1 2 0 0)
-    ∷ at 9 desk desk 0 (done low 0 3) (server 1 1 1 0)
-    ∷ at 11 out desk 1 (job low 0 3) (sink 1 8) ∷ []
+-- at 8 three jobs wait: one of class 2, which came first, and two of class 1
+abbrev pub until_ten : List (Entry Msg Line)
+until_ten =
+    at 2 high high 0 tick (source 1)
+    ∷ at 3 low low 0 tick (source 1)
+    ∷ at 4 desk high 1 (job high 0 2) (server 1 0 0 0)
+    ∷ at 4 high high 2 tick (source 2)
+    ∷ at 5 desk low 1 (job low 0 3) (server 1 1 0 0)
+    ∷ at 6 desk high 3 (job high 1 4) (server 1 2 0 0)
+    ∷ at 6 high high 4 tick (source 3)
+    ∷ at 8 desk high 5 (job high 2 6) (server 1 3 0 0)
+    ∷ at 8 desk desk 0 (done high 0 2) (server 1 2 1 0)
+    ∷ at 10 out desk 1 (job high 0 2) (sink 1 8) ∷ []
 
--- by class, the job of class 1 is served before the one that came before it
+-- by class, those of class 1 are served before the one that came before them, and in the order in which they came
 abbrev pub by_class_trace : List (Entry Msg Line)
 by_class_trace =
-    until_nine
-    ++ at 13 desk desk 2 (done high 0 7) (server 1 0 2 0)
-    ∷ at 15 out desk 3 (job high 0 7) (sink 2 16)
-    ∷ at 17 desk desk 4 (done low 1 6) (server 0 0 3 0)
-    ∷ at 19 out desk 5 (job low 1 6) (sink 3 29) ∷ []
+    until_ten
+    ++ at 12 desk desk 2 (done high 1 4) (server 1 1 2 0)
+    ∷ at 14 out desk 3 (job high 1 4) (sink 2 18)
+    ∷ at 16 desk desk 4 (done high 2 6) (server 1 0 3 0)
+    ∷ at 18 out desk 5 (job high 2 6) (sink 3 30) ∷ []
 
 -- not by class, the job that came first is served first
 abbrev pub by_arrival_trace : List (Entry Msg Line)
 by_arrival_trace =
-    until_nine
-    ++ at 13 desk desk 2 (done low 1 6) (server 1 0 2 0)
-    ∷ at 15 out desk 3 (job low 1 6) (sink 2 17)
-    ∷ at 17 desk desk 4 (done high 0 7) (server 0 0 3 0)
-    ∷ at 19 out desk 5 (job high 0 7) (sink 3 29) ∷ []
+    until_ten
+    ++ at 12 desk desk 2 (done low 0 3) (server 1 1 2 0)
+    ∷ at 14 out desk 3 (job low 0 3) (sink 2 19)
+    ∷ at 16 desk desk 4 (done high 1 4) (server 1 0 3 0)
+    ∷ at 18 out desk 5 (job high 1 4) (sink 3 33) ∷ []

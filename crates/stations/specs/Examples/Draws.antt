@@ -5,8 +5,8 @@ use Rattle.sim_base.specs.declared.entry.Entry.{Entry}
 use Rattle.sim_base.specs.declared.entry.Line.{Line}
 use Rattle.net_model.specs.declared.station.Kind.TheVariants.{Source, Sink}
 use Rattle.net_model.specs.declared.limits.TheConstants.{USUAL_LIMIT}
-use Rattle.net_model.specs.Net.{Net}
-use Rattle.stations.specs.Examples.{at, tick, job, source, sink, link}
+use Rattle.net_model.specs.Net.{Net, link}
+use Rattle.stations.specs.Examples.{at, tick, job, source, sink}
 
 -- the number of the source
 abbrev pub gate : ℕ

@@ -2,13 +2,13 @@
 use Rattle.std.specs.Prelude.{ℕ, List, [], ◌∷◌, codes, false}
 use Rattle.sim_base.specs.Clones.{Clone}
 use Rattle.sim_base.specs.declared.message.Msg.{Msg}
-use Rattle.sim_base.specs.declared.message.Param.TheVariants.{Servers}
+use Rattle.sim_base.specs.declared.message.Param.TheVariants.{Servers, Room}
 use Rattle.sim_base.specs.declared.entry.Entry.{Entry}
 use Rattle.sim_base.specs.declared.entry.Line.{Line}
 use Rattle.net_model.specs.declared.station.Kind.TheVariants.{Source, Server, Sink}
 use Rattle.net_model.specs.declared.limits.TheConstants.{USUAL_LIMIT}
-use Rattle.net_model.specs.Net.{Net}
-use Rattle.stations.specs.Examples.{at, analyst, tick, job, done, set, source, server, sink, link, set_at, clone}
+use Rattle.net_model.specs.Net.{Net, link}
+use Rattle.stations.specs.Examples.{at, analyst, tick, job, done, set, source, server, sink, set_at, clone}
 
 -- the number of the first source
 abbrev pub s1 : ℕ
@@ -78,3 +78,20 @@ more_servers_trace =
     ∷ at 11 out desk 3 (job s1 0 3) (sink 1 8)
     ∷ at 12 out desk 4 (job s2 0 3) (sink 2 17)
     ∷ at 12 out desk 5 (job s3 0 3) (sink 3 26) ∷ []
+
+-- two servers at the start, and from 6 on one server and no room: two are in service then, and one waits
+abbrev pub less : Clone
+less = clone (codes "base") (set_at 0 desk Servers 2 0 ∷ set_at 6 desk Servers 1 0 ∷ set_at 6 desk Room 0 0 ∷ [])
+
+-- no service ends sooner, the first done starts nobody, and the one who waits stays, and is served after the second
+abbrev pub less_log : List (Entry Msg Line)
+less_log =
+    at 0 desk analyst 0 (set Servers 2 0) (server 0 0 0 0)
+    ∷ at 5 desk s1 1 (job s1 0 3) (server 1 0 0 0)
+    ∷ at 5 desk s2 1 (job s2 0 3) (server 2 0 0 0)
+    ∷ at 5 desk s3 1 (job s3 0 3) (server 2 1 0 0)
+    ∷ at 6 desk analyst 1 (set Servers 1 0) (server 2 1 0 0)
+    ∷ at 6 desk analyst 2 (set Room 0 0) (server 2 1 0 0)
+    ∷ at 9 desk desk 0 (done s1 0 3) (server 1 1 1 0)
+    ∷ at 9 desk desk 1 (done s2 0 3) (server 1 0 2 0)
+    ∷ at 13 desk desk 4 (done s3 0 3) (server 0 0 3 0) ∷ []

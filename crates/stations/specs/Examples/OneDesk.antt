@@ -7,11 +7,11 @@ use Rattle.sim_base.specs.declared.entry.Entry.{Entry}
 use Rattle.sim_base.specs.declared.entry.Line.{Line}
 use Rattle.net_model.specs.declared.station.Kind.TheVariants.{Source, Server, Sink}
 use Rattle.net_model.specs.declared.limits.TheConstants.{USUAL_LIMIT}
-use Rattle.net_model.specs.Net.{Net}
+use Rattle.net_model.specs.Net.{Net, link}
 use Rattle.net_model.specs.Examples.{small}
 use Rattle.stations.specs.declared.kind_state.KindState.TheVariants.{Server as KindServer}
 use Rattle.stations.specs.Handling.{StateView}
-use Rattle.stations.specs.Examples.{at, analyst, tick, job, done, set, source, server, sink, link, set_at, clone}
+use Rattle.stations.specs.Examples.{at, analyst, tick, job, done, set, source, server, sink, set_at, clone}
 
 -- the number of the source
 abbrev pub gate : ℕ

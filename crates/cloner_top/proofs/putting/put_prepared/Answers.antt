@@ -14,4 +14,4 @@ returns-in-Ok-clause-err g c =
 
 pub returns-clause-err : goal.returns-clause-err
 returns-clause-err g c =
-    traces_cut _ _ _ _ refl refl _ _ c.in-Err.ensures.part c.in-Err.ensures.cause c.in-Err.ensures.some
+    traces_cut _ _ _ _ refl refl _ _ c.in-Err.ensures.cut

@@ -1,6 +1,5 @@
-use Rattle.std.proofs.Common.{◌≤◌, ◌∙◌, ◌∷◌, [], List, ap, ap₂, length, subst, sym}
-use Rattle.sim_base.specs.Clones.{Clone, base, clone_at}
-use Rattle.sim_base.specs.declared.lists.TheConstants.{MOST_CLONES}
+use Rattle.std.proofs.Common.{◌∙◌, ◌∷◌, [], ap, ap₂, subst, sym}
+use Rattle.sim_base.specs.Clones.{base, clone_at}
 use Rattle.net_model.specs.Net.{Net}
 use Rattle.world_core.specs.Taking.{clones_after_calls}
 use Rattle.rolling_text.specs.WorldTraces.{AreShort}
@@ -16,16 +15,10 @@ returns-in-Err-LimitMet-clause-err g c = λ texts.
     c.deref.ensures name c.stop_at.ensures
 
 pub returns-in-Ok-clause-may_report : goal.returns-in-Ok-clause-may_report
-returns-in-Ok-clause-may_report g c =
-    let made = ap₂ (λ (n : Net) calls. clones_after_calls n (base ∷ []) calls)
-    (sym c.args.plan.now.net_is) c.calls.ensures.value ∙ c.requires.accepted.clones in
-    record {
-      net = c.in-Ok.ensures.net;
-      ended = c.in-Ok.ensures.front;
-      few = subst (λ (cs : List Clone). length cs ≤ MOST_CLONES)
-          (c.lists-lists.ensures.value ∙ (sym made ∙ sym c.in-Ok.ensures.clones)) c.lists-lists.ensures.planned.few;
-      within = c.in-Ok.ensures.within;
-    }
+returns-in-Ok-clause-may_report g c = record { net = c.in-Ok.ensures.net; ended = c.in-Ok.ensures.front }
+
+pub returns-in-Ok-clause-within : goal.returns-in-Ok-clause-within
+returns-in-Ok-clause-within g c = c.in-Ok.ensures.within
 
 pub returns-in-Ok-clause-short : goal.returns-in-Ok-clause-short
 returns-in-Ok-clause-short g c =

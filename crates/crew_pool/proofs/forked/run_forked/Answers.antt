@@ -1,7 +1,7 @@
 use Rattle.std.proofs.Common.{◌≡◌, ◌+◌, ◌∙◌, ap, subst, map, Some, rules}
 use Rattle.std.specs.Prelude.{sum_by}
 use Rattle.std.proofs.lemmas.List.{take_at}
-use Rattle.crew_pool.proofs.Slots.{EachSlotReady-filled, EachAnswers-slots, slots_count}
+use Rattle.crew_pool.proofs.Slots.{EachSlotReady-filled, EachAt-slots, slots_count}
 use Rattle.crew_pool.specs.Slots.{answer_in}
 use Rattle.crew_pool.proofs.forked.run_forked.Goals as goal
 
@@ -21,7 +21,7 @@ returns g c =
     record {
       have_run = record {
         count = slots_count items c.as_mut_slice.result.now c.run_slots.new.slots outs filled (search rules) taken;
-        answers = EachAnswers-slots _ items c.as_mut_slice.result.now c.run_slots.new.slots outs filled (search rules)
+        answers = EachAt-slots _ items c.as_mut_slice.result.now c.run_slots.new.slots outs filled (search rules)
             taken c.run_slots.ensures.answers;
         cost = c.tick_costs.ensures.value
             ∙ ap (λ l. c.args.steps.now + sum_by g.W.Work.cost l) c.as_slice.ensures.value;

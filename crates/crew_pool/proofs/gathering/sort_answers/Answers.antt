@@ -1,6 +1,6 @@
 use Rattle.std.proofs.Common.{◌≡◌, ℕ, ◌+◌, length, sym, subst, arith}
 use Rattle.std.proofs.lemmas.List.{length_push}
-use Rattle.crew_pool.proofs.AnswerLists.{EachAnswers-push}
+use Rattle.crew_pool.proofs.AnswerLists.{EachAt-push}
 use Rattle.crew_pool.proofs.DequeRule.{one_if_below-next}
 use Rattle.crew_pool.specs.Tasks.{AnswersTo}
 use Rattle.crew_pool.proofs.gathering.sort_answers.Goals as goal
@@ -16,7 +16,7 @@ loop-i-preserved g c =
     let longer : length c.add.new.list.items ≡ length outs + 1 = rw added (length_push outs _) in
     let one = subst (λ (n : ℕ). answers n c.in-Some.out) (sym inv.0) found.0 in (
       omega (arith, longer, inv.0),
-      rw added (EachAnswers-push answers outs c.in-Some.out inv.1 one),
+      rw added (EachAt-push answers outs c.in-Some.out inv.1 one),
       found.1,
       λ x. omega (arith, taken.0 x, inv.3 x, one_if_below-next x c.loop-i.i),
     )

@@ -18,3 +18,7 @@ returns-clause-planners c = refl
 pub returns-clause-loose : goal.returns-clause-loose
 unfolding after_line after_lines section look fork end set one_value two_values
 returns-clause-loose c = refl
+
+pub returns-clause-late : goal.returns-clause-late
+unfolding after_line after_lines section look fork end set one_value two_values
+returns-clause-late c = refl

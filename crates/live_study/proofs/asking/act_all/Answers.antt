@@ -2,6 +2,7 @@ use Rattle.std.proofs.Common.{◌≡◌, ◌∙◌, ◌+◌, ◌∷◌, ◌++◌
 use Rattle.std.proofs.Math.ListN.{length-take}
 use Rattle.decision_script.specs.declared.item.Act.{Act as OfAct}
 use Rattle.sim_base.proofs.Elements.{take_next}
+use Rattle.decision_desk.specs.Desks.{desk_id}
 use Rattle.live_study.specs.Asking.{HasAsked}
 use Rattle.live_study.specs.Showing.{HasLooked}
 use Rattle.live_study.proofs.Doing.{IsSameAnalyst-trans, free_for_one}
@@ -12,7 +13,7 @@ loop-k-preserved g c =
     let inv = c.loop-k.invariant in
     let items = c.loop-k.analyst.todo.items in
     let k = c.loop-k.k in
-    let desk = c.args.desk.now.table.shared.table_id in
+    let desk = desk_id c.args.desk.now in
     let new = c.act_once.new.analyst in
     let seat = c.act_once.new.seat in
     let e = c.act_once.ensures in

@@ -2,7 +2,7 @@ use Rattle.std.proofs.Common.{◌≡◌, ◌∙◌, ◌+◌, ◌-◌, ◌≤◌,
 use Rattle.std.proofs.lemmas.Bool.Decides.{nat_tests}
 use Rattle.net_model.specs.Net.{Net}
 use Rattle.live_study.specs.Driving.{MayShow}
-use Rattle.live_study.specs.Showing.{AreShownTo}
+use Rattle.live_study.specs.Showing.{AreShownTo, AreShownUpTo}
 use Rattle.live_study.proofs.Publishing.{round_skips}
 use Rattle.live_study.proofs.engine.show.Goals as goal
 use Rattle.live_study.proofs.engine.show.Goals.{then-last+in_ok-show_one, else-last+else-is_watched}
@@ -54,3 +54,12 @@ loop-s-preserved g c =
             ))));
       }
     ]
+
+pub returns-clause-shown : goal.returns-clause-shown
+returns-clause-shown g c =
+    let world = c.args.world.now in
+    let i = c.loop-s.invariant in
+    let many = ap (λ (n : Net). length n.sites) c.model-2.ensures.value in
+    let all : c.loop-s.s ≡ length world.net.sites =
+    omega (arith, i.within, c.loop-s-test.false, c.len-many.ensures.value, many) in
+    subst (λ n. AreShownUpTo c.args.helm.now world n c.loop-s.stocker.published) all i.shown.up_to

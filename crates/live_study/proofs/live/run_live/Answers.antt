@@ -3,6 +3,7 @@ use Rattle.net_model.specs.Net.{Net}
 use Rattle.net_model.specs.Rules.{IsNet}
 use Rattle.decision_book.specs.Books.{BookView}
 use Rattle.decision_book.specs.Right.{IsRight}
+use Rattle.decision_desk.specs.Desks.{desk_id}
 use Rattle.decision_desk.specs.Passes.{PassView}
 use Rattle.world_core.specs.Worlds.{WorldView}
 use Rattle.live_study.specs.Asking.{SeatedAnalyst}
@@ -16,7 +17,7 @@ use Rattle.live_study.proofs.live.run_live.Goals as goal
 
 pub close-book-requires-clause-passes : goal.close-book-requires-clause-passes
 close-book-requires-clause-passes g c k d less =
-    let desk = c.args.desk.table.shared.table_id in
+    let desk = desk_id c.args.desk in
     let new = c.side_by_side-helm.result.1.items in
     let are : c.close_looks-reserve.result.0.passes.items ≡ map (λ (a : SeatedAnalyst). a.0.pass) new =
     c.close_looks-reserve.ensures.passes
@@ -30,7 +31,7 @@ close-book-requires-clause-passes g c k d less =
 
 pub returns-clause-asked : goal.returns-clause-asked
 returns-clause-asked g c =
-    let desk = c.args.desk.table.shared.table_id in
+    let desk = desk_id c.args.desk in
     let new = c.side_by_side-helm.result.1.items in
     let are : c.close_looks-reserve.result.0.passes.items ≡ map (λ (a : SeatedAnalyst). a.0.pass) new =
     c.close_looks-reserve.ensures.passes

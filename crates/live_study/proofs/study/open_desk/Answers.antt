@@ -1,5 +1,6 @@
 use Rattle.std.proofs.Common.{◌≡◌, ◌∙◌, ap₂, length}
 use Rattle.std.proofs.lemmas.Result.{IfOk-weaker}
+use Rattle.decision_desk.specs.Desks.{desk_id}
 use Rattle.decision_desk.specs.Passes.{new_helm, new_passes}
 use Rattle.live_study.proofs.study.open_desk.Goals as goal
 
@@ -11,10 +12,10 @@ returns c =
     let all = c.analysts.ensures.value in
     record {
       passes = IfOk-weaker c.begin.result
-          (λ r. r.1.items ≡ new_passes r.0.table.shared.table_id _ c.analysts.result)
-          (λ r. r.1.items ≡ new_passes r.0.table.shared.table_id net many)
-          (λ r e. e ∙ ap₂ (new_passes r.0.table.shared.table_id) own all) c.begin.ensures.passes;
-      helm = IfOk-weaker c.begin.result (λ r. r.2 ≡ new_helm r.0.table.shared.table_id _ c.analysts.result)
-          (λ r. r.2 ≡ new_helm r.0.table.shared.table_id net many)
-          (λ r e. e ∙ ap₂ (new_helm r.0.table.shared.table_id) own all) c.begin.ensures.helm;
+          (λ r. r.1.items ≡ new_passes (desk_id r.0) _ c.analysts.result)
+          (λ r. r.1.items ≡ new_passes (desk_id r.0) net many)
+          (λ r e. e ∙ ap₂ (new_passes (desk_id r.0)) own all) c.begin.ensures.passes;
+      helm = IfOk-weaker c.begin.result (λ r. r.2 ≡ new_helm (desk_id r.0) _ c.analysts.result)
+          (λ r. r.2 ≡ new_helm (desk_id r.0) net many)
+          (λ r e. e ∙ ap₂ (new_helm (desk_id r.0)) own all) c.begin.ensures.helm;
     }

@@ -1,6 +1,7 @@
 use Rattle.std.proofs.Common.{ap, arith, length, subst}
 use Rattle.std.proofs.lemmas.Result.{IfErr-weaker, IfOk-weaker}
 use Rattle.net_model.specs.Net.{Net}
+use Rattle.decision_desk.specs.Desks.{desk_id}
 use Rattle.decision_desk.specs.Passes.{HelmView}
 use Rattle.live_study.specs.Engines.{StopsEngine}
 use Rattle.live_study.specs.Lives.{AreTrueLooks, IsAtHorizon, all_looks}
@@ -32,7 +33,7 @@ run_live-requires-clause-may_drive g c κs within =
     let of = c.requires.prepared in
     record {
       desk = ap (λ (h : HelmView). h.desk) of.helm;
-      in_step = begins_in_step p.desk.table.shared.table_id c.args.model.now (length c.args.script.now.analysts) p.helm
+      in_step = begins_in_step (desk_id p.desk) c.args.model.now (length c.args.script.now.analysts) p.helm
           p.world of.helm of.world;
       shown = shown_first c.args.model.now (length c.args.script.now.analysts) p _ of c.in_ok-stocker.ensures.published;
     }

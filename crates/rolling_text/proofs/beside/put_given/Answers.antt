@@ -9,7 +9,7 @@ use Rattle.rolling_text.proofs.beside.put_given.Goals as goal
 
 pub loop-init : goal.loop-init
 loop-init g c = record {
-  order = c.requires.may.order;
+  order = c.requires.may.has_span.order;
   given = c.requires.given;
   put = put_none c.args.span.keeps _ _ _;
   can = c.requires.may.can;
@@ -22,8 +22,7 @@ put_next-requires-clause-may g c =
     let later = c.in-Some.ensures.later in
     let value = c.made-until.ensures.value in
     record {
-      there = c.requires.may.there;
-      order = omega (arith, from, later, value);
+      has_span = record { there = c.requires.may.has_span.there; order = omega (arith, from, later, value) };
       can = h.can;
       fits = left_fits c.args.span.keeps _ _ _ _ _ _ h.put c.requires.may.fits;
     }
@@ -62,8 +61,7 @@ loop-preserved g c =
 pub put_span-requires : goal.put_span-requires
 put_span-requires g c = record {
   may = record {
-    there = c.requires.may.there;
-    order = c.loop.invariant.order;
+    has_span = record { there = c.requires.may.has_span.there; order = c.loop.invariant.order };
     can = c.loop.invariant.can;
     fits = left_fits c.args.span.keeps _ _ _ _ _ _ c.loop.invariant.put c.requires.may.fits;
   };

@@ -14,9 +14,9 @@ bound_of-requires-clause-short c =
     let there : c.loop-c.c < length v.clones = omega (arith, c.loop-c-test.true, is.value) in
     subst (λ (v : WorldTracesView). HaveShortLines v.net (trace_of v.net (clone_at v.clones c.loop-c.c)))
     (sym c.traces.view_is)
-    (short_at v.net is.valid v.clones is.in_net c.loop-c.c c.parts_at.result there c.parts_at.ensures.value
+    (short_at v.net is.valid v.clones is.in_net c.loop-c.c c.parting_at.result there c.parting_at.ensures.value
     c.loop-c.invariant.short (subst (λ (v : WorldTracesView). HaveShortLines v.net (entries_from (simulation v.net)
-    c.parts_at.result (trace_of v.net (clone_at v.clones c.loop-c.c)))) c.traces.view_is c.meet_rest.ensures.short))
+    c.parting_at.result (trace_of v.net (clone_at v.clones c.loop-c.c)))) c.traces.view_is c.meet_rest.ensures.short))
 
 pub loop-c-preserved : goal.loop-c-preserved
 loop-c-preserved c =
@@ -31,9 +31,9 @@ loop-c-preserved c =
       bound = fits_more v.net v.clones c.loop-c.c c.loop-c.most c.bound_of.result c.max-most.result h.bound here
           (omega (arith, c.max-most.ensures)) (omega (arith, c.max-most.ensures));
       short = λ more. subst (λ k. HaveShortLines v.net (trace_of v.net (clone_at v.clones k))) back
-          (short_at v.net is.valid v.clones is.in_net c.loop-c.c c.parts_at.result there c.parts_at.ensures.value
+          (short_at v.net is.valid v.clones is.in_net c.loop-c.c c.parting_at.result there c.parting_at.ensures.value
           h.short (subst (λ (v : WorldTracesView). HaveShortLines v.net (entries_from (simulation v.net)
-          c.parts_at.result (trace_of v.net (clone_at v.clones c.loop-c.c)))) c.traces.view_is
+          c.parting_at.result (trace_of v.net (clone_at v.clones c.loop-c.c)))) c.traces.view_is
           c.meet_rest.ensures.short));
       few = omega (arith, h.few, c.bound_of.ensures.few, c.max-most.ensures);
     }

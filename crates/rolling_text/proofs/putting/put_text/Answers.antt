@@ -18,7 +18,7 @@ put_rest-requires-clause-fits g c κs within =
     let clone = clone_at v.clones c.args.c in
     let begun = c.begin_text-start in
     let fits = c.requires.fits c.args.c c.requires.there in
-    rest_fits begun.new.page.text (rest v.net clone c.parts_at-time.result) (body v.net clone) begun.new.page.reserved
+    rest_fits begun.new.page.text (rest v.net clone c.parting_at-time.result) (body v.net clone) begun.new.page.reserved
     begun.ensures.margin
     begun.ensures.lines
     (omega (arith, fits, begun.ensures.reserved))
@@ -52,7 +52,7 @@ returns-in-Ok-put-clause-left g c next =
     record {
       others = rest v.net clone c.max-late.result;
       before = still_joined begun.new.page.text c.put_rest.new.texts.page.text
-          (rest v.net clone c.parts_at-time.result) (rest v.net clone c.max-late.result) (body v.net clone)
+          (rest v.net clone c.parting_at-time.result) (rest v.net clone c.max-late.result) (body v.net clone)
           begun.ensures.margin put.longer put.page begun.ensures.lines ∙ sym (next_before v.net v.clones c.args.c);
       drops = dropped_next v.net v.clones c.args.c (c.len_between.result + length (rest v.net clone c.max-late.result))
           c.args.next len next;

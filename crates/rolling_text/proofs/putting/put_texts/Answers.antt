@@ -4,8 +4,7 @@ use Rattle.sim_outer.proofs.Appending.{appended_nothing}
 use Rattle.sim_outer.proofs.Counts.{none_counted, counted_more}
 use Rattle.rolling_text.specs.declared.texts.TheConstants.{MARGIN}
 use Rattle.rolling_text.specs.Texts.{parting_at}
-use Rattle.rolling_text.proofs.AllTexts.{put_whole, put_part}
-use Rattle.rolling_text.proofs.Calls.{counted_to}
+use Rattle.rolling_text.proofs.AllTexts.{all_cut, put_whole}
 use Rattle.rolling_text.proofs.putting.put_texts.Goals as goal
 
 -- ---- the first text
@@ -32,18 +31,13 @@ pub put_text-requires-clause-fits : goal.put_text-requires-clause-fits
 put_text-requires-clause-fits g c κs within = λ k there.
     let a = c.requires.ready.fits k there in let b = c.loop-c.invariant.reserved in omega (arith, a, b)
 
-pub returns-in-Err-clause-part : goal.returns-in-Err-clause-part
-returns-in-Err-clause-part g c =
+pub returns-in-Err-clause-cut : goal.returns-in-Err-clause-cut
+returns-in-Err-clause-cut g c =
     let cs = c.args.traces.now.clones in
     let there : c.loop-c.c < length cs = omega (arith, c.loop-c-test.true, c.len-clones.ensures.value) in
-    put_part c.args.traces.now.net cs c.loop-c.c there _ _ _ c.loop-c.invariant.appended c.in-Err.ensures.err.bytes
-
-pub returns-in-Err-clause-some : goal.returns-in-Err-clause-some
-returns-in-Err-clause-some g c =
-    counted_to c.loop-c.c (length (c.args.traces.now.clones)) (g.O.Sink.view c.args.out.now).calls
-    (g.O.Sink.view c.loop-c.out).calls (g.O.Sink.view c.put_text.new.out).calls
-    (omega (arith, c.loop-c-test.true, c.len-clones.ensures.value)) c.loop-c.invariant.counted
-    c.in-Err.ensures.err.counted
+    let h = c.loop-c.invariant in
+    all_cut c.args.traces.now.net cs c.loop-c.c there (g.O.Sink.view c.args.out.now) (g.O.Sink.view c.loop-c.out)
+    (g.O.Sink.view c.put_text.new.out) h.appended h.later h.counted c.in-Err.ensures.err
 
 pub loop-c-preserved : goal.loop-c-preserved
 loop-c-preserved g c =
@@ -58,7 +52,7 @@ loop-c-preserved g c =
       margin = put.margin;
       reserved = omega (arith, h.reserved, put.reserved);
       left = λ more.
-          put.left (c.parts_at-next.ensures.value ∙ ap (parting_at net cs) (omega (arith, more, c.min.ensures)));
+          put.left (c.parting_at-next.ensures.value ∙ ap (parting_at net cs) (omega (arith, more, c.min.ensures)));
       appended = put_whole net cs c.loop-c.c there _ _ _ h.appended put.ok.bytes;
       later = omega (arith, h.later, more_faults);
       counted = counted_more c.loop-c.c (g.O.Sink.view c.args.out.now).calls (g.O.Sink.view c.loop-c.out).calls

@@ -1,4 +1,5 @@
-use Rattle.study_run.proofs.Fulls.{full_is_found, full_is_longer, full_is_one, not_both_alone, within_is_not_full}
+use Rattle.study_run.proofs.Fulls.{full_is_found, full_is_longer, full_is_one, not_both_alone}
+use Rattle.study_run.proofs.Fulls.{within_is_not_full, within_or_met_alone}
 use Rattle.study_run.proofs.laws.first_full_log.Goals as goal
 
 pub returns-clause-one : goal.returns-clause-one
@@ -9,6 +10,9 @@ returns-clause-found c = full_is_found
 
 pub returns-clause-within : goal.returns-clause-within
 returns-clause-within c = within_is_not_full
+
+pub returns-clause-either : goal.returns-clause-either
+returns-clause-either c = within_or_met_alone
 
 pub returns-clause-not_both : goal.returns-clause-not_both
 returns-clause-not_both c = not_both_alone

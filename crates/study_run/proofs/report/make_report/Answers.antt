@@ -1,5 +1,8 @@
 use Rattle.std.proofs.Common.{◌≡◌, ◌∙◌, List, ap, arith, length, subst, sym}
 use Rattle.sim_base.specs.declared.figures.Figures.{Figures}
+use Rattle.net_model.specs.Net.{Net}
+use Rattle.world_core.specs.Overs.{NoneBeyond}
+use Rattle.study_run.specs.Limits.{AreWithin}
 use Rattle.trace_report.specs.Outputs.{figures_to}
 use Rattle.trace_report.specs.ReportText.{HaveSmallSums}
 use Rattle.study_run.proofs.Reports.{few_at, figures_count, figures_none, figures_pushed}
@@ -26,18 +29,23 @@ report_text-requires-clause-all c =
 
 pub report_text-requires-clause-sums : goal.report_text-requires-clause-sums
 report_text-requires-clause-sums c =
+    let few = c.lists-short.ensures.few in
     let may = c.requires.may_report in
+    let within : AreWithin c.args.model.now c.args.world.now.clones =
+    subst (NoneBeyond c.args.model.now c.args.world.now.clones) may.ended
+    (subst (λ (n : Net). NoneBeyond n c.args.world.now.clones c.args.world.now.front) may.net
+    c.lists-short.ensures.short) in
     let last : c.loop-s.s ≡ length c.args.model.now.sites =
     omega (arith, c.loop-s-test.false, c.loop-s.auto.s-end, c.len-s-end.ensures.value) in
     let all = c.as_slice.ensures.value
     ∙ (c.loop-s.invariant ∙ ap (figures_to c.args.model.now c.args.world.now.clones) last) in
     subst (λ (l : List Figures). HaveSmallSums l) (sym all) (record {
       handled = figures_small c.args.model.now c.args.world.now.clones (λ (f : Figures). f.handled)
-          (λ s low high. (few_at c.args.model.now c.args.world.now.clones may.within s low high).handled_few)
-          c.len-s-end.ensures.valid may.few;
+          (λ s low high. (few_at c.args.model.now c.args.world.now.clones within s low high).handled_few)
+          c.len-s-end.ensures.valid few;
       alone = figures_small c.args.model.now c.args.world.now.clones (λ (f : Figures). f.alone)
-          (λ s low high. (few_at c.args.model.now c.args.world.now.clones may.within s low high).alone_few)
-          c.len-s-end.ensures.valid may.few;
+          (λ s low high. (few_at c.args.model.now c.args.world.now.clones within s low high).alone_few)
+          c.len-s-end.ensures.valid few;
     })
 
 pub returns : goal.returns

@@ -43,8 +43,10 @@ loop-low-preserved c =
       );
     }
 
-pub returns : goal.returns
-returns c = record {
-  value = from_time-drop c.args.self.now c.args.time c.loop-low.low (omega arith) c.loop-low.invariant.before
-      (λ k o there. c.loop-low.invariant.behind k (omega (arith, o, c.loop-low-test.false)) there);
-}
+pub returns-clause-within : goal.returns-clause-within
+returns-clause-within c = omega (arith, c.loop-low.invariant.order, c.loop-low.invariant.within)
+
+pub returns-clause-value : goal.returns-clause-value
+returns-clause-value c =
+    from_time-drop c.args.self.now c.args.time c.loop-low.low (omega arith) c.loop-low.invariant.before
+    (λ k o there. c.loop-low.invariant.behind k (omega (arith, o, c.loop-low-test.false)) there)

@@ -1,13 +1,13 @@
 use Rattle.std.proofs.Common.{sym, ap, subst, ◌∙◌, ◌++◌, ◌∷◌, []}
-use Rattle.phys_proc.specs.Ends.{AreClones}
-use Rattle.phys_proc.proofs.Ends.{ends_in-more, AreClones-more}
+use Rattle.phys_proc.specs.Ends.{AreEndsOfClones}
+use Rattle.phys_proc.proofs.Ends.{ends_in-more, AreEndsOfClones-more}
 use Rattle.phys_proc.proofs.clone_ends.CloneEnds.end.Goals as goal
 
 pub invariant_of-self : goal.invariant_of-self
-invariant_of-self c = subst AreClones (sym c.in_err-push.ensures.items) c.self.invariant
+invariant_of-self c = subst AreEndsOfClones (sym c.in_err-push.ensures.items) c.self.invariant
 
 pub invariant_of-self-2 : goal.invariant_of-self-2
-invariant_of-self-2 c = AreClones-more c.self.inside.ended.items c.push.new.self.items c.args.clone
+invariant_of-self-2 c = AreEndsOfClones-more c.self.inside.ended.items c.push.new.self.items c.args.clone
     c.args.at c.in_ok-push.ensures.items c.requires.clone c.self.invariant
 
 pub returns-clause-ends : goal.returns-clause-ends

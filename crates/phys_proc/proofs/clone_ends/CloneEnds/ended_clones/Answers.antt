@@ -2,11 +2,12 @@ use Rattle.std.proofs.Common.{◌≡◌, ℕ, ◌<◌, ◌||◌, List, [], ◌�
 use Rattle.sim_base.specs.declared.lists.TheConstants.{MOST_CLONES}
 use Rattle.clone_sets.specs.Sets.{has}
 use Rattle.clone_sets.proofs.SetLaws.{has-empty}
-use Rattle.phys_proc.specs.Ends.{has_ended, AreClones}
+use Rattle.phys_proc.specs.Ends.{has_ended, AreEndsOfClones}
 use Rattle.phys_proc.proofs.clone_ends.CloneEnds.ended_clones.Goals as goal
 
 -- what is read of the ends is a number that a clone may have
-below : (es : List (ℕ × ℕ)) (i : ℕ) (d : ℕ × ℕ) → AreClones es → i < length es → d ≡ get_or es i d → d.0 < MOST_CLONES
+below : (es : List (ℕ × ℕ)) (i : ℕ) (d : ℕ × ℕ) → AreEndsOfClones es → i < length es → d ≡ get_or es i d
+    → d.0 < MOST_CLONES
 below [] i d f l e = absurd (omega arith)
 below (x ∷ es) zero d f l e = let h = ap (λ y. y.0) e in omega (arith, f.0, h)
 below (x ∷ es) (suc i) d f l e = below es i d f.1 (omega arith) e

@@ -19,8 +19,7 @@ returns-clause-proc c = λ net f.
     let h = subst (IsProc net) (sym c.self.view_is) f in
     record {
       valid = h.valid;
-      low = h.low;
-      high = h.high;
+      is_station = h.is_station;
       copies = subst (AllByRecursion (IsCopy net c.self.inside.station)) (sym c.in_ok-place.ensures.given)
           (all_fit net (λ k. 0) c.args.msg c.args.set c.self.inside.station c.self.inside.copies
           (c.requires.target ∙ sym (ap (λ (u : ProcView). u.station) c.self.view_is)) h.copies);

@@ -34,7 +34,6 @@ returns-clause-proc c = λ net f.
     (ap (λ (u : ProcView). has u.living c.args.new) c.self.view_is ∙ c.requires.new) in
     record {
       valid = h.valid;
-      low = h.low;
-      high = h.high;
+      is_station = h.is_station;
       copies = rw c.fork.ensures.forked (forked_fits c.args.old c.args.new net i.station i.copies fresh h.copies);
     }

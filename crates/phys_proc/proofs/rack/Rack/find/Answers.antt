@@ -1,4 +1,4 @@
-use Rattle.std.proofs.Common.{◌≡◌, ◌<◌, ℕ, false, Some, sym, ap, subst, ◌∙◌, length}
+use Rattle.std.proofs.Common.{◌≡◌, ◌<◌, ℕ, false, Some, None, sym, ap, subst, ◌∙◌, length}
 use Rattle.std.specs.List.{AllByRecursion}
 use Rattle.sim_base.specs.Clones.{place_of}
 use Rattle.clone_sets.specs.Sets.{has}
@@ -17,8 +17,17 @@ unreachable-requires c =
     (subst (AllByRecursion (λ (h : RackCopyView). has h.set c.in-Some.c ≡ false)) c.as_slice.ensures.value
     c.in_default-find_copy.ensures.none)
 
-pub returns-clause-found : goal.returns-clause-found
-returns-clause-found c =
+pub returns-in_default : goal.returns-in_default
+returns-in_default c = record {
+  found = record {
+    unknown = subst (λ (u : RackView). place_of c.args.who.now u.clones ≡ None) c.self.view_is
+        (ap (λ u. place_of c.args.who.now u.clones) (sym c.deref.ensures) ∙ sym c.in_default.ensures.value);
+    found = tt;
+  };
+}
+
+pub returns : goal.returns
+returns c =
     let i = c.self.inside in
     let cs = i.lists.value.clones in
     let e = c.in-Some-find_copy.ensures.some in
@@ -27,5 +36,10 @@ returns-clause-found c =
     ap (λ u. place_of c.args.who.now u.clones) (sym c.deref.ensures) ∙ sym c.in-Some.ensures.value in
     let is = is_seen i.model.value cs i.station i.front i.copies.items c.in-Some.c f.handled f.shared e.0
     c.self.invariant (subst (In e.0) c.as_slice.ensures.value e.1) e.2 e.3 e.4 in
-    subst (λ (u : RackView). (x : ℕ) × (place_of c.args.who.now u.clones ≡ Some x)
-    × IsSeen u.net u.clones u.station u.front x f.handled f.shared) c.self.view_is (c.in-Some.c, place, is)
+    record {
+      found = record {
+        unknown = tt;
+        found = subst (λ (u : RackView). (x : ℕ) × (place_of c.args.who.now u.clones ≡ Some x)
+            × IsSeen u.net u.clones u.station u.front x f.handled f.shared) c.self.view_is (c.in-Some.c, place, is);
+      };
+    }

@@ -1,7 +1,7 @@
 use Rattle.std.proofs.Common.{◌≡◌, ◌+◌, ◌++◌, [], None, All, length, sym, ap, ◌∙◌, subst, append-nil, arith}
 use Rattle.std.proofs.lemmas.List.Elements.{All-append}
 use Rattle.std.specs.Prelude.{sum_by}
-use Rattle.crew_pool.specs.Tasks.{MayRunAll, AnswersTo, EachAnswers}
+use Rattle.crew_pool.specs.Tasks.{MayRunAll, AnswersTo, EachAt}
 use Rattle.standing_crew.specs.Parts.{MayRunFrom, EachAnsweredFrom, items_out}
 use Rattle.standing_crew.proofs.Runs.{MayRunFrom-run, EachAnsweredFrom-append, EachAnsweredFrom-start}
 use Rattle.standing_crew.proofs.team.Team.all.Goals as goal
@@ -46,7 +46,7 @@ returns g c =
     record {
       have_run = record {
         count = ap length c.in_ok-add_all-2.ensures.value ∙ all.0;
-        answers = subst (λ l. EachAnswers (AnswersTo answers c.args.items.items) l)
+        answers = subst (λ l. EachAt (AnswersTo answers c.args.items.items) l)
             (sym c.in_ok-add_all-2.ensures.value) (EachAnsweredFrom-start answers c.args.items.items _ all);
         cost = c.tick_costs.ensures.value
             ∙ ap (λ l. c.args.steps.now + sum_by g.W.Work.cost l) c.as_slice.ensures.value;

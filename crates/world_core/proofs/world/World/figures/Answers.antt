@@ -19,7 +19,7 @@ alone_in-requires-clause-short c =
     let is = subst (λ (w : WorldView). HasStation w.net c.args.station) (sym c.self.view_is) c.requires.is_station in
     let many = c.self.invariant.count in
     let got = got_at procs (c.args.station - 1) p (omega (arith, is.low, is.high, many)) c.index-proc.ensures in
-    let proc = (c.self.invariant.each (c.args.station - 1) p got).proc in
+    let proc = (c.self.invariant.each (c.args.station - 1) p got).station.proc in
     let short = c.self.invariant.valid.short in
     subst (AllByRecursion (λ (a : StationCopy). length a.log ≤ MOST_LIMIT)) (sym c.copies-2.ensures.value)
     (all_short c.self.inside.model.value p.station p.copies (omega (arith, short)) proc.copies)

@@ -1,0 +1,47 @@
+-- What a fetch gives of a file states what the whole file states: it is the whole file, or too long as well.
+use Rattle.std.proofs.Common.{◌≡◌, ℕ, ◌+◌, Bool, true, false, nat_lt, if◌then◌else◌, cond, List, length, take}
+use Rattle.std.proofs.Common.{refl, ap, sym, ◌∙◌, arith, Ok, Err}
+use Rattle.std.proofs.lemmas.Bool.Decides.{nat_tests}
+use Rattle.std.proofs.lemmas.List.{length-take, take_all}
+use Rattle.sim_base.specs.Chain.{◌>>=◌}
+use Rattle.sim_base.specs.declared.limits.TheConstants.{MOST_FILE_BYTES}
+use Rattle.sim_outer.specs.Files.{prefix_of}
+use Rattle.net_model.specs.Text.{model_of_tree, tree}
+use Rattle.net_model.specs.declared.fault.ModelFault.TheVariants as bad_model
+use Rattle.decision_script.specs.Lines.{lines}
+use Rattle.decision_script.specs.Reading.{after_lines, new_reader, script_of}
+use Rattle.decision_script.specs.declared.fault.ScriptFault.TheVariants as bad_script
+use Rattle.cloner_top.specs.Prefixes.{PrefixesStateTheSame}
+
+-- ---- readings that refuse what is too long
+
+module _ {A : Type 0} (most : ℕ) (refusal : A) (reading : List ℕ → A) where
+  -- what a text says, refused where it has more bytes than this
+  abbrev pub within : List ℕ → A
+  within text = if nat_lt most (length text) then refusal else reading text
+
+  -- with one byte more than a text may have, its beginning says what it says, whether it is too long
+  within-cut : (text : List ℕ) (longer : Bool) → nat_lt most (length text) ≡ longer
+      → within (take (most + 1) text) ≡ within text
+  within-cut text true is =
+      let cut : nat_lt most (length (take (most + 1) text)) ≡ true =
+      let h = length-take (most + 1) text in grind (arith, nat_tests) in
+      ap (λ b. cond b refusal (reading (take (most + 1) text))) cut
+      ∙ sym (ap (λ b. cond b refusal (reading text)) is)
+  within-cut text false is =
+      ap within (take_all (most + 1) text (grind (arith, nat_tests)))
+
+  -- or not
+  pub within-take : (text : List ℕ) → within (take (most + 1) text) ≡ within text
+  within-take text = within-cut text (nat_lt most (length text)) refl
+
+-- ---- a model and a script
+
+-- the bytes that a fetch gives of a file state what it states
+pub prefixes_state_the_same : PrefixesStateTheSame
+unfolding prefix_of
+prefixes_state_the_same file = record {
+  model_is = within-take MOST_FILE_BYTES (Err bad_model.TooLong) (λ t. model_of_tree (tree t)) file;
+  script_is = within-take MOST_FILE_BYTES (Err bad_script.TooLong)
+      (λ t. after_lines 1 new_reader (lines t) >>= λ r. Ok (script_of r)) file;
+}
