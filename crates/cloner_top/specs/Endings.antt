@@ -18,7 +18,7 @@ use Rattle.study_run.specs.Limits.{AreWithin, IsWithin, MeetsLimit, MeetsLimitAl
 use Rattle.journal_text.specs.declared.looked.Looked.{Looked}
 use Rattle.journal_text.specs.JournalText.{journal_text}
 use Rattle.live_study.specs.Engines.{MeetsLimitLast}
-use Rattle.live_study.specs.Looks.{AreLooks, HasMadeLooks}
+use Rattle.live_study.specs.Looks.{AreLooks, AreMadeLooks}
 use Rattle.live_study.specs.Scripts.{IsJournalOf}
 use Rattle.command_words.specs.declared.request.Mode.{Mode}
 use Rattle.command_words.specs.declared.request.Mode.TheVariants.{All, One, Live}
@@ -79,7 +79,7 @@ pub data MayLive (net : Net) (s : ScriptView) : Ending → Type 0 where
       → MayLive net s
       (whole_output (journal_text s.analysts book.events looks ∷ run_texts net (after net book.events).clones)
       (total_handled net (after net book.events).clones net.horizon))
-  over : (book : BookView) (looks : List Looked) (station who : ℕ) → IsJournalOf net s book → HasMadeLooks s looks
+  over : (book : BookView) (looks : List Looked) (station who : ℕ) → IsJournalOf net s book → AreMadeLooks net s looks
       → MeetsLimitLast net book.events station who
       → MayLive net s (overrun (journal_text s.analysts book.events looks ∷ [])
       (limit_stop net station (clone_at (after net book.events).clones who).name)

@@ -11,11 +11,10 @@ use Rattle.decision_script.specs.declared.item.Act.{Act}
 use Rattle.decision_script.specs.declared.item.Act.TheVariants.{Decide, Look}
 use Rattle.decision_script.specs.declared.item.Item.{Item}
 use Rattle.decision_script.specs.Stating.{ScriptView}
-use Rattle.decision_book.specs.Journal.{Event}
 use Rattle.journal_text.specs.declared.looked.Looked.{Looked}
 use Rattle.live_study.specs.Asking.{SeatedAnalyst}
-use Rattle.live_study.specs.Lives.{AreTrueLooks, all_looks, looks_made}
-use Rattle.live_study.specs.Looks.{AreLooks, HasMadeLooks, IsNoEarlier, NeverFall, look_of}
+use Rattle.live_study.specs.Lives.{AreSeenLooks, all_looks, looks_made}
+use Rattle.live_study.specs.Looks.{AreMadeLooks, HasMadeLooks, IsNoEarlier, NeverFall, look_of}
 use Rattle.live_study.specs.Opening.{numbers_to}
 use Rattle.live_study.specs.Scripts.{AskedLook, acts_by, each_acts, each_looks, look_onto, looks_in}
 use Rattle.live_study.specs.Showing.{looks_to_make}
@@ -167,7 +166,7 @@ in_script_order items (suc n) =
     ∙ ap₂ (λ us vs. us ++ vs) (in_script_order items n) (append-nil own)
 
 -- all looks of the script were made, in order
-pub made_of_script : (s : ScriptView) (n : ℕ) (seated : List SeatedAnalyst) (looks : List (ReservedView Looked))
+made_of_script : (s : ScriptView) (n : ℕ) (seated : List SeatedAnalyst) (looks : List (ReservedView Looked))
     → n ≡ length s.analysts → map (λ (a : SeatedAnalyst). a.0.number) seated ≡ numbers_to n
     → map (λ (a : SeatedAnalyst). a.0.todo.items) seated ≡ each_acts s.items n
     → looks_made looks ≡ looks_to_make seated → HasMadeLooks s (all_looks looks)
@@ -175,15 +174,15 @@ made_of_script s n seated looks many numbers todo made =
     made_in_order looks ∙ ap joined (made ∙ to_make_is seated ∙ ap₂ looks_of_each numbers todo)
     ∙ in_script_order s.items n ∙ ap (each_looks s.items) many
 
--- and at the horizon they are the looks of the script over the journal
-pub looks_of_script : (net : Net) (s : ScriptView) (n : ℕ) (events : List Event) (seated : List SeatedAnalyst)
+-- with what was seen at them
+pub seen_of_script : (net : Net) (s : ScriptView) (n : ℕ) (seated : List SeatedAnalyst)
     (looks : List (ReservedView Looked)) → n ≡ length s.analysts
     → map (λ (a : SeatedAnalyst). a.0.number) seated ≡ numbers_to n
     → map (λ (a : SeatedAnalyst). a.0.todo.items) seated ≡ each_acts s.items n
-    → looks_made looks ≡ looks_to_make seated → AreTrueLooks net events looks → AreLooks net s events (all_looks looks)
-looks_of_script net s n events seated looks many numbers todo made told = record {
+    → looks_made looks ≡ looks_to_make seated → AreSeenLooks net looks → AreMadeLooks net s (all_looks looks)
+seen_of_script net s n seated looks many numbers todo made seen = record {
   made = made_of_script s n seated looks many numbers todo made;
-  true_ones = told.true_ones;
+  seen = seen.seen;
   rise = all_rise (numbers_to n) looks (numbers_differ n)
-      (subst (λ xs. AreOfEach xs looks) numbers (each_own seated looks made)) told.rise;
+      (subst (λ xs. AreOfEach xs looks) numbers (each_own seated looks made)) seen.rise;
 }

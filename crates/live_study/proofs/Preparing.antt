@@ -8,7 +8,6 @@ use Rattle.sim_base.proofs.ListLaws.{all_at, all_weaker}
 use Rattle.net_model.specs.Net.{Net}
 use Rattle.decision_script.specs.Stating.{ScriptView}
 use Rattle.decision_book.specs.Books.{BookView}
-use Rattle.decision_book.specs.Journal.{Event}
 use Rattle.decision_book.specs.declared.call.TheConstants.{MOST_CALLS}
 use Rattle.decision_desk.specs.Desks.{desk_id}
 use Rattle.decision_desk.specs.Passes.{HelmView}
@@ -22,13 +21,13 @@ use Rattle.decision_script.specs.declared.script.TheConstants.{MOST_ANALYSTS, MO
 use Rattle.decision_desk.specs.declared.desk.TheConstants.{ALL_PARTS}
 use Rattle.live_study.specs.declared.prepared.Prepared.{Prepared}
 use Rattle.live_study.specs.Asking.{SeatedAnalyst, total_todo}
-use Rattle.live_study.specs.Lives.{AreTrueLooks, IsAllAsked, all_looks, looks_made}
-use Rattle.live_study.specs.Looks.{AreLooks, HasMadeLooks, HasRacks, IsRackOf, IsReadLook, NeverFall, look_of}
+use Rattle.live_study.specs.Lives.{AreSeenLooks, IsAllAsked, all_looks, looks_made}
+use Rattle.live_study.specs.Looks.{AreMadeLooks, HasRacks, IsRackOf, IsReadLook, NeverFall, look_of}
 use Rattle.live_study.specs.Opening.{AreOpeningRacks, HasReservedFor, IsFresh, IsPrepared, IsRackNow, numbers_to}
 use Rattle.live_study.specs.Scripts.{IsJournalOf, each_acts}
 use Rattle.live_study.specs.Showing.{AreShownOf, HasLooked, HasReserved, MayAct, looks_to_make}
 use Rattle.live_study.proofs.Begun.{all_ready, few_todo, journal_of_script, many_analysts}
-use Rattle.live_study.proofs.Looking.{looks_of_script, made_of_script}
+use Rattle.live_study.proofs.Looking.{seen_of_script}
 
 -- ---- the opening racks
 -- a rack at a place of them is one of the world as it stands
@@ -177,18 +176,8 @@ pub made_are : (net : Net) (s : ScriptView) (p : Prepared) (seated : List Seated
     (looks : List (ReservedView Looked)) → IsPrepared net (length s.analysts) p
     → map (λ (a : SeatedAnalyst). a.0.number) seated ≡ numbers_to (length p.passes.items)
     → map (λ (a : SeatedAnalyst). a.0.todo.items) seated ≡ each_acts s.items (length p.passes.items)
-    → looks_made looks ≡ looks_to_make seated → HasMadeLooks s (all_looks looks)
-made_are net s p seated looks h numbers todo made =
-    made_of_script s (length p.passes.items) seated looks (many_passes net (length s.analysts) p h) numbers todo made
-
--- looks that are made as the script asks, and told truly, are the looks of the script over the journal
-pub looks_are : (net : Net) (s : ScriptView) (p : Prepared) (seated : List SeatedAnalyst) (events : List Event)
-    (looks : List (ReservedView Looked)) → IsPrepared net (length s.analysts) p
-    → map (λ (a : SeatedAnalyst). a.0.number) seated ≡ numbers_to (length p.passes.items)
-    → map (λ (a : SeatedAnalyst). a.0.todo.items) seated ≡ each_acts s.items (length p.passes.items)
-    → looks_made looks ≡ looks_to_make seated → AreTrueLooks p.helm.net events looks
-    → AreLooks net s events (all_looks looks)
-looks_are net s p seated events looks h numbers todo made told =
+    → looks_made looks ≡ looks_to_make seated → AreSeenLooks p.helm.net looks → AreMadeLooks net s (all_looks looks)
+made_are net s p seated looks h numbers todo made seen =
     let many = length s.analysts in
-    looks_of_script net s (length p.passes.items) events seated looks (many_passes net many p h) numbers todo made
-    (subst (λ (n : Net). AreTrueLooks n events looks) (helm_net net many p h) told)
+    seen_of_script net s (length p.passes.items) seated looks (many_passes net many p h) numbers todo made
+    (subst (λ (n : Net). AreSeenLooks n looks) (helm_net net many p h) seen)

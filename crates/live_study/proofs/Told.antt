@@ -1,22 +1,24 @@
 -- The looks that analysts have made, once all have come to the horizon.
 use Rattle.std.proofs.Common.{◌≡◌, ℕ, suc, ◌<◌, Bool, true, List, [], ◌∷◌, length, map}
+use Rattle.std.proofs.Common.{◌≤◌, Option, Some, None, IfSome}
 use Rattle.std.proofs.Common.{Result, Ok, Err, IfOk, refl, sym, ap, ap₂, ◌∙◌, subst, arith, slice_index_or}
 use Rattle.std.specs.List.{AllByRecursion}
 use mathlib.Core.List.{IsPrefix}
 use Rattle.sim_base.specs.Reserved.{ReservedView}
 use Rattle.sim_base.proofs.ListLaws.{all_append, all_weaker}
-use Rattle.net_model.specs.Net.{Net}
+use Rattle.net_model.specs.Net.{Net, station_named}
 use Rattle.decision_book.specs.Journal.{Event, NewCall}
 use Rattle.decision_desk.specs.Accounts.{OnlyCalls}
 use Rattle.decision_desk.specs.Passes.{HelmView}
 use Rattle.phys_proc.specs.Racks.{RackView}
+use Rattle.phys_proc.specs.declared.rack.Glance.{Glance}
 use Rattle.journal_text.specs.declared.looked.Looked.{Looked}
 use Rattle.world_core.specs.Worlds.{WorldView}
 use Rattle.study_run.specs.declared.fault.StudyFault.{StudyFault}
 use Rattle.live_study.specs.Asking.{SeatedAnalyst}
 use Rattle.live_study.specs.Engines.{InStep}
-use Rattle.live_study.specs.Lives.{AreTrueLooks, all_looks, looks_made}
-use Rattle.live_study.specs.Looks.{IsReadLook, IsTrueLook, NeverFall}
+use Rattle.live_study.specs.Lives.{AreSeenLooks, AreTrueLooks, all_looks, looks_made}
+use Rattle.live_study.specs.Looks.{IsReadLook, IsTrueLook, NeverFall, SeesItsStation, WasRead}
 use Rattle.live_study.specs.Scripts.{looks_in}
 use Rattle.live_study.specs.Showing.{AllCaughtUp, AreShownOf, HasLooked, looks_to_make}
 use Rattle.live_study.proofs.Counting.{SameAt}
@@ -66,6 +68,40 @@ pub made_all : (net : Net) (old new : List SeatedAnalyst) (looks : List (Reserve
 made_all net old new looks all len same are =
     ap looks_made are ∙ asked_in_order net new all ∙ asked_before old new len same
 
+-- ---- AreSeenLooks
+
+-- what was read was read of the station of the name
+known_of : (net : Net) (read : List RackView) (l : Looked) (o : Option Glance)
+    → IfSome o (λ g. (s : ℕ) × (station_named l.station net ≡ Some s) × (s ≤ length net.sites) × WasRead read s l.who g)
+    → IfSome o (λ g. (s : ℕ) × (station_named l.station net ≡ Some s))
+known_of net read l None k = tt
+known_of net read l (Some g) k = (k.0, k.1)
+
+-- so at each look nothing was seen exactly where there is no such station
+all_seen : (net : Net) (seated : List SeatedAnalyst) → AllLooked net seated
+    → AllByRecursion (SeesItsStation net) (all_looks (looks_of seated))
+all_seen net [] all = tt
+all_seen net (a ∷ more) all =
+    all_append (SeesItsStation net) a.0.looks.items (all_looks (looks_of more))
+    (all_weaker (IsReadLook net a.1) (SeesItsStation net) a.0.looks.items
+    (λ l r. record { unknown = r.unknown; known = known_of net a.1 l l.glance r.known }) all.0.read)
+    (all_seen net more all.1)
+
+-- no front of one of them falls
+none_falls : (net : Net) (seated : List SeatedAnalyst) → AllLooked net seated
+    → AllByRecursion (λ (r : ReservedView Looked). NeverFall r.items) (looks_of seated)
+none_falls net [] all = tt
+none_falls net (a ∷ more) all = (all.0.rise, none_falls net more all.1)
+
+-- that is what holds of their looks however the run ends
+pub seen_all : (net : Net) (seated : List SeatedAnalyst) (looks : List (ReservedView Looked)) → AllLooked net seated
+    → looks ≡ looks_of seated → AreSeenLooks net looks
+seen_all net seated looks all are = record {
+  seen = subst (λ ls. AllByRecursion (SeesItsStation net) (all_looks ls)) (sym are) (all_seen net seated all);
+  rise = subst (λ ls. AllByRecursion (λ (r : ReservedView Looked). NeverFall r.items) ls) (sym are)
+      (none_falls net seated all);
+}
+
 -- ---- AreTrueLooks
 
 -- all that they saw is true
@@ -80,24 +116,15 @@ true_looks net h w events published (a ∷ more) of world last begins shown up a
     (λ l r. true_look net h w events published a.1 l of world last begins shown up.0 r) all.0.read)
     (true_looks net h w events published more of world last begins shown up.1 all.1)
 
--- no front of one of them falls
-none_falls : (net : Net) (seated : List SeatedAnalyst) → AllLooked net seated
-    → AllByRecursion (λ (r : ReservedView Looked). NeverFall r.items) (looks_of seated)
-none_falls net [] all = tt
-none_falls net (a ∷ more) all = (all.0.rise, none_falls net more all.1)
-
 -- so it is of a run that came to the horizon
 told_at_horizon : (net : Net) (h : HelmView) (w : WorldView) (events : List Event) (published : List RackView)
     (seated : List SeatedAnalyst) (looks : List (ReservedView Looked)) → h.net ≡ net → InStep h w
     → w.front ≡ w.net.horizon → OnlyCalls h.helm events → AreShownOf h w published
     → AllCaughtUp net published seated → AllLooked net seated → looks ≡ looks_of seated → AreTrueLooks net events looks
-told_at_horizon net h w events published seated looks of in_step last calls shown up all are = record {
-  true_ones = subst (λ ls. AllByRecursion (IsTrueLook net events) (all_looks ls)) (sym are)
-      (true_looks net h w events published seated of (in_step.net ∙ of) last (map NewCall calls.0, sym calls.1) shown up
-      all);
-  rise = subst (λ ls. AllByRecursion (λ (r : ReservedView Looked). NeverFall r.items) ls) (sym are)
-      (none_falls net seated all);
-}
+told_at_horizon net h w events published seated looks of in_step last calls shown up all are =
+    subst (λ ls. AllByRecursion (IsTrueLook net events) (all_looks ls)) (sym are)
+    (true_looks net h w events published seated of (in_step.net ∙ of) last (map NewCall calls.0, sym calls.1) shown up
+    all)
 
 -- and it is, where the run is handed back as finished
 pub told_if : (net : Net) (h : HelmView) (events : List Event) (published : List RackView) (seated : List SeatedAnalyst)

@@ -12,7 +12,7 @@ use Rattle.journal_text.specs.declared.looked.Looked.{Looked}
 use Rattle.world_core.specs.Worlds.{WorldView}
 use Rattle.live_study.specs.Asking.{AllAsked, SeatedAnalyst, accounts_in}
 use Rattle.live_study.specs.Engines.{StopsEngine}
-use Rattle.live_study.specs.Looks.{AreLooks, HasMadeLooks, IsTrueLook, NeverFall, look_of}
+use Rattle.live_study.specs.Looks.{AreLooks, AreMadeLooks, IsTrueLook, NeverFall, SeesItsStation, look_of}
 use Rattle.live_study.specs.Scripts.{AskedLook, IsJournalOf}
 use Rattle.live_study.specs.declared.run.LiveRun.{LiveRun}
 
@@ -32,10 +32,14 @@ looks_made looks = map (λ r. map look_of r.items) looks
 abbrev pub all_looks : List (ReservedView Looked) → List Looked
 all_looks looks = flat_map (λ r. r.items) looks
 
--- what these analysts saw is true of this journal, and no front of one of them falls
-pub record AreTrueLooks (net : Net) (events : List Event) (looks : List (ReservedView Looked)) : Type 0 where
-  pub true_ones : AllByRecursion (IsTrueLook net events) (all_looks looks)
+-- these analysts saw nothing exactly where there is no such station, and no front of one of them falls
+pub record AreSeenLooks (net : Net) (looks : List (ReservedView Looked)) : Type 0 where
+  pub seen : AllByRecursion (SeesItsStation net) (all_looks looks)
   pub rise : AllByRecursion (λ r. NeverFall r.items) looks
+
+-- what they saw is true of this journal
+abbrev pub AreTrueLooks : Net → List Event → List (ReservedView Looked) → Type 0
+AreTrueLooks net events looks = AllByRecursion (IsTrueLook net events) (all_looks looks)
 
 -- a run that was finished: the last front of the journal is the horizon, and the world stands there with the clones
 -- that the journal leaves
@@ -47,8 +51,8 @@ pub record IsAtHorizon (net : Net) (book : BookView) (world : WorldView) : Type 
 pub record IsLiveRun (net : Net) (script : ScriptView) (run : LiveRun) : Type 0 where
   -- however it ends: one legal journal, in which each analyst's decisions stand in order, and no others
   pub journal : IsJournalOf net script run.book
-  -- and all looks of the script, in order
-  pub made : HasMadeLooks script (all_looks run.looks.items)
+  -- and all looks of the script, in order, at which nothing was seen exactly where there is no such station
+  pub made : AreMadeLooks net script (all_looks run.looks.items)
   -- at the horizon: what was seen at each of them is true of the journal's clones at a front
   pub looks : IfOk run.run (λ w. AreLooks net script run.book.events (all_looks run.looks.items))
   -- and the world has the journal's clones

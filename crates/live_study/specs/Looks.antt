@@ -60,12 +60,22 @@ NeverFall (l ∷ ls) = AllByRecursion (IsNoEarlier l) ls × NeverFall ls
 abbrev pub HasMadeLooks : ScriptView → List Looked → Type 0
 HasMadeLooks s looks = map look_of looks ≡ each_looks s.items (length s.analysts)
 
--- the looks of a script over a journal: one for each look of the script, by analyst and then in the analyst's order;
--- each of them is true, and no analyst's front at a station falls
-pub record AreLooks (net : Net) (s : ScriptView) (events : List Event) (looks : List Looked) : Type 0 where
+-- nothing was seen exactly where the network has no such station
+pub record SeesItsStation (net : Net) (l : Looked) : Type 0 where
+  pub unknown : IfNone l.glance (station_named l.station net ≡ None)
+  pub known : IfSome l.glance (λ g. (s : ℕ) × (station_named l.station net ≡ Some s))
+
+-- the looks of a script, however its run ended: one for each look of the script, by analyst and then in the analyst's
+-- order; nothing was seen exactly where there is no such station, and no analyst's front at a station falls
+pub record AreMadeLooks (net : Net) (s : ScriptView) (looks : List Looked) : Type 0 where
   pub made : HasMadeLooks s looks
-  pub true_ones : AllByRecursion (IsTrueLook net events) looks
+  pub seen : AllByRecursion (SeesItsStation net) looks
   pub rise : NeverFall looks
+
+-- the looks of a script over a journal, each of which is true
+pub record AreLooks (net : Net) (s : ScriptView) (events : List Event) (looks : List Looked) : Type 0 where
+  pub made : AreMadeLooks net s looks
+  pub true_ones : AllByRecursion (IsTrueLook net events) looks
 
 -- ---- what a look has read
 

@@ -10,7 +10,7 @@ ghost use Rattle.decision_desk.specs.Desks.{desk_id};
 ghost use Rattle.live_study.specs.Asking.{total_todo};
 ghost use Rattle.live_study.specs.Driving.{HasDriven, MayDrive};
 ghost use Rattle.live_study.specs.Engines.{StopsEngine};
-ghost use Rattle.live_study.specs.Lives.{AreTrueLooks, IsAllAsked, IsAtHorizon, looks_made};
+ghost use Rattle.live_study.specs.Lives.{AreSeenLooks, AreTrueLooks, IsAllAsked, IsAtHorizon, looks_made};
 ghost use Rattle.live_study.specs.Looks.{AreCaughtUp, HasRacks, IsAt};
 ghost use Rattle.live_study.specs.Opening.{AreReadyAll, HasReservedFor};
 ghost use Rattle.live_study.specs.Showing.{AllCaughtUp, HaveActed, looks_to_make};
@@ -200,6 +200,7 @@ pub(crate) fn run_live<
     // however it ends: each analyst has asked all its decisions and made all its looks
     ensures asked { IsAllAsked helm.net seated.items result.book }
     ensures made { looks_made result.looks.items ≡ looks_to_make seated.items }
+    ensures seen { AreSeenLooks helm.net result.looks.items }
     // at the horizon: the looks are true of the journal, and the world has the clones that it leaves
     ensures looked { IfOk result.run (λ w. AreTrueLooks helm.net result.book.events result.looks.items) }
     ensures finished { IfOk result.run (λ w. IsAtHorizon helm.net result.book w) }

@@ -172,8 +172,8 @@ pub fn live_study<C: Crew + Sync, G: Gate, L: Ledger, R: Threads + Wait + Sync>(
     script: &Script,
     steps: &mut Steps<L>,
 ) -> Result<LiveRun, NoMemory>
-    // One legal journal and all looks of the script. At the horizon the looks are true of the journal, whose clones the
-    // world has; or the engine met the limit at the last front.
+    // One legal journal and all looks of the script, whose fronts never fall. At the horizon the looks are true of the
+    // journal, whose clones the world has; or the engine met the limit at the last front.
     ensures live_run { IfOk result (λ r. IsLiveRun model.now.value script.now r) }
     // At the horizon, what clones share was counted once; else nothing was.
     ensures steps { IfOk result (λ r. IfOk r.run (λ w.

@@ -5,7 +5,7 @@ live_journal_text-requires-clause-journal g c =
     (c.args.study.now.model.value, c.in_ok-live.ensures.live_run.journal)
 
 pub live_journal_text-requires-clause-made : goal.live_journal_text-requires-clause-made
-live_journal_text-requires-clause-made g c = c.in_ok-live.ensures.live_run.made
+live_journal_text-requires-clause-made g c = c.in_ok-live.ensures.live_run.made.made
 
 pub returns : goal.returns
 returns g c =

@@ -7,10 +7,10 @@ use Rattle.decision_desk.specs.Desks.{desk_id}
 use Rattle.decision_desk.specs.Passes.{PassView}
 use Rattle.world_core.specs.Worlds.{WorldView}
 use Rattle.live_study.specs.Asking.{SeatedAnalyst}
-use Rattle.live_study.specs.Lives.{AreTrueLooks, IsAtHorizon}
+use Rattle.live_study.specs.Lives.{AreSeenLooks, AreTrueLooks, IsAtHorizon}
 use Rattle.live_study.proofs.Counting.{AllDone-desk, AllDone-each, asked_in, finished_if}
 use Rattle.live_study.proofs.Ending.{if_finished, if_stopped}
-use Rattle.live_study.proofs.Told.{all_looked, looks_of, made_all, told_if}
+use Rattle.live_study.proofs.Told.{all_looked, looks_of, made_all, seen_all, told_if}
 use Rattle.live_study.proofs.live.run_live.Goals as goal
 
 -- ---- close
@@ -51,7 +51,7 @@ close_looks-reserve-requires-clause-there g c k d less =
     let acted = c.side_by_side-helm.ensures.acted in
     (acted.each k d (omega (arith, less, acted.len))).looked.there
 
--- ---- made, looked
+-- ---- made, seen, looked
 
 pub returns-clause-made : goal.returns-clause-made
 returns-clause-made g c =
@@ -63,6 +63,18 @@ returns-clause-made g c =
     made_all c.args.model.now c.args.seated.items new looks
     (all_looked c.args.model.now new (λ i d less. (acted.each i d (omega (arith, less, acted.len))).looked)) acted.len
     (λ i d less. (acted.each i d less).same) are
+
+pub returns-clause-seen : goal.returns-clause-seen
+returns-clause-seen g c =
+    let net = c.args.model.now in
+    let new = c.side_by_side-helm.result.1.items in
+    let acted = c.side_by_side-helm.ensures.acted in
+    let looks = c.close_looks-reserve.result.0.looks.items in
+    let are : looks ≡ looks_of new =
+    c.close_looks-reserve.ensures.looks ∙ ap (λ l. l ++ looks_of new) c.requires.reserve.no_looks in
+    subst (λ (n : Net). AreSeenLooks n looks) (sym c.requires.net)
+    (seen_all net new looks
+    (all_looked net new (λ i d less. (acted.each i d (omega (arith, less, acted.len))).looked)) are)
 
 pub returns-clause-looked : goal.returns-clause-looked
 returns-clause-looked g c =

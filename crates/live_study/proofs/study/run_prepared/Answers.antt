@@ -8,7 +8,7 @@ use Rattle.live_study.specs.Lives.{AreTrueLooks, IsAtHorizon, all_looks}
 use Rattle.live_study.specs.Looks.{AreLooks}
 use Rattle.live_study.proofs.Begun.{begins_in_step}
 use Rattle.live_study.proofs.Preparing.{all_parts, each_ready, enough_reserved, helm_net, journal_is, little_todo}
-use Rattle.live_study.proofs.Preparing.{looks_are, made_are, many_passes, may_begin, shown_first}
+use Rattle.live_study.proofs.Preparing.{made_are, many_passes, may_begin, shown_first}
 use Rattle.live_study.proofs.study.run_prepared.Goals as goal
 
 -- ---- take_seats
@@ -75,14 +75,18 @@ returns g c =
     let s = c.in_ok-stocker.ensures in
     let r = c.run_live.result in
     let own = helm_net net (length script.analysts) p of in
+    let made = made_are net script p seated r.looks.items of s.numbers s.todo c.run_live.ensures.made
+    c.run_live.ensures.seen in
     record {
       live_run = record {
         journal = journal_is net script p seated r.book of s.passes s.todo c.run_live.ensures.asked;
-        made = made_are net script p seated r.looks.items of s.numbers s.todo c.run_live.ensures.made;
+        made = made;
         looks = IfOk-weaker r.run (λ w. AreTrueLooks p.helm.net r.book.events r.looks.items)
             (λ w. AreLooks net script r.book.events (all_looks r.looks.items))
-            (λ w told. looks_are net script p seated r.book.events r.looks.items of s.numbers s.todo
-            c.run_live.ensures.made told) c.run_live.ensures.looked;
+            (λ w told. record {
+              made = made;
+              true_ones = subst (λ (n : Net). AreTrueLooks n r.book.events r.looks.items) own told;
+            }) c.run_live.ensures.looked;
         finished = IfOk-weaker r.run (IsAtHorizon p.helm.net r.book) (IsAtHorizon net r.book)
             (λ w. subst (λ (n : Net). IsAtHorizon n r.book w) own) c.run_live.ensures.finished;
         stopped = IfErr-weaker r.run (StopsEngine p.helm.net r.book.events) (StopsEngine net r.book.events)
