@@ -2,14 +2,16 @@
 
 mod changes;
 mod texts;
+mod two_faults;
 
-use changes::{FIRST_OF_TWO, OTHER_TEXTS, ROAD_CHANGES, Refused, SMALL_CHANGES};
+use changes::{OTHER_TEXTS, ROAD_CHANGES, Refused, SMALL_CHANGES};
 use net_model::{KeyText, Kind, Link, Model, read_model};
 use sample_models::{CLINIC, ONE_DESK};
 use std::alloc::{AllocError, Global};
 use std::test::Fail;
 use std::time::{Duration, Instant};
 use texts::{FACTORY, INLINE, ROAD};
+use two_faults::FIRST_OF_TWO;
 
 /// Whether the text is refused with this number at this place, and names this key, or none.
 fn is_refused(alloc: Global, text: &[u8], number: u32, place: u32, key: &str) -> bool {
