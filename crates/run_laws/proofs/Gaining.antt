@@ -1,5 +1,8 @@
 -- Handled once: the number of different prefixes of the clones' logs grows by what the copies gain, and there are as
 -- many copies as different logs.
+--
+-- The lemmas `.._by_logs` hold for any two times of a station. Their premise is that each copy's run alone, to the
+-- later time, ends with the clone's log there. Windows meet it, and the lemmas of windows follow.
 use Rattle.std.proofs.Common.{◌≡◌, ◌↔◌, ℕ, ◌+◌, ◌-◌, ◌*◌, ◌≤◌, ◌<◌, min, List, []}
 use Rattle.std.proofs.Common.{◌∷◌, ◌++◌, ◌⊎◌, inl, inr, Bool, true, nat_lt, ◌==◌, refl, sym}
 use Rattle.std.proofs.Common.{ap, ◌∙◌, subst, arith, length, length-append, map, take, drop, append_assoc, append-nil}
@@ -25,7 +28,8 @@ use Rattle.run_laws.specs.CountLaws.{TellsEntries, AreWithinLimitAt}
 use Rattle.run_laws.specs.Prefixes.{Apart, IsCount, IsGained}
 use Rattle.sim_base.specs.Marked.{JoinsMarks, SortedMarked}
 use Rattle.run_laws.specs.Copies.{Copy, Carries, Disjoint, takes, messages_taken, view, IsNarrowed, Turns}
-use Rattle.run_laws.specs.Copies.{IsCutLog, Gains, GainedBy, GainTogether, alone_from, AreOver, ends_of, Stands}
+use Rattle.run_laws.specs.Copies.{IsCutLog, Gains, GainedBy, GainTogether, alone_from, AreOver, ends_of}
+use Rattle.run_laws.specs.Copies.{StandsByLogs, Stands}
 use Rattle.run_laws.proofs.Queue.{all_in, all_from}
 use Rattle.run_laws.proofs.Lists.{in_filter, in_own, append_old, filter_all}
 use Rattle.run_laws.proofs.Machine.{reach_keeps}
@@ -38,7 +42,7 @@ use Rattle.run_laws.proofs.Parts.{sorted_part}
 use Rattle.run_laws.proofs.Prefixes.{count_same, count_both, count_unique, gained_same, longer_than_itself}
 use Rattle.run_laws.proofs.ComesTo.{until_lawful, turns-settle, cut_of_some}
 use Rattle.run_laws.proofs.Steps.{ends_alone}
-use Rattle.run_laws.proofs.Stands.{clone_in}
+use Rattle.run_laws.proofs.Stands.{clone_in, stands_by_logs}
 use Rattle.run_laws.proofs.Places.{place_in}
 use Rattle.run_laws.proofs.Limits.{cut_goes_on}
 use Rattle.run_laws.proofs.Counts.{distinct_is_count, same_list-Decides, in_map, map_has}
@@ -215,33 +219,41 @@ module _ {S M N K : Type 0} {sim : Simulation S M N} {Good : ℕ → S → Type 
       (λ l g. cut_of_some law j ends s bound r r [] out same none l g)
       (λ l g. cut_of_some law j ends s bound r r out [] same (λ c i. sym (none c i)) l g) h
 
-module _ {S M N K : Type 0} {sim : Simulation S M N} {Good : ℕ → S → Type 0} (law : HandlesLawfully sim Good)
-    {has : K → ℕ → Bool} {join : K → K → K} (j : JoinsMarks has join) (cs : List Clone) (s front bound : ℕ)
-    (old : List (Copy S M N K)) (st : Stands sim has cs front s old) where
-  -- ---- Stands
+-- ---- StandsByLogs
 
+module _ {S M N K : Type 0} {sim : Simulation S M N} {Good : ℕ → S → Type 0} (law : HandlesLawfully sim Good)
+    {has : K → ℕ → Bool} (cs : List Clone) (s front : ℕ)
+    (old : List (Copy S M N K)) (st : StandsByLogs sim has cs front s old) where
   -- a copy's state is good
   pub good_state : (a : Copy S M N K) (c : ℕ) → In a old → Carries has a c → Good s a.state
   good_state a c i h = subst (Good s) (sym (st.state a c i h))
       ((run_reached law (clone_at cs c).plans (min front (end_of sim (clone_at cs c)))).1.good s)
 
-  -- copies that stand for clones are at the front
-  pub at_front : (a : Copy S M N K) (c : ℕ) → In a old → Carries has a c →
-      AtFront law j (ends_of sim cs) s front bound a c
-  at_front a c i h = record {
-    good = good_state a c i h;
-    sorted = st.sorted a i;
-    log_before = ap (entries_before sim front) (st.log a c i h)
-        ∙ log_at_front law (clone_at cs c) s front front (omega arith)
-        ∙ sym (st.log a c i h);
-    from_front = subst (AllByRecursion (λ m. front ≤ sim.time m)) (sym (st.due a c i h))
-        (due_at-from_front law (clone_at cs c) s front);
-  }
-
   -- copies with one log are one copy
   one_copy : (a b : Copy S M N K) (c d : ℕ) → In a old → In b old → Carries has a c → Carries has b d →
       a.log ≡ b.log → a ≡ b
   one_copy a b c d i l h k e = st.shared a b c d i l h k (sym (st.log a c i h) ∙ e ∙ st.log b d l k)
+
+-- copies at a front, the messages that clones take there, and a bound at which each copy's run alone ends with the
+-- clone's log
+module _ {S M N K : Type 0} {sim : Simulation S M N} {Good : ℕ → S → Type 0} (law : HandlesLawfully sim Good)
+    {has : K → ℕ → Bool} {join : K → K → K} (j : JoinsMarks has join) (cs : List Clone) (s front bound : ℕ)
+    (old : List (Copy S M N K)) (st : StandsByLogs sim has cs front s old)
+    (taken_late : (a : Copy S M N K) (c : ℕ) → In a old → Carries has a c
+    → AllByRecursion (λ m. front ≤ sim.time m) (messages_taken sim has (ends_of sim cs) c a.pending))
+    (alone_log : (a : Copy S M N K) (c : ℕ) → In a old → Carries has a c
+    → (alone_from sim has (ends_of sim cs) s bound a c).at.log ≡ log_at sim (clone_at cs c) s bound) where
+  -- copies that represent clones are at the front
+  pub at_front : (a : Copy S M N K) (c : ℕ) → In a old → Carries has a c →
+      AtFront law j (ends_of sim cs) s front bound a c
+  at_front a c i h = record {
+    good = good_state law cs s front old st a c i h;
+    sorted = st.sorted a i;
+    log_before = ap (entries_before sim front) (st.log a c i h)
+        ∙ log_at_front law (clone_at cs c) s front front (omega arith)
+        ∙ sym (st.log a c i h);
+    from_front = taken_late a c i h;
+  }
 
   -- what the copies gain together is what one of them gains
   counted_together : (xs : List (Copy S M N K)) (n : ℕ) → ((a : Copy S M N K) → In a xs → In a old) → Disjoint has xs →
@@ -252,39 +264,23 @@ module _ {S M N K : Type 0} {sim : Simulation S M N} {Good : ℕ → S → Type 
       subst (IsCount (GainedBy sim has (ends_of sim cs) s bound (a ∷ xs))) (sym h.4)
       (counted_more law j (ends_of sim cs) s front bound a xs h.0 h.1 (λ b c i k. at_front b c (within b i) k)
       (λ b c e i k l same.
-      let is : a ≡ b = one_copy a b c e (within a (inl refl)) (within b (inr i)) k l same in
+      let is : a ≡ b = one_copy law cs s front old st a b c e (within a (inl refl)) (within b (inr i)) k l same in
       all_in (λ b. (c : ℕ) → Carries has a c → ¬ (Carries has b c)) xs b d.0 i c k (subst (λ u. Carries has u c) is k))
       h.2 (counted_together xs h.1 (λ b i. within b (inr i)) d.1 h.3))
 
-  module _ (later : front ≤ bound) (within : bound ≤ next_front sim cs front) where
-    -- a copy's window for a clone gives the clone's log at the bound
-    alone_log : (a : Copy S M N K) (c : ℕ) → In a old → Carries has a c →
-        (alone_from sim has (ends_of sim cs) s bound a c).at.log ≡ log_at sim (clone_at cs c) s bound
-    alone_log a c i h =
-        let k : Clone = clone_at cs c in
-        let e : ℕ = ends_of sim cs c in
-        let w = windows_give_run law cs k front bound (clone_in cs c (st.living a c i h)) later within in
-        ap (λ u. u.at.log)
-        (ap (λ l. local_run sim s l a.state (messages_taken sim has (ends_of sim cs) c a.pending) bound e)
-        (st.log a c i h)
-        ∙ (ap (λ l. local_run sim s (log_at sim k s front) l
-        (messages_taken sim has (ends_of sim cs) c a.pending) bound e)
-        (st.state a c i h)
-        ∙ ap (λ l. local_run sim s (log_at sim k s front) (state_at sim k s front) l bound e) (st.due a c i h)))
-        ∙ sym (w.log s)
-
-    -- and so do the clone's turns
+  module _ (later : front ≤ bound) where
+    -- a clone's turns end with the clone's log at the bound
     pub last_log : (a : Copy S M N K) (c : ℕ) (d : Config (LocalStation S M N) M) → In a old → Carries has a c →
         Turns sim has (ends_of sim cs) s bound c (view sim has (ends_of sim cs) c a []) d →
         IsSettled sim.time bound d → d.at.log ≡ log_at sim (clone_at cs c) s bound
-    last_log a c d i h ran done = (ends_alone law j (ends_of sim cs) s bound a c d (good_state a c i h)
-        (st.sorted a i) ran done).log
+    last_log a c d i h ran done = (ends_alone law j (ends_of sim cs) s bound a c d
+        (good_state law cs s front old st a c i h) (st.sorted a i) ran done).log
         ∙ alone_log a c i h
 
     -- those over the limit are the clones whose logs at the bound are beyond it
-    pub over_is_beyond : (over : K) → AreOver sim has (ends_of sim cs) s bound old over → (c : ℕ) →
+    pub over_by_logs : (over : K) → AreOver sim has (ends_of sim cs) s bound old over → (c : ℕ) →
         (has over c ≡ true) ↔ ((c < length cs) × IsBeyond sim s bound (clone_at cs c))
-    over_is_beyond over h c = (
+    over_by_logs over h c = (
       (λ o. let x = h.from c o in (
         st.living x.0 c x.1 x.2,
         subst (λ l. sim.limit < length l) (alone_log x.0 c x.1 x.2) x.3,
@@ -312,11 +308,11 @@ module _ {S M N K : Type 0} {sim : Simulation S M N} {Good : ℕ → S → Type 
     New = GainedBy sim has (ends_of sim cs) s bound old
 
     -- handled once at the bound, of no log more than the limit: what was at the front, and what the copies gained
-    pub handled_grows_to_limit : (same : Entry M N → Entry M N → Bool) (total : ℕ) →
+    pub handled_to_limit_by_logs : (same : Entry M N → Entry M N → Bool) (total : ℕ) →
         TellsEntries same → AreWithinLimitAt sim cs s front →
         GainTogether sim has (ends_of sim cs) s bound old total →
         handled_to_limit sim same cs s bound ≡ handled_once sim same cs s front + total
-    handled_grows_to_limit same total decides short together =
+    handled_to_limit_by_logs same total decides short together =
         count_unique Late (handled_to_limit sim same cs s bound) (handled_once sim same cs s front + total)
         (prefixes_count same decides cut_logs)
         (count_same (λ p. Early p ⊎ New p) Late (handled_once sim same cs s front + total)
@@ -415,8 +411,8 @@ module _ {S M N K : Type 0} {sim : Simulation S M N} {Good : ℕ → S → Type 
                 prefix = r.1;
               })
               | inr r ↦
-                  let d = turns-settle law j (ends_of sim cs) s bound a.0 [] c.0 (good_state a.0 c.0 a.1 a.2)
-                  (st.sorted a.0 a.1) in
+                  let d = turns-settle law j (ends_of sim cs) s bound a.0 [] c.0
+                  (good_state law cs s front old st a.0 c.0 a.1 a.2) (st.sorted a.0 a.1) in
                   let there = last_log a.0 c.0 d.0 a.1 a.2 d.1 d.2 in
                   inr (
                     a.0,
@@ -442,27 +438,27 @@ module _ {S M N K : Type 0} {sim : Simulation S M N} {Good : ℕ → S → Type 
             ]
 
     -- where no log gets too long, nothing is cut
-    pub handled_grows : (same : Entry M N → Entry M N → Bool) (total : ℕ) →
+    pub handled_once_by_logs : (same : Entry M N → Entry M N → Bool) (total : ℕ) →
         TellsEntries same → AreWithinLimitAt sim cs s bound →
         GainTogether sim has (ends_of sim cs) s bound old total →
         handled_once sim same cs s bound ≡ handled_once sim same cs s front + total
-    handled_grows same total decides short together =
+    handled_once_by_logs same total decides short together =
         ap (λ l. distinct_count (same_list same) (flat_map prefixes l))
         (sym (none_cut sim.limit (logs_at sim cs s bound) (λ l i.
         let k = in_map (λ k. log_at sim k s bound) cs l i in
         let c = place_in cs k.0 k.1 in
         subst (λ t. length t ≤ sim.limit) (ap (λ k. log_at sim k s bound) c.2 ∙ sym k.2)
         (not_beyond sim (clone_at cs c.0) s bound (short c.0 c.1)))))
-        ∙ handled_grows_to_limit same total decides
+        ∙ handled_to_limit_by_logs same total decides
         (λ c l long. short c l (IsBeyond-later law (clone_at cs c) s front bound later long)) together
 
     -- and at most so much is handled once: as much as logs cut to the limit have
-    pub handled_is_few : (same : Entry M N → Entry M N → Bool) (total : ℕ) →
+    pub handled_few_by_logs : (same : Entry M N → Entry M N → Bool) (total : ℕ) →
         TellsEntries same → AreWithinLimitAt sim cs s front →
         GainTogether sim has (ends_of sim cs) s bound old total →
         handled_once sim same cs s front + total ≤ length cs * sim.limit
-    handled_is_few same total decides short together =
-        let e = handled_grows_to_limit same total decides short together in
+    handled_few_by_logs same total decides short together =
+        let e = handled_to_limit_by_logs same total decides short together in
         let d : distinct_count (same_list same) (flat_map prefixes cut_logs) ≤ length (flat_map prefixes cut_logs) =
         distinct_count-le (same_list same) (flat_map prefixes cut_logs) in
         let f : length (flat_map prefixes cut_logs) ≤ length (logs_at sim cs s bound) * sim.limit =
@@ -474,8 +470,8 @@ module _ {S M N K : Type 0} {sim : Simulation S M N} {Good : ℕ → S → Type 
 -- ---- copies
 
 module _ {S M N K : Type 0} {sim : Simulation S M N} {Good : ℕ → S → Type 0} (law : HandlesLawfully sim Good)
-    {has : K → ℕ → Bool} {join : K → K → K} (j : JoinsMarks has join) (cs : List Clone) (s front : ℕ)
-    (old : List (Copy S M N K)) (st : Stands sim has cs front s old) where
+    {has : K → ℕ → Bool} (cs : List Clone) (s front : ℕ)
+    (old : List (Copy S M N K)) (st : StandsByLogs sim has cs front s old) where
   -- copies that are apart have different logs
   logs_apart : (xs : List (Copy S M N K)) → ((a : Copy S M N K) → In a xs → In a old) → Disjoint has xs →
       Apart (map (λ a. a.log) xs)
@@ -485,7 +481,7 @@ module _ {S M N K : Type 0} {sim : Simulation S M N} {Good : ℕ → S → Type 
         let h = in_map (λ a. a.log) xs x.log i in
         let here = st.inhabited x (within x (inl refl)) in
         let there = st.inhabited h.0 (within h.0 (inr h.1)) in
-        let e : x ≡ h.0 = one_copy law j cs s front front old st x h.0 here.0 there.0 (within x (inl refl))
+        let e : x ≡ h.0 = one_copy law cs s front old st x h.0 here.0 there.0 (within x (inl refl))
         (within h.0 (inr h.1)) here.1 there.1 h.2 in
         all_in (λ b. (c : ℕ) → Carries has x c → ¬ (Carries has b c)) xs h.0 d.0 h.1 here.0 here.1
         (subst (λ u. Carries has u here.0) e here.1)),
@@ -493,9 +489,9 @@ module _ {S M N K : Type 0} {sim : Simulation S M N} {Good : ℕ → S → Type 
   )
 
   -- there are as many copies as different logs
-  pub copies_are_logs : (same : Entry M N → Entry M N → Bool) → TellsEntries same →
+  pub copies_by_logs : (same : Entry M N → Entry M N → Bool) → TellsEntries same →
       copies sim same cs s front ≡ length old
-  copies_are_logs same decides =
+  copies_by_logs same decides =
       count_unique (λ l. In l (logs_at sim cs s front)) (copies sim same cs s front) (length old)
       (distinct_is_count (same_list same) (same_list-Decides same decides) (logs_at sim cs s front))
       (record {
@@ -515,3 +511,69 @@ module _ {S M N K : Type 0} {sim : Simulation S M N} {Good : ℕ → S → Type 
             ∙ sym h.2) (map_has (λ a. a.log) old a.0 a.1);
         number = rw length-map refl;
       })
+
+-- ---- Stands
+
+module _ {S M N K : Type 0} {sim : Simulation S M N} {Good : ℕ → S → Type 0} (law : HandlesLawfully sim Good)
+    {has : K → ℕ → Bool} {join : K → K → K} (j : JoinsMarks has join) (cs : List Clone) (s front : ℕ)
+    (old : List (Copy S M N K)) (st : Stands sim has cs front s old) where
+  -- there are as many copies as different logs
+  pub copies_are_logs : (same : Entry M N → Entry M N → Bool) → TellsEntries same →
+      copies sim same cs s front ≡ length old
+  copies_are_logs = copies_by_logs law cs s front old (stands_by_logs sim has cs front s old st)
+
+module _ {S M N K : Type 0} {sim : Simulation S M N} {Good : ℕ → S → Type 0} (law : HandlesLawfully sim Good)
+    {has : K → ℕ → Bool} {join : K → K → K} (j : JoinsMarks has join) (cs : List Clone) (s front bound : ℕ)
+    (old : List (Copy S M N K)) (st : Stands sim has cs front s old) where
+  -- the messages that a clone takes come at the front or later
+  taken_from_front : (a : Copy S M N K) (c : ℕ) → In a old → Carries has a c →
+      AllByRecursion (λ m. front ≤ sim.time m) (messages_taken sim has (ends_of sim cs) c a.pending)
+  taken_from_front a c i h = subst (AllByRecursion (λ m. front ≤ sim.time m)) (sym (st.due a c i h))
+      (due_at-from_front law (clone_at cs c) s front)
+
+  module _ (later : front ≤ bound) (within : bound ≤ next_front sim cs front) where
+    -- a copy's window for a clone ends with the clone's log at the bound
+    window_log : (a : Copy S M N K) (c : ℕ) → In a old → Carries has a c →
+        (alone_from sim has (ends_of sim cs) s bound a c).at.log ≡ log_at sim (clone_at cs c) s bound
+    window_log a c i h =
+        let k : Clone = clone_at cs c in
+        let e : ℕ = ends_of sim cs c in
+        let w = windows_give_run law cs k front bound (clone_in cs c (st.living a c i h)) later within in
+        ap (λ u. u.at.log)
+        (ap (λ l. local_run sim s l a.state (messages_taken sim has (ends_of sim cs) c a.pending) bound e)
+        (st.log a c i h)
+        ∙ (ap (λ l. local_run sim s (log_at sim k s front) l
+        (messages_taken sim has (ends_of sim cs) c a.pending) bound e)
+        (st.state a c i h)
+        ∙ ap (λ l. local_run sim s (log_at sim k s front) (state_at sim k s front) l bound e) (st.due a c i h)))
+        ∙ sym (w.log s)
+
+    -- those over the limit are the clones whose logs at the bound are beyond it
+    pub over_is_beyond : (over : K) → AreOver sim has (ends_of sim cs) s bound old over → (c : ℕ) →
+        (has over c ≡ true) ↔ ((c < length cs) × IsBeyond sim s bound (clone_at cs c))
+    over_is_beyond = over_by_logs law j cs s front bound old (stands_by_logs sim has cs front s old st)
+        taken_from_front window_log later
+
+    -- handled once at the bound, of each log no more than the limit: what was at the front, and what the copies gained
+    pub handled_grows_to_limit : (same : Entry M N → Entry M N → Bool) (total : ℕ) →
+        TellsEntries same → AreWithinLimitAt sim cs s front →
+        GainTogether sim has (ends_of sim cs) s bound old total →
+        handled_to_limit sim same cs s bound ≡ handled_once sim same cs s front + total
+    handled_grows_to_limit = handled_to_limit_by_logs law j cs s front bound old
+        (stands_by_logs sim has cs front s old st) taken_from_front window_log later
+
+    -- if no log gets too long, nothing is cut
+    pub handled_grows : (same : Entry M N → Entry M N → Bool) (total : ℕ) →
+        TellsEntries same → AreWithinLimitAt sim cs s bound →
+        GainTogether sim has (ends_of sim cs) s bound old total →
+        handled_once sim same cs s bound ≡ handled_once sim same cs s front + total
+    handled_grows = handled_once_by_logs law j cs s front bound old (stands_by_logs sim has cs front s old st)
+        taken_from_front window_log later
+
+    -- the limit for each clone bounds what is handled once
+    pub handled_is_few : (same : Entry M N → Entry M N → Bool) (total : ℕ) →
+        TellsEntries same → AreWithinLimitAt sim cs s front →
+        GainTogether sim has (ends_of sim cs) s bound old total →
+        handled_once sim same cs s front + total ≤ length cs * sim.limit
+    handled_is_few = handled_few_by_logs law j cs s front bound old (stands_by_logs sim has cs front s old st)
+        taken_from_front window_log later

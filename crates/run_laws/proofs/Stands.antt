@@ -14,7 +14,7 @@ use Rattle.run_laws.specs.Fronts.{next_front}
 use Rattle.run_laws.specs.Handlers.{IsStation, HandlesLawfully, SendsToStations, AllAreForStations}
 use Rattle.run_laws.specs.Laws.{entries_before, window, WindowsGive}
 use Rattle.run_laws.specs.Copies.{Copy, Carries, takes, messages_taken, alone_from, IsStepped}
-use Rattle.run_laws.specs.Copies.{ends_of, Stands, EachIsStepped, HasReceived, IsDelivered}
+use Rattle.run_laws.specs.Copies.{ends_of, StandsByLogs, Stands, EachIsStepped, HasReceived, IsDelivered}
 use Rattle.run_laws.proofs.Queue.{same_elements}
 use Rattle.run_laws.proofs.Lists.{in_filter, filter_keeps, sorted_filter, in_own}
 use Rattle.run_laws.proofs.Running.{all_from_zero, run_is}
@@ -41,7 +41,7 @@ nothing_in (x ∷ xs) f = absurd (f x (inl refl))
 -- ---- IsStation
 
 -- a number is a station's, or not
-station_or_not : {S M N : Type 0} (sim : Simulation S M N) (r : ℕ) → IsStation sim r ⊎ (IsStation sim r → ⊥)
+pub station_or_not : {S M N : Type 0} (sim : Simulation S M N) (r : ℕ) → IsStation sim r ⊎ (IsStation sim r → ⊥)
 station_or_not sim r = elim (cases_lt 0 r) [
   | inl a ↦ elim (cases_lt sim.stations r) [
     | inl b ↦ inr (λ h. let l : r ≤ sim.stations = h.1 in omega arith)
@@ -66,6 +66,22 @@ module _ {S M N : Type 0} {sim : Simulation S M N} {Good : ℕ → S → Type 0}
         from_t = all_from_zero sim.time (due_at sim c r front);
       })
       stay (subst (AllByRecursion (λ m. min bound (end_of sim c) ≤ sim.time m)) (sym e) tt)))
+
+-- ---- StandsByLogs
+
+-- copies that represent the clones at a front represent them there by their logs
+pub stands_by_logs : {S M N K : Type 0} (sim : Simulation S M N) (has : K → ℕ → Bool) (cs : List Clone) (front s : ℕ)
+    (copies : List (Copy S M N K)) → Stands sim has cs front s copies → StandsByLogs sim has cs front s copies
+stands_by_logs sim has cs front s copies st = record {
+  inhabited = st.inhabited;
+  carried = st.carried;
+  living = st.living;
+  disjoint = st.disjoint;
+  log = st.log;
+  state = st.state;
+  shared = st.shared;
+  sorted = st.sorted;
+}
 
 -- ---- Stands
 

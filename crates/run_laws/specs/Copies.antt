@@ -283,6 +283,20 @@ module _ {S M N : Type 0} (sim : Simulation S M N) where
   ends_of cs c = end_of sim (clone_at cs c)
 
 module _ {S M N K : Type 0} (sim : Simulation S M N) (has : K → ℕ → Bool) (cs : List Clone) where
+  -- the copies of station s represent the clones at a time by their logs and states. Each clone is in one copy, which
+  -- has the clone's log and state; clones with equal logs are in one copy. Pending messages are any, in order
+  pub record StandsByLogs (time s : ℕ) (copies : List (Copy S M N K)) : Type 0 where
+    pub inhabited : (a : Copy S M N K) → In a copies → (c : ℕ) × Carries has a c
+    pub carried : (c : ℕ) → c < length cs → (a : Copy S M N K) × In a copies × Carries has a c
+    pub living : (a : Copy S M N K) (c : ℕ) → In a copies → Carries has a c → c < length cs
+    pub disjoint : Disjoint has copies
+    pub log : (a : Copy S M N K) (c : ℕ) → In a copies → Carries has a c → a.log ≡ log_at sim (clone_at cs c) s time
+    pub state : (a : Copy S M N K) (c : ℕ) → In a copies → Carries has a c →
+        a.state ≡ state_at sim (clone_at cs c) s time
+    pub shared : (a b : Copy S M N K) (c d : ℕ) → In a copies → In b copies → Carries has a c → Carries has b d →
+        log_at sim (clone_at cs c) s time ≡ log_at sim (clone_at cs d) s time → a ≡ b
+    pub sorted : (a : Copy S M N K) → In a copies → SortedMarked sim.order a.pending
+
   -- the copies of station s stand for the clones at a front: each clone is in one copy, which has the clone's log,
   -- state and due messages, and clones whose logs are equal are in one copy
   pub record Stands (front s : ℕ) (copies : List (Copy S M N K)) : Type 0 where
