@@ -1,0 +1,42 @@
+//! The laws of link clocks and of rounds: each function's contract is a law, and there is nothing to run.
+//!
+//! `specs/RoundLaws.antt` states the laws.
+ghost use Rattle.link_laws.specs.RoundLaws.{ClockRises, ClockIsLeast, ClockReachesHorizon, RoundsAreBounded};
+ghost use Rattle.link_laws.specs.RoundLaws.{FirstDoneIsRounds, ClocksMakeRounds, RoundsGiveRuns, DueIsWaiting};
+ghost use Rattle.link_laws.specs.RoundLaws.{FrontIsCut, SameCut, StandsAfterRound, RoundGivesLogs};
+ghost use Rattle.link_laws.specs.RoundLaws.{HandledGrowsInRound, HandledIsFewInRound, OverIsBeyondInRound};
+ghost use Rattle.link_laws.specs.RoundLaws.{CopiesAreLogsAtCut};
+
+use run_laws::laws::Stations;
+
+/// Clocks rise link by link to the horizon, in a bounded number of rounds.
+pub fn clocks_reach_the_horizon<S, M, N, T: Stations<S, M, N>>()
+    ensures rises { ClockRises T.sim T.good }
+    ensures least { ClockIsLeast T.sim T.good }
+    ensures at_horizon { ClockReachesHorizon T.sim T.good }
+    ensures at_most { RoundsAreBounded T.sim T.good }
+    ensures rounds { FirstDoneIsRounds T.sim T.good }
+{}
+
+/// In a round each station may go alone, from its clock to its next one.
+pub fn rounds_give_runs<S, M, N, T: Stations<S, M, N>>()
+    ensures clocks { ClocksMakeRounds T.sim T.good }
+    ensures alone { RoundsGiveRuns T.sim T.good }
+    ensures due { DueIsWaiting T.sim T.good }
+{}
+
+/// From cut to cut the copies of each station represent the clones.
+pub fn copies_stand_at_cuts<S, M, N, K, T: Stations<S, M, N>>()
+    ensures front { FrontIsCut K T.sim T.good }
+    ensures same { SameCut K T.sim T.good }
+    ensures round { StandsAfterRound K T.sim T.good }
+    ensures logs { RoundGivesLogs K T.sim T.good }
+{}
+
+/// The messages that a round handles once, and the clones over the limit, by the logs alone.
+pub fn rounds_gain<S, M, N, K, T: Stations<S, M, N>>()
+    ensures grows { HandledGrowsInRound K T.sim T.good }
+    ensures at_most { HandledIsFewInRound K T.sim T.good }
+    ensures over { OverIsBeyondInRound K T.sim T.good }
+    ensures copies { CopiesAreLogsAtCut K T.sim T.good }
+{}
