@@ -12,6 +12,7 @@ pub mod RouterLaws
 pub mod SinkLaws
 pub mod KindLaws
 pub mod Lawful
+pub mod RestoringLaws
 pub mod OpeningLaws
 pub mod GoodLaws
 pub mod ReplayLaws

@@ -1,5 +1,5 @@
 -- Links and their weights.
-use Rattle.std.proofs.Common.{◌≡◌, ◌≤◌, List, length, arith}
+use Rattle.std.proofs.Common.{◌≡◌, List, length, arith}
 use Rattle.std.proofs.lemmas.List.{length-map}
 use Rattle.sim_base.specs.Weights.{IsWeight}
 use Rattle.sim_base.proofs.ListLaws.{all_map}

@@ -18,6 +18,7 @@ pub mod Routers
 pub mod Classes
 pub mod Changes
 pub mod SeveralLinks
+pub mod SavedStates
 
 -- time, receiver, sender, number, payload, counts
 abbrev pub at : ℕ → ℕ → ℕ → ℕ → Payload → Line → Entry Msg Line

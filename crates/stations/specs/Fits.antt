@@ -19,7 +19,7 @@ use Rattle.stations.specs.declared.kind_state.DelayState.{DelayState}
 use Rattle.stations.specs.declared.kind_state.RouterState.{RouterState}
 use Rattle.stations.specs.declared.kind_state.SinkState.{SinkState}
 use Rattle.stations.specs.Handling.{StateView}
-use Rattle.stations.specs.declared.sender.TheConstants.{ALL_TIMES, MOST_SENDS}
+use Rattle.stations.specs.declared.sender.TheConstants.{ALL_STAYS, ALL_TIMES, MOST_SENDS}
 
 -- links over which jobs may go
 pub record AreLinks (links : List Link) : Type 0 where
@@ -33,11 +33,12 @@ abbrev pub HasLinks : KindState → List Link → Type 0
 HasLinks (Sink s) links = Unit {0}
 HasLinks _ links = AreLinks links
 
--- a source has a range of times from 1 on and no more jobs than the most, and sent no more than it handled messages
+-- a source has a range of times from 1 on and no more jobs than the most; it may be restored with any number of jobs
+-- sent that a model allows, and has sent at most one more for each message that it handled
 pub record FitsSource (handled : ℕ) (s : SourceState) : Type 0 where
   pub range : IsRange 1 s.lo s.hi
   pub jobs : s.jobs ≤ MOST_JOBS
-  pub sent : s.sent ≤ handled
+  pub sent : s.sent ≤ MOST_JOBS + handled
 
 -- a server's parameters keep to the rules, and nobody waits beside a free server
 pub record FitsServer (handled : ℕ) (s : ServerState) : Type 0 where
@@ -58,10 +59,11 @@ pub record FitsRouter (handled : ℕ) (s : RouterState) : Type 0 where
   pub weights : AreWeights s.weights.items
   pub passed : s.passed ≤ handled
 
--- a sink got no more jobs than it handled messages, and their stays are at most `ALL_TIMES` for each message
+-- a sink got no more jobs than it handled messages; it may be restored with any sum of stays below `ALL_STAYS`, which
+-- has grown by at most `ALL_TIMES` for each message
 pub record FitsSink (handled : ℕ) (s : SinkState) : Type 0 where
   pub got : s.got ≤ handled
-  pub stay : s.stay ≤ ALL_TIMES * handled
+  pub stay : s.stay ≤ ALL_STAYS + ALL_TIMES * handled
 
 -- what a state of each kind keeps, after so many messages were handled
 abbrev pub FitsKind : ℕ → KindState → Type 0

@@ -8,6 +8,8 @@ pub mod Sinks
 pub mod Handling
 pub mod Opening
 pub mod Fits
+pub mod Saving
+pub mod Fitting
 pub mod Sends
 pub mod Good
 pub mod Runs

@@ -2,7 +2,8 @@
 //!
 //! The models and the traces that are expected stand in `specs/Examples/`, an entry of a log written
 //! as a line of a trace text reads. Each function's contract is a theorem; there is nothing to run.
-ghost use Rattle.std.specs.Prelude.{◌≡◌, [], ◌∷◌, true, false};
+ghost use Rattle.std.specs.Prelude.{◌≡◌, [], ◌∷◌, Some, true, false, filter};
+ghost use Rattle.std.specs.List.{list_all};
 ghost use Rattle.sim_base.specs.Clones.{base};
 ghost use Rattle.stations.specs.Runs.{trace_of, log_at, state_at, replay, window};
 ghost use Rattle.stations.specs.Runs.{copies, handled_once, handled_alone, AreFronts, IsBeyond};
@@ -14,12 +15,18 @@ ghost use Rattle.stations.specs.Examples.FullRoom.{three_sources, no_room_trace,
 ghost use Rattle.stations.specs.Examples.FullRoom.{desk as shared_desk, less, less_log};
 ghost use Rattle.stations.specs.Examples.SeveralLinks.{several_links, several_links_trace};
 ghost use Rattle.stations.specs.Examples.Routers.{fan_network, by_turn_trace, by_weights_trace};
-ghost use Rattle.stations.specs.Examples.Routers.{lighter, lighter_trace, fan};
+ghost use Rattle.stations.specs.Examples.Routers.{lighter, lighter_trace, fan, slow};
 ghost use Rattle.stations.specs.Examples.Changes.{answers, server_changes, server_answers};
 ghost use Rattle.stations.specs.Examples.Changes.{delay_changes, delay_answers, weight_changes};
 ghost use Rattle.stations.specs.Examples.Changes.{weight_answers, turn_answers, IsIgnored};
 ghost use Rattle.stations.specs.Examples.{tick, job, done, set};
 ghost use Rattle.sim_base.specs.declared.message.Param.TheVariants.{Service};
+ghost use Rattle.stations.specs.Fitting.{fits_saved};
+ghost use Rattle.stations.specs.Saving.{saved_of, restored};
+ghost use Rattle.stations.specs.Examples.SavedStates.{gate_at_10, desk_at_10, out_at_10, sources_at_bounds};
+ghost use Rattle.stations.specs.Examples.SavedStates.{unfit_sources, servers_at_bounds, unfit_servers, sinks_at_bounds};
+ghost use Rattle.stations.specs.Examples.SavedStates.{unfit_sinks, routers_at_bounds, unfit_routers, delays_at_bounds};
+ghost use Rattle.stations.specs.Examples.SavedStates.{unfit_delays};
 ghost use Rattle.stations.specs.Examples.Classes.{two_classes, by_class_trace, by_arrival_trace};
 
 /// A server serves one job at a time, and the next one waits.
@@ -156,4 +163,32 @@ pub fn report_of_two_branches()
     ensures out_copies { copies one_desk two_branches out 20 ≡ 2 }
     ensures out_handled { handled_once one_desk two_branches out 20 ≡ 3 }
     ensures out_alone { handled_alone one_desk two_branches out 20 ≡ 4 }
+{}
+
+/// The states of the three stations at 10 as plain data, which restores them.
+pub fn states_as_plain_data()
+    ensures gate { saved_of (state_at one_desk base gate 10) ≡ gate_at_10 }
+    ensures desk { saved_of (state_at one_desk base desk 10) ≡ desk_at_10 }
+    ensures out { saved_of (state_at one_desk base out 10) ≡ out_at_10 }
+    ensures gate_again { restored one_desk gate gate_at_10 ≡ Some (state_at one_desk base gate 10) }
+    ensures desk_again { restored one_desk desk desk_at_10 ≡ Some (state_at one_desk base desk 10) }
+    ensures out_again { restored one_desk out out_at_10 ≡ Some (state_at one_desk base out 10) }
+{}
+
+/// Plain data at the bounds of what fits a station.
+pub fn data_at_the_bounds()
+    ensures sources { list_all (fits_saved one_desk gate) sources_at_bounds ≡ true }
+    ensures servers { list_all (fits_saved one_desk desk) servers_at_bounds ≡ true }
+    ensures sinks { list_all (fits_saved one_desk out) sinks_at_bounds ≡ true }
+    ensures routers { list_all (fits_saved (fan_network true) fan) routers_at_bounds ≡ true }
+    ensures delays { list_all (fits_saved (fan_network true) slow) delays_at_bounds ≡ true }
+{}
+
+/// Plain data that breaks one bound, row by row: none of it fits.
+pub fn data_beyond_the_bounds()
+    ensures sources { filter (fits_saved one_desk gate) unfit_sources ≡ [] }
+    ensures servers { filter (fits_saved one_desk desk) unfit_servers ≡ [] }
+    ensures sinks { filter (fits_saved one_desk out) unfit_sinks ≡ [] }
+    ensures routers { filter (fits_saved (fan_network true) fan) unfit_routers ≡ [] }
+    ensures delays { filter (fits_saved (fan_network true) slow) unfit_delays ≡ [] }
 {}

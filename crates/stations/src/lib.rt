@@ -19,6 +19,12 @@
 //!     let (mut state, first) = state::setup(alloc, &model, 1)?;      // a source's first tick
 //!     let line = state::handle(&mut state, &model, &msg, &mut out, &mut steps)?;
 //!
+//! A state can be written down as plain data and restored from it. The restored state goes on drawing where the first
+//! one stopped, and data that is no state of the station is refused:
+//!
+//!     let saved = state.saved(alloc)?;
+//!     let again = State::restore(alloc, &model, 1, &saved)?;
+//!
 //! A message costs a constant time; a queue that is served by class is looked through twice. A handling sends at
 //! most `MOST_SENDS` messages, and none is allocated.
 //!
@@ -32,10 +38,14 @@ pub mod decision;
 mod delay;
 pub mod due;
 pub mod examples;
+pub mod job_line;
 pub mod job_queue;
 pub mod kind_state;
 pub mod laws;
+pub mod restoring;
 mod router;
+pub mod saved;
+mod saving;
 pub mod sender;
 mod server;
 mod sink;
@@ -43,7 +53,9 @@ mod source;
 pub mod state;
 
 pub use change::ChangeFault;
+pub use job_line::JobLine;
 pub use job_queue::JobQueue;
 pub use kind_state::{DelayState, KindState, RouterState, ServerState, SinkState, SourceState};
+pub use saved::{RestoreFault, Saved, Shape};
 pub use sender::{MOST_SENDS, Sender};
 pub use state::State;

@@ -243,6 +243,32 @@ pub fn setup(alloc: Global, model: &Model, station: u32) -> Result<(State, Optio
 }
 
 impl State {
+    // A state of its parts, which keep what every state keeps.
+    pub(crate) fn of(sender: Sender, handled: u64, kind: KindState) -> State
+        requires fits { FitsState (record { sender = sender; handled = handled; kind = kind }) }
+        ensures value { result ≡ record { sender = sender; handled = handled; kind = kind } }
+    {
+        State {
+            sender,
+            handled,
+            kind,
+        }
+    }
+
+    pub(crate) fn sender(&self) -> &Sender
+        ensures value { result.now ≡ self.now.sender }
+        ensures fits { FitsState self.now }
+    {
+        &self.sender
+    }
+
+    pub(crate) fn kind(&self) -> &KindState
+        ensures value { result.now ≡ self.now.kind }
+        ensures fits { FitsState self.now }
+    {
+        &self.kind
+    }
+
     /// How many messages the station has handled.
     pub fn handled(&self) -> u64
         ensures { result ≡ self.now.handled }
@@ -290,7 +316,8 @@ fn copy_kind(kind: &KindState, alloc: Global) -> Result<KindState, NoMemory>
     }
 }
 
-fn copy_weights(weights: &[u32]) -> ArrayVec<u32, MOST_LINKS>
+// Weights of their own, equal to these.
+pub(crate) fn copy_weights(weights: &[u32]) -> ArrayVec<u32, MOST_LINKS>
     requires { length weights.now ≤ MOST_LINKS }
     ensures { result.items ≡ weights.now }
 {

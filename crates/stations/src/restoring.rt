@@ -1,0 +1,204 @@
+//! How plain data becomes the state of a station again, if it may be one.
+ghost use Rattle.std.specs.Prelude.{◌≡◌, ◌+◌, ◌≤◌, length, Some, None, IfOk, IfErr, OnOk, true, false};
+ghost use Rattle.std.specs.List.{list_all};
+ghost use Rattle.net_model.specs.Net.{HasStation, is_source, site_of};
+ghost use Rattle.net_model.specs.Rules.{is_within};
+ghost use Rattle.net_model.specs.Sites.{as_site};
+ghost use Rattle.net_model.specs.declared.limits.TheConstants.{MOST_WEIGHT};
+ghost use Rattle.stations.specs.Fits.{FitsState, SuitsNet};
+ghost use Rattle.stations.specs.Fitting.{is_job_of, fits_shape, fits_saved};
+ghost use Rattle.stations.specs.Saving.{restored_kind, restored};
+
+use crate::job_line::JobLine;
+use crate::job_queue::JobQueue;
+use crate::kind_state::{DelayState, KindState, RouterState, ServerState, SinkState, SourceState};
+use crate::saved::{RestoreFault, Saved, Shape};
+use crate::sender::{ALL_STAYS, MOST_SENDS, Sender};
+use crate::state::{State, copy_weights};
+use net_model::limits::{MOST_JOBS, MOST_ROOM, MOST_SERVERS, MOST_WEIGHT, is_range};
+use net_model::{Kind, Model, Station};
+use sim_base::{Job, NoMemory};
+use sim_draw::Draws;
+use std::alloc::Global;
+
+fn is_source_at(model: &Model, station: u32) -> bool
+    ensures { result ≡ is_source (site_of model.now station).kind }
+{
+    if station == 0 || station > model.len() {
+        return false;
+    }
+    match model.station(station).kind {
+        Kind::Source { .. } => true,
+        _ => false,
+    }
+}
+
+/// Whether a source of the model may have made the job before the horizon.
+pub fn is_job(model: &Model, job: &Job) -> bool
+    ensures { result ≡ is_job_of model.now job.now }
+{
+    is_source_at(model, job.source) && job.count < MOST_JOBS && job.born < model.horizon()
+}
+
+fn are_weights(weights: &[u32]) -> bool
+    ensures { result ≡ list_all (is_within 1 MOST_WEIGHT) weights.now }
+{
+    weights
+        .iter()
+        .all(|weight| 1 <= *weight && u64::from(*weight) <= MOST_WEIGHT)
+}
+
+fn is_shape_fit(model: &Model, station: &Station, handled: u64, shape: &Shape) -> bool
+    ensures { result ≡ fits_shape model.now (as_site station.now) handled station.now.kind shape.now }
+{
+    match (station.kind, shape) {
+        (Kind::Source { jobs, .. }, Shape::Source { lo, hi, sent }) => is_range(1, *lo, *hi)
+            && *sent <= jobs,
+        (
+            Kind::Server { .. },
+            Shape::Server {
+                servers,
+                room,
+                lo,
+                hi,
+                busy,
+                done,
+                lost,
+                line,
+            },
+        ) => {
+            (1 <= *servers
+                && u64::from(*servers) <= MOST_SERVERS
+                && (u64::from(*room) <= MOST_ROOM && is_range(1, *lo, *hi)))
+                && (*busy <= MOST_SERVERS
+                    && line.len() as u64 <= MOST_ROOM
+                    && (line.len() == 0 || u64::from(*servers) <= *busy)
+                    && (*done <= handled && *lost <= handled && line.are_jobs(model)))
+        }
+        (Kind::Delay { .. }, Shape::Delay { lo, hi, passed }) => is_range(0, *lo, *hi)
+            && *passed <= handled,
+        (Kind::Router { .. }, Shape::Router { passed, weights }) => {
+            (weights.len() == station.links.len() && are_weights(weights.as_slice()))
+                && *passed <= handled
+        }
+        (Kind::Sink, Shape::Sink { got, stay }) => *got <= handled && *stay < ALL_STAYS,
+        _ => false,
+    }
+}
+
+impl Saved {
+    /// Whether the data is a state of this station of the model. Takes no memory.
+    pub fn is_fit(&self, model: &Model, station: u32) -> bool
+        requires is_station { HasStation model.now station }
+        ensures value { result ≡ fits_saved model.now station self.now }
+    {
+        let most = MOST_SENDS as u64;
+        (self.handled <= model.limit()
+            && (self.next <= most * (self.handled + 1) && self.drawn <= most * (self.handled + 1)))
+            && is_shape_fit(model, model.station(station), self.handled, &self.shape)
+    }
+}
+
+fn queue_of(line: &JobLine, alloc: Global) -> Result<JobQueue, NoMemory>
+    ensures { IfOk result (λ queue. queue ≡ line.now) }
+{
+    let mut queue = JobQueue::new(alloc);
+    for place in 0..line.len() {
+        queue.push(line.get(place))?;
+    }
+    Ok(queue)
+}
+
+fn restore_kind(alloc: Global, kind: &Kind, shape: &Shape) -> Result<KindState, RestoreFault>
+    ensures ok { IfOk result (λ k. restored_kind kind.now shape.now ≡ Some k) }
+    ensures unfit { IfErr result (λ e. e ≡ RestoreFault.Unfit → restored_kind kind.now shape.now ≡ None) }
+{
+    match (*kind, shape) {
+        (Kind::Source { jobs, .. }, Shape::Source { lo, hi, sent }) => Ok(KindState::Source(
+            SourceState {
+                lo: *lo,
+                hi: *hi,
+                jobs,
+                sent: *sent,
+            },
+        )),
+        (
+            Kind::Server { .. },
+            Shape::Server {
+                servers,
+                room,
+                lo,
+                hi,
+                busy,
+                done,
+                lost,
+                line,
+            },
+        ) => {
+            let Ok(waiting) = queue_of(line, alloc) else {
+                return Err(RestoreFault::NoMemory);
+            };
+            Ok(KindState::Server(ServerState {
+                servers: *servers,
+                room: *room,
+                lo: *lo,
+                hi: *hi,
+                busy: *busy,
+                waiting,
+                done: *done,
+                lost: *lost,
+            }))
+        }
+        (Kind::Delay { .. }, Shape::Delay { lo, hi, passed }) => Ok(KindState::Delay(DelayState {
+            lo: *lo,
+            hi: *hi,
+            passed: *passed,
+        })),
+        (Kind::Router { .. }, Shape::Router { passed, weights }) => Ok(KindState::Router(
+            RouterState {
+                weights: copy_weights(weights.as_slice()),
+                passed: *passed,
+            },
+        )),
+        (Kind::Sink, Shape::Sink { got, stay }) => Ok(KindState::Sink(SinkState {
+            got: *got,
+            stay: *stay,
+        })),
+        _ => Err(RestoreFault::Unfit),
+    }
+}
+
+impl State {
+    /// The state of a station that plain data restores. Its draws go on where they were.
+    ///
+    /// `Unfit` comes exactly if the data is no state of this station of the model.
+    pub fn restore(
+        alloc: Global,
+        model: &Model,
+        station: u32,
+        saved: &Saved,
+    ) -> Result<State, RestoreFault>
+        // what it asks: the number of a station of the model
+        requires is_station { HasStation model.now station }
+        // what it gives: the state that the data restores, and then the data fits; `Unfit` only if it does not
+        ensures ok { IfOk result (λ st. restored model.now station saved.now ≡ Some st) }
+        ensures fit { OnOk result (fits_saved model.now station saved.now ≡ true) }
+        ensures unfit { IfErr result (λ e. e ≡ RestoreFault.Unfit → fits_saved model.now station saved.now ≡ false) }
+        // what holds of the state: it is one of this station of the network, within its bounds
+        ensures fits { IfOk result (λ st. FitsState st) }
+        ensures suits { IfOk result (λ st. SuitsNet model.now st) }
+        ensures own { IfOk result (λ st. st.sender.station ≡ station) }
+    {
+        if !saved.is_fit(model, station) {
+            return Err(RestoreFault::Unfit);
+        }
+        let site = model.station(station);
+        let kind = restore_kind(alloc, &site.kind, &saved.shape)?;
+        let sender = Sender {
+            station,
+            next: saved.next,
+            draws: Draws::at(model.seed(), site.stream, saved.drawn),
+        };
+        Ok(State::of(sender, saved.handled, kind))
+    }
+}
