@@ -4,6 +4,7 @@ ghost use Rattle.ground_tests.specs.States.{IsStateOf};
 
 mod models;
 mod rows;
+mod saving;
 
 use arrayvec::ArrayVec;
 use models::FIVE_KINDS;
