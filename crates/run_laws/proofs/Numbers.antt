@@ -15,7 +15,7 @@ use Rattle.run_laws.specs.Queue.{In, Sorted}
 use Rattle.run_laws.specs.Machine.{Config, config_after}
 use Rattle.run_laws.specs.Simulation.{Simulation}
 use Rattle.run_laws.specs.World.{World, log_of, put, world_step, first_messages, set_messages, first_world}
-use Rattle.run_laws.specs.Runs.{end_of, run_of, log_at}
+use Rattle.run_laws.specs.Runs.{run, end_of, run_of, log_at}
 use Rattle.run_laws.specs.Sharing.{IsWithinLimit}
 use Rattle.run_laws.specs.Handlers.{AllGood, IsStation, AreForStations, key_order}
 use Rattle.run_laws.specs.Handlers.{HandlesLawfully, SendsToStations, HandlesFreshly}
@@ -65,7 +65,7 @@ module _ {S M N : Type 0} {sim : Simulation S M N} {Good : ℕ → S → Type 0}
   later_world x m q = config_after sim.order (world_step sim.to sim.handle) x m q
 
   -- a world whose messages have numbers that are used up
-  record HasUsedNumbers (plans : List Planned) (w : Config (World S M N) M) : Type 0 where
+  pub record HasUsedNumbers (plans : List Planned) (w : Config (World S M N) M) : Type 0 where
     pub used : (z : M) → IsMessageOf w z →
         ((sender z ≡ 0) × (number z < length plans))
         ⊎ (IsStation sim (sender z) × (number z < next (w.at.states (sender z))))
@@ -156,14 +156,15 @@ module _ {S M N : Type 0} {sim : Simulation S M N} {Good : ℕ → S → Type 0}
         to_station = h.to_station;
       }
 
-  module _ (c : Clone) (front : ℕ) (there : AreForStations sim c.plans) where
-    -- a run is so at each front
-    used_numbers-run : HasUsedNumbers c.plans (run_of sim c front)
-    used_numbers-run = fine_keeps law.order (world_lawful law) 0 (HasUsedNumbers c.plans)
-        (used_numbers-first_world c.plans there)
-        (λ x m q f early h. used_numbers-step c.plans x m q f.good h)
-        (begins_fine law c.plans) (run_reached law c.plans (min front (end_of sim c))).0
+  -- a run is so at each front
+  pub used_numbers-run : (plans : List Planned) (front : ℕ) → AreForStations sim plans →
+      HasUsedNumbers plans (run sim plans front)
+  used_numbers-run plans front there = fine_keeps law.order (world_lawful law) 0 (HasUsedNumbers plans)
+      (used_numbers-first_world plans there)
+      (λ x m q f early h. used_numbers-step plans x m q f.good h)
+      (begins_fine law plans) (run_reached law plans front).0
 
+  module _ (c : Clone) (front : ℕ) (there : AreForStations sim c.plans) where
     -- no two entries have one sender and number
     pub entries_apart : (e f : Entry M N) → In e (run_of sim c front).at.trace → In f (run_of sim c front).at.trace →
         sender e.msg ≡ sender f.msg → number e.msg ≡ number f.msg → e ≡ f
@@ -220,7 +221,7 @@ module _ {S M N : Type 0} {sim : Simulation S M N} {Good : ℕ → S → Type 0}
       pub numbers_low : (m : M) → IsMessageOf (run_of sim c front) m →
           ((sender m ≡ 0) × (number m < length c.plans)) ⊎
           (IsStation sim (sender m) × (number m < most * (length (log_at sim c (sender m) front) + 1)))
-      numbers_low m i = elim ((used_numbers-run c front there).used m i) [
+      numbers_low m i = elim ((used_numbers-run c.plans (min front (end_of sim c)) there).used m i) [
         | inl a ↦ inl a
         | inr a ↦ let l = next_low (sender m) a.0 in let k = a.1 in inr (a.0, omega (arith, l, k))
       ]
