@@ -1,0 +1,10 @@
+pub mod Due
+pub mod Windows
+pub mod Branches
+pub mod Watching
+pub mod Orders
+pub mod Keeping
+pub mod Steps
+pub mod Sources
+pub mod Bodies
+pub mod Limits
