@@ -17,7 +17,7 @@ use Rattle.decision_script.specs.Reading.{ReaderView, after_line, after_lines, a
 use Rattle.decision_script.specs.Reading.{at_line, analyst_place, in_section, new_reader}
 use Rattle.decision_script.specs.Printing.{words_of_act, words_of_section, item_lines, canonical_text}
 use Rattle.decision_script.specs.Laws.{without_line}
-use Rattle.decision_script.proofs.Words.{IsWord, line_saying-join, lines-text}
+use Rattle.decision_script.proofs.JoinedWords.{IsWord, line_saying-join, lines-text}
 use Rattle.decision_script.specs.Lines.{lines}
 use Rattle.decision_script.proofs.Saying.{saying-act, saying-section, act_words, section_words}
 

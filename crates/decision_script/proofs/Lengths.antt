@@ -17,7 +17,7 @@ use Rattle.decision_script.specs.Printing.{item_lines, line_text, longest_item, 
 use Rattle.decision_script.specs.Printing.{words_of_act, words_of_section}
 use Rattle.decision_script.proofs.ItemsReadAgain.{AreKnown, AreNew}
 use Rattle.decision_script.proofs.Saying.{act_words, section_words}
-use Rattle.decision_script.proofs.Words.{IsWord}
+use Rattle.decision_script.proofs.JoinedWords.{IsWord}
 
 -- ---- join_with_byte and line_text
 

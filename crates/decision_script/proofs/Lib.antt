@@ -3,7 +3,7 @@ pub mod OneLine
 pub mod Readings
 pub mod OwnScript
 pub mod TextParts
-pub mod Words
+pub mod JoinedWords
 pub mod Numbers
 pub mod Saying
 pub mod ItemsReadAgain

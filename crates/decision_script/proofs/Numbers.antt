@@ -14,7 +14,7 @@ use Rattle.std.specs.Option.{ok_or}
 use Rattle.decision_script.specs.declared.fault.LineFault.TheVariants.{BadNumber}
 use Rattle.decision_script.specs.declared.number.TheConstants.{MOST_NUMBER}
 use Rattle.decision_script.specs.Sentences.{word_number}
-use Rattle.decision_script.proofs.Words.{is_letter, IsWord, list_all-weaker}
+use Rattle.decision_script.proofs.JoinedWords.{is_letter, IsWord, list_all-weaker}
 
 -- ---- decimal
 

@@ -16,7 +16,7 @@ use Rattle.decision_script.specs.Sentences.{saying, section, look, fork, end, se
 use Rattle.decision_script.specs.Stating.{Fits32, IsName, IsChange, IsAct}
 use Rattle.decision_script.specs.Printing.{words_of_act, words_of_section}
 use Rattle.decision_script.proofs.Numbers.{word_number-decimal, decimal_is_word}
-use Rattle.decision_script.proofs.Words.{is_letter, IsWord, list_all-weaker}
+use Rattle.decision_script.proofs.JoinedWords.{is_letter, IsWord, list_all-weaker}
 
 -- ---- saying
 

@@ -89,11 +89,15 @@ impl From<NoMemory> for ScriptFault {
     }
 }
 
-/// The first rule that a line breaks by itself, or out of memory.
+/// The first rule that a line breaks, whatever the lines before it, or out of memory.
 #[derive(Clone, Copy, Debug, PartialEq, Eq)]
-pub(crate) enum LineFault {
+pub enum LineFault {
+    /// A byte of 128 or more, also in a comment.
     NotAscii,
+    /// The line has no known form.
     BadLine,
+    /// The line has a known form, but one of its numbers is not a number of 32 bits.
     BadNumber,
+    /// Out of memory.
     NoMemory,
 }

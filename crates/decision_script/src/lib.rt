@@ -40,6 +40,7 @@ mod one_clone;
 mod print;
 mod read;
 pub mod script;
+pub mod words;
 
 pub use fault::ScriptFault;
 pub use item::{Act, Item};

@@ -23,7 +23,8 @@ pub(crate) enum Meaning {
     Says(Act),
 }
 
-fn read_name(word: &[u8]) -> Result<Name, LineFault>
+/// The name that a word writes.
+pub fn read_name(word: &[u8]) -> Result<Name, LineFault>
     ensures value { result ≡ where_form (is_name word.now) (Ok word.now) }
 {
     match Name::read(word) {
@@ -32,7 +33,8 @@ fn read_name(word: &[u8]) -> Result<Name, LineFault>
     }
 }
 
-fn read_param(word: &[u8], count: usize) -> Result<Param, LineFault>
+/// The parameter of this word, if a set of it has this number of values.
+pub fn read_param(word: &[u8], count: usize) -> Result<Param, LineFault>
     ensures value { result ≡ param_of word.now count }
 {
     match Param::of_word(word) {
@@ -58,7 +60,8 @@ fn two_value_change(param: Param, a: &[u8], b: &[u8]) -> Result<Change, LineFaul
     Ok(Change { param, a, b })
 }
 
-fn read_change(param: Param, values: &[&[u8]]) -> Result<Change, LineFault>
+/// The change of a parameter to the values that the words write.
+pub fn read_change(param: Param, values: &[&[u8]]) -> Result<Change, LineFault>
     ensures value { result ≡ change_of param (map (λ w. w.now) values.now) }
 {
     match values {
@@ -200,7 +203,8 @@ fn sentence_of(verb: &[u8], rest: &[&[u8]]) -> Result<Meaning, LineFault>
     }
 }
 
-fn is_comment(word: &[u8]) -> bool
+/// Whether a line with this first word is a comment.
+pub fn is_comment(word: &[u8]) -> bool
     ensures value { result ≡ begins_comment word.now }
 {
     match word {
@@ -224,7 +228,8 @@ fn saying_of_words(words: &[&[u8]]) -> Result<Meaning, LineFault>
     }
 }
 
-fn is_ascii_line(line: &[u8]) -> bool
+/// Whether all bytes of a line are below 128.
+pub fn is_ascii_line(line: &[u8]) -> bool
     ensures value { result ≡ is_ascii line.now }
 {
     line.iter().all(|b| *b < 128)
@@ -236,7 +241,8 @@ fn is_blank_byte(byte: u8) -> bool
     byte == b' ' || byte == b'\t'
 }
 
-fn words_of(alloc: Global, line: &[u8]) -> Result<Vec<&[u8]>, AllocError>
+/// The words of a line: what is between its blanks, spaces and tabs.
+pub fn words_of(alloc: Global, line: &[u8]) -> Result<Vec<&[u8]>, AllocError>
     ensures value { IfOk result (λ v. map (λ w. w.now) v.items ≡ words line.now) }
 {
     line.split(|b| is_blank_byte(*b))

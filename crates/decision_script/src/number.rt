@@ -6,8 +6,8 @@ ghost use Rattle.decision_script.specs.Sentences.{word_number};
 use crate::fault::LineFault;
 use sim_base::number::{MOST_DIGITS, are_digits, is_digit_byte, may_lead, value};
 
-// The greatest number of a script, the last of 32 bits.
-pub(crate) const MOST_NUMBER: u64 = 4_294_967_295;
+/// The greatest number of a script, which is the greatest of 32 bits.
+pub const MOST_NUMBER: u64 = 4_294_967_295;
 
 fn may_be_number(word: &[u8]) -> bool
     ensures value { result ≡ has_number_form word.now }
@@ -20,7 +20,7 @@ fn may_be_number(word: &[u8]) -> bool
 }
 
 /// The number that the word writes.
-pub(crate) fn read_number(word: &[u8]) -> Result<u64, LineFault>
+pub fn read_number(word: &[u8]) -> Result<u64, LineFault>
     ensures value { result ≡ word_number word.now }
 {
     if !may_be_number(word) || word.len() > MOST_DIGITS {

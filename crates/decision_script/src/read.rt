@@ -143,7 +143,8 @@ fn fault_of_line(line: u32, broken: LineFault) -> ScriptFault
     }
 }
 
-fn without_return(line: &[u8]) -> &[u8]
+/// A line without a carriage return at its end.
+pub fn without_return(line: &[u8]) -> &[u8]
     ensures value { result.now ≡ strip_carriage_return line.now }
 {
     match line {
@@ -152,7 +153,8 @@ fn without_return(line: &[u8]) -> &[u8]
     }
 }
 
-fn ends_line(byte: u8) -> bool
+/// Whether the byte ends a line.
+pub fn ends_line(byte: u8) -> bool
     ensures value { result ≡ is_newline byte }
 {
     byte == b'\n'

@@ -12,7 +12,7 @@ use Rattle.decision_script.specs.Stating.{Fits32, IsDecision, IsName, analyst_na
 use Rattle.decision_script.specs.Printing.{line_text, words_of_decision, words_of_section}
 use Rattle.decision_script.proofs.Numbers.{decimal_is_word}
 use Rattle.decision_script.proofs.Saying.{act_words, section_words}
-use Rattle.decision_script.proofs.Words.{is_printed, newline_passes, printed_join, split_at}
+use Rattle.decision_script.proofs.JoinedWords.{is_printed, newline_passes, printed_join, split_at}
 use Rattle.decision_book.specs.declared.call.Call.{Call}
 use Rattle.decision_book.specs.declared.call.Reply.{Reply}
 use Rattle.decision_book.specs.declared.call.Reply.TheVariants.{Accepted, Full, Closed, UnknownClone, Ended, NameTaken}

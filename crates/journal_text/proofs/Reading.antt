@@ -15,7 +15,7 @@ use Rattle.decision_script.specs.Printing.{words_of_decision, words_of_section}
 use Rattle.decision_script.specs.Alone.{decisions, decisions_onto}
 use Rattle.decision_script.proofs.ItemsReadAgain.{after_act, after_lines-Ok}
 use Rattle.decision_script.proofs.Saying.{act_words, section_words}
-use Rattle.decision_script.proofs.Words.{IsWord}
+use Rattle.decision_script.proofs.JoinedWords.{IsWord}
 use Rattle.decision_book.specs.declared.call.Call.{Call}
 use Rattle.decision_book.specs.declared.call.Reply.TheVariants.{Accepted}
 use Rattle.decision_book.specs.Journal.{Event, NewFront, NewCall, calls_of}

@@ -12,7 +12,7 @@ use Rattle.decision_script.specs.Alone.{decisions}
 use Rattle.decision_script.proofs.ItemsReadAgain.{AreKnown}
 use Rattle.decision_script.proofs.Names.{are_known}
 use Rattle.decision_script.proofs.ReadsAgain.{read_of_text}
-use Rattle.decision_script.proofs.Words.{lines-text}
+use Rattle.decision_script.proofs.JoinedWords.{lines-text}
 use Rattle.decision_book.specs.declared.call.Call.{Call}
 use Rattle.decision_book.specs.Journal.{Event, NewFront, NewCall, calls_of}
 use Rattle.decision_book.specs.Right.{IsRight}
