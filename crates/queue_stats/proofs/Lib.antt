@@ -1,0 +1,17 @@
+mod Lists
+mod Pushes
+mod Little
+mod Lindley
+mod Prefixes
+mod TallyLimits
+mod TallyFigures
+mod WaitTrails
+mod LogStats
+mod ServerMoves
+mod OtherStations
+mod NewSends
+mod ServerTurns
+mod ServerRuns
+mod ServerLogs
+mod ServiceOrder
+mod OrderedRuns

@@ -1,0 +1,10 @@
+pub mod Moments
+pub mod Figures
+pub mod Queues
+pub mod Lindley
+pub mod Tallies
+pub mod Trails
+pub mod Stats
+pub mod Laws
+pub mod Orders
+pub mod Examples

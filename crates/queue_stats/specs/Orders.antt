@@ -1,0 +1,40 @@
+-- The order of service: in which order jobs arrive and depart.
+use Rattle.std.specs.Prelude.{ℕ, ◌≡◌, ◌++◌, List, [], ◌∷◌, false}
+use Rattle.sim_base.specs.Clones.{Clone}
+use Rattle.sim_base.specs.declared.message.Job.{Job as JobOf}
+use Rattle.net_model.specs.declared.station.Kind.TheVariants as kind
+use Rattle.net_model.specs.Net.{Net, HasStation, site_of}
+use Rattle.stations.specs.Runs.{log_at}
+use Rattle.queue_stats.specs.Moments.{Event, visit, departure, Moment, moments, is_change}
+use Rattle.queue_stats.specs.Figures.{count}
+
+-- the job whose visit an event begins, if any
+abbrev pub visiting_job : Event → List JobOf
+visiting_job (visit job) = job ∷ []
+visiting_job _ = []
+
+-- the job that departs at an event, if any
+abbrev pub departing_job : Event → List JobOf
+departing_job (departure job) = job ∷ []
+departing_job _ = []
+
+-- the jobs of all visits, in order of arrival
+abbrev pub visiting_jobs : List Moment → List JobOf
+visiting_jobs [] = []
+visiting_jobs (m ∷ ms) = visiting_job m.event ++ visiting_jobs ms
+
+-- the jobs of all departures, in order of departure
+abbrev pub departing_jobs : List Moment → List JobOf
+departing_jobs [] = []
+departing_jobs (m ∷ ms) = departing_job m.event ++ departing_jobs ms
+
+-- jobs depart in order of arrival: those that departed are the first that arrived
+pub record DepartInOrder (ms : List Moment) : Type 0 where
+  pub rest : List JobOf
+  pub is : visiting_jobs ms ≡ departing_jobs ms ++ rest
+
+-- jobs depart in order in every run, at a single server that serves by arrival, until a parameter changes
+abbrev pub RunsServeInOrder : Net → Type 0
+RunsServeInOrder net = (c : Clone) (s front room lo hi : ℕ) → HasStation net s
+    → (site_of net s).kind ≡ kind.Server 1 room lo hi false → count is_change (moments (log_at net c s front)) ≡ 0
+    → DepartInOrder (moments (log_at net c s front))

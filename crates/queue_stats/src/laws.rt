@@ -1,0 +1,20 @@
+//! The laws of queues in runs: each function's contract is a law, and there is nothing to run.
+//!
+//! `specs/Laws.antt` and `specs/Orders.antt` have them in words. Library calls, not used by `cloner`.
+ghost use Rattle.net_model.specs.Net.{Net};
+ghost use Rattle.net_model.specs.Rules.{IsNet};
+ghost use Rattle.queue_stats.specs.Laws.{LogsAreQueues, RunsKeepLindley, RunsKeepLittle};
+ghost use Rattle.queue_stats.specs.Orders.{RunsServeInOrder};
+
+/// The log of a server in any run is the history of a queue: each visitor has departed or is in the system.
+pub fn logs_are_queues()
+    ensures queues { (net : Net) → IsNet net → LogsAreQueues net }
+{}
+
+/// Every run keeps Little's law in its finite form. A station of one server also keeps Lindley's equation, and if it
+/// serves by arrival, jobs depart in order of arrival.
+pub fn runs_keep_the_laws_of_queues()
+    ensures little { (net : Net) → IsNet net → RunsKeepLittle net }
+    ensures lindley { (net : Net) → IsNet net → RunsKeepLindley net }
+    ensures order { (net : Net) → IsNet net → RunsServeInOrder net }
+{}

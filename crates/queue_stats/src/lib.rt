@@ -1,0 +1,42 @@
+//! Queue statistics: the figures of a server's queue in the run of a clone.
+//!
+//! A server's log is the whole history of its queue. Each entry is an arrival, a loss, a departure or a change of a
+//! parameter, with the numbers of jobs in service and waiting after it. The statistics are exact whole numbers: counts,
+//! the greatest number of waiting jobs, the area under the number in the system, and the waits at a single server.
+//!
+//! ```text
+//! number in the system
+//!   2          .-.                   arrived=2 lost=0 done=2 most=1
+//!   1    .-----' '-------.           present=9             the area: 3 * 1 + 1 * 2 + 4 * 1
+//!   0 ---'               '-----      waited=1 longest=1    the second job waits from 8 to 9
+//!  time  5     8 9       13
+//! ```
+//!
+//! ```text
+//! let stats = stats_of(&model, station, &log, until);
+//! ```
+//!
+//! One walk along the log adds up all figures but the waits. The waits take two more walks at once, the second of which
+//! goes from arrival to arrival, so the jobs that wait need no list. An entry costs a few additions, and nothing is
+//! allocated.
+//!
+//! The promise that it carries: **the statistics are right**. Each is a figure that `specs/Figures.antt` defines, and
+//! every run keeps the laws of queues:
+//!
+//! | Law | Statement | Servers |
+//! |---|---|---|
+//! | Little's law, finite form | the area under the number in the system is the sum of all times in the system | all |
+//! | Lindley's equation | each wait follows from the wait before it | one, until a parameter changes |
+//! | order of service | jobs depart in order of arrival | the same, by arrival |
+//!
+//! All three rest on one law, `laws::logs_are_queues`: the log of every server in every run is the history of a queue.
+#![tactic(auto)]
+
+pub mod examples;
+pub mod laws;
+pub mod stats;
+mod tally;
+pub mod waits;
+
+pub use stats::{Stats, stats_of};
+pub use waits::Waits;

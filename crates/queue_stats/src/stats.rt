@@ -1,0 +1,105 @@
+//! The statistics of a server in the run of a clone.
+ghost use Rattle.std.specs.Prelude.{◌≡◌, ◌≤◌, length, IsSome, Some, None, true, if◌then◌else◌, ◌&&◌, ◌==◌};
+ghost use Rattle.sim_base.specs.declared.limits.TheConstants.{MOST_HANDLED};
+ghost use Rattle.net_model.specs.declared.limits.TheConstants.{MOST_HORIZON};
+ghost use Rattle.net_model.specs.Net.{HasStation, site_of};
+ghost use Rattle.queue_stats.specs.Moments.{moments};
+ghost use Rattle.queue_stats.specs.Figures.{time_in_system};
+ghost use Rattle.queue_stats.specs.Queues.{IsServerQueue};
+ghost use Rattle.queue_stats.specs.Lindley.{IsLindley};
+ghost use Rattle.queue_stats.specs.Tallies.{IsWithinLimits};
+ghost use Rattle.queue_stats.specs.Trails.{waits_along_log};
+ghost use Rattle.queue_stats.specs.Stats.{stats};
+ghost use Rattle.queue_stats.specs.Laws.{IsLogOf, is_server, is_single_by_arrival as is_single_by_arrival_of};
+
+use crate::tally::{Tally, tally_of};
+use crate::waits::{Waits, waits_of};
+use log_chain::Log;
+use net_model::{Kind, Model};
+
+/// The statistics of one server in one clone.
+#[derive(Clone, Copy, Debug, PartialEq, Eq)]
+pub struct Stats {
+    /// Arrivals, with those that were lost.
+    pub arrived: u64,
+    /// Arrivals that were lost, since the waiting room was full.
+    pub lost: u64,
+    /// Departures.
+    pub done: u64,
+    /// The greatest number of jobs that waited.
+    pub most: u64,
+    /// The number of jobs in the system, summed over the times before the end.
+    pub present: u64,
+    /// The waits. None unless one server serves by arrival, no parameter changed, and no job was lost.
+    pub waits: Option<Waits>,
+}
+
+// Whether a station is a single server that serves by arrival.
+fn is_single_by_arrival(kind: &Kind) -> bool
+    ensures value { result ≡ is_single_by_arrival_of kind.now }
+{
+    match *kind {
+        Kind::Server {
+            servers,
+            by_class,
+            ..
+        } => servers == 1 && !by_class,
+        _ => false,
+    }
+}
+
+// Whether waits are reported: at a single server by arrival, if no parameter changed and no job was lost.
+fn reports_waits(single: bool, tally: &Tally) -> bool
+    ensures value { result ≡ (single && (tally.now.changes == 0 && tally.now.lost == 0)) }
+{
+    single && (tally.changes == 0 && tally.lost == 0)
+}
+
+// The waits of a log if they are reported.
+fn waits_if(reported: bool, log: &Log) -> Option<Waits>
+    requires within_limits { IsWithinLimits 0 log.now }
+    requires entries_max { length log.now ≤ MOST_HANDLED }
+    ensures value { result ≡ (if reported then Some (waits_along_log log.now) else None) }
+{
+    if reported { Some(waits_of(log)) } else { None }
+}
+
+// The statistics of a queue's log until a time.
+fn stats_until(single: bool, log: &Log, until: u64) -> Stats
+    requires queue { IsServerQueue single until log.now }
+    requires until_max { until ≤ MOST_HORIZON }
+    requires entries_max { length log.now ≤ MOST_HANDLED }
+    ensures value { result ≡ stats single until log.now }
+    ensures little { result.present ≡ time_in_system until (moments log.now) }
+    ensures lindley { IsSome result.waits → IsLindley (moments log.now) }
+{
+    let tally = tally_of(log);
+    let reported = reports_waits(single, &tally);
+    Stats {
+        arrived: tally.arrived,
+        lost: tally.lost,
+        done: tally.done,
+        most: tally.most,
+        present: tally.present(until),
+        waits: waits_if(reported, log),
+    }
+}
+
+/// The statistics of a server from its log in a clone, until a front or the clone's end, whichever is earlier.
+///
+/// Their `present` keeps Little's law, and waits that are reported keep Lindley's equation.
+pub fn stats_of(model: &Model, station: u32, log: &Log, until: u64) -> Stats
+    requires is_station { HasStation model.now station }
+    requires server { is_server (site_of model.now station).kind ≡ true }
+    requires of_run { IsLogOf model.now station until log.now }
+    requires entries_max { length log.now ≤ model.now.limit }
+    ensures value { result ≡ stats (is_single_by_arrival_of (site_of model.now station).kind) until log.now }
+    ensures little { result.present ≡ time_in_system until (moments log.now) }
+    ensures lindley { IsSome result.waits → IsLindley (moments log.now) }
+{
+    stats_until(
+        is_single_by_arrival(&model.station(station).kind),
+        log,
+        until,
+    )
+}
