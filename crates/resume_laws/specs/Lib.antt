@@ -1,0 +1,5 @@
+pub mod Resume
+pub mod Numbers
+pub mod Tally
+pub mod RunKeeps
+pub mod SavedLaws

@@ -1,0 +1,30 @@
+//! The theory of saving and resuming one clone: what a run needs of its past, and what every run keeps.
+//!
+//! A snapshot of a run at a front has the states of the stations and the pending messages. It has no trace, since a run
+//! never reads the trace of its world. These are the laws by which the resumed run handles, message by message, what
+//! the unbroken run handles from that front on:
+//!
+//! ```text
+//! unbroken    1  4  4  9 | 11  12  17 ..
+//! saved       1  4  4  9 |                  states, draws and pending messages at the front
+//! resumed                | 11  12  17 ..    the entries of `onward`
+//! ```
+//!
+//! `specs/` has all definitions:
+//!
+//! - Resume: a world with a past, a world without its trace, and the entries that a run adds from there;
+//! - Numbers: pending messages have numbers below the next ones of their senders;
+//! - Tally: the sum of a measure over a list;
+//! - RunKeeps: the invariant of a network's runs, for example at most one pending tick per source;
+//! - SavedLaws: the data of a run's state fits its station, and restores that state.
+//!
+//! There is nothing to run: the contract of each function in `laws` is a law. The crates above cite a definition in
+//! their contracts and a lemma in their proofs:
+//!
+//!     use Rattle.resume_laws.proofs.RunKeeps.{run_invariant_holds}
+//!
+//! A crate that saves and resumes runs can prove two promises from these laws: a resumed run writes what the unbroken
+//! run writes, and no snapshot of a run is refused.
+#![tactic(auto)]
+
+pub mod laws;
