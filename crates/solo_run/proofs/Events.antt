@@ -1,13 +1,13 @@
 -- The pending messages of all stations: the least word is that of the first message, and what a change leaves.
 use Rattle.std.proofs.Common.{◌≡◌, ◌≢◌, inl, inr, ℕ, suc, ◌+◌, ◌/◌, ◌%◌, ◌<◌, ◌≤◌, refl, sym, ap, ◌∙◌}
-use Rattle.std.proofs.Common.{subst, arith, List, [], ◌∷◌, length, get_or, set, replicate, Ordering, Less, Equal}
+use Rattle.std.proofs.Common.{subst, arith, List, [], ◌∷◌, ◌++◌, length, get_or, set, replicate, Ordering, Less, Equal}
 use Rattle.std.proofs.Common.{Greater, nat_cmp, false, Option, Some, None, slice_get}
 use Rattle.std.specs.Cmp.{nat_cmp_is}
 use Rattle.std.specs.List.{AllByRecursion}
 use Rattle.std.specs.Ordering.{ordering_then, is_lt}
 use Rattle.std.proofs.lemmas.Bool.{cases_eq, cases_lt}
 use Rattle.std.proofs.lemmas.List.{get_or-set_same, get_or-set_other, length-set, set-get_or, get_or_default}
-use Rattle.std.proofs.lemmas.List.{get_or-replicate, length-replicate}
+use Rattle.std.proofs.lemmas.List.{get_or-replicate, length-replicate, append_assoc}
 use Rattle.sim_base.specs.KeyWords.{FitsWord, key_word}
 use Rattle.sim_base.specs.Order.{msg_cmp, payload_cmp}
 use Rattle.sim_base.specs.Pending.{insert_marked}
@@ -74,6 +74,18 @@ sorted-not_earlier bound x xs z s late (inr n) =
     let later = msg-timed x.0 z (all_in (λ y. msg_cmp x.0 y ≡ Less) (messages_of xs) z s.0 n) in
     omega (arith, late, later)
 
+-- ---- AreStationLists
+
+-- one of the lists changes, and is its station's still
+station_lists-set : (ls : List MarkedMessages) → AreStationLists ls → (i : ℕ) → i < length ls → (new : MarkedMessages)
+    → IsListOf i new → AreStationLists (set ls i new)
+station_lists-set ls are i there new is j below = elim (cases_eq j i) [
+  | inl e ↦ subst (λ k. IsListOf k (get_or (set ls i new) k [])) (sym e)
+      (subst (IsListOf i) (sym (get_or-set_same ls i new [] there)) is)
+  | inr n ↦ subst (IsListOf j) (sym (get_or-set_other ls i j new [] n))
+      (are j (let long = length-set ls i new in omega (arith, below, long)))
+]
+
 -- ---- IsEventList
 
 -- no message of any list
@@ -111,12 +123,7 @@ module _ (ls : List MarkedMessages) (words : List ℕ) (inv : IsEventList ls wor
         record {
           few = omega (arith, few, long);
           count = omega (arith, count, long, long_words);
-          lists_are = λ j below. elim (cases_eq j i) [
-            | inl e ↦ subst (λ k. IsListOf k (get_or (set ls i new) k [])) (sym e)
-                (subst (IsListOf i) (sym (get_or-set_same ls i new [] there)) is)
-            | inr n ↦ subst (IsListOf j) (sym (get_or-set_other ls i j new [] n))
-                (inv.lists_are j (omega (arith, below, long)))
-          ];
+          lists_are = station_lists-set ls inv.lists_are i there new is;
           words_are = λ j below. elim (cases_eq j i) [
             | inl e ↦ subst (λ k. IsWordOf k (get_or (set ls i new) k []) (get_or (set words i word) k 0)) (sym e)
                 (subst (λ l. IsWordOf i l (get_or (set words i word) i 0)) (sym (get_or-set_same ls i new [] there))
@@ -254,38 +261,43 @@ module _ (ls : List MarkedMessages) (words : List ℕ) (inv : IsEventList ls wor
       has_first = has (get_or ls h.place []) refl (inv.lists_are h.place low)
           (subst (IsWordOf h.place (get_or ls h.place [])) h.is (inv.words_are h.place low))
 
-  -- ---- HasFirst: the first message of all is taken out of its list
+-- ---- HasFirst: the first message of all is taken out of its list
 
-  module _ (bound i : ℕ) (f : HasFirst ls bound i) (old : MarkedMessages) (at : old ≡ get_or ls i old) where
-    -- the list that is read at the place
-    list_is : get_or ls i [] ≡ old
-    list_is = sym (at ∙ get_or_default ls i old [] f.there)
+module _ (ls : List MarkedMessages) (lists_are : AreStationLists ls) (bound i : ℕ) (f : HasFirst ls bound i)
+    (old : MarkedMessages) (at : old ≡ get_or ls i old) where
+  -- the list that is read at the place
+  list_is : get_or ls i [] ≡ old
+  list_is = sym (at ∙ get_or_default ls i old [] f.there)
 
-    -- has a message
-    pub has_first-some : 0 < length old
-    has_first-some = let long = ap length (sym list_is ∙ f.is) in omega (arith, long)
+  -- has a message
+  pub has_first-some : 0 < length old
+  has_first-some = let long = ap length (sym list_is ∙ f.is) in omega (arith, long)
 
-    module _ (m : Msg) (k : Unit {0}) (new : MarkedMessages) (taken : old ≡ (m, k) ∷ new) where
-      -- is its station's
-      is_old : IsListOf i ((m, k) ∷ new)
-      is_old = subst (IsListOf i) (list_is ∙ taken) (inv.lists_are i f.there)
+  module _ (m : Msg) (k : Unit {0}) (new : MarkedMessages) (taken : old ≡ (m, k) ∷ new) where
+    -- is its station's
+    is_old : IsListOf i ((m, k) ∷ new)
+    is_old = subst (IsListOf i) (list_is ∙ taken) (lists_are i f.there)
 
-      -- and so is what is left of it
-      pub is_list_of-take : IsListOf i new
-      is_list_of-take = record { sorted = is_old.sorted.1; own = is_old.own.1 }
+    -- and so is what is left of it
+    pub is_list_of-take : IsListOf i new
+    is_list_of-take = record { sorted = is_old.sorted.1; own = is_old.own.1 }
 
-      -- the message that was taken is the first of all
-      message_is : f.message ≡ m
-      message_is = ap (λ (l : MarkedMessages). (get_or l 0 (m, k)).0) (sym f.is ∙ (list_is ∙ taken))
+    -- so all lists are still those of their stations
+    pub station_lists-take : AreStationLists (set ls i new)
+    station_lists-take = station_lists-set ls lists_are i f.there new is_list_of-take
 
-      -- it is before the bound
-      pub take-time : m.key.time < bound
-      take-time = subst (λ (y : Msg). y.key.time < bound) message_is f.early
+    -- the message that was taken is the first of all
+    message_is : f.message ≡ m
+    message_is = ap (λ (l : MarkedMessages). (get_or l 0 (m, k)).0) (sym f.is ∙ (list_is ∙ taken))
 
-      -- and what all have left is what is left of the one list
-      pub all_messages-take : all_messages ls ≡ m ∷ all_messages (set ls i new)
-      all_messages-take = all_messages-first ls i new f.there m (ap messages_of (list_is ∙ taken)) is_old.sorted
-          (λ j z other below k. subst (λ y. msg_cmp y z ≡ Less) message_is (f.before j z other below k))
+    -- it is before the bound
+    pub take-time : m.key.time < bound
+    take-time = subst (λ (y : Msg). y.key.time < bound) message_is f.early
+
+    -- and what all have left is what is left of the one list
+    pub all_messages-take : all_messages ls ≡ m ∷ all_messages (set ls i new)
+    all_messages-take = all_messages-first ls i new f.there m (ap messages_of (list_is ∙ taken)) is_old.sorted
+        (λ j z other below k. subst (λ y. msg_cmp y z ≡ Less) message_is (f.before j z other below k))
 
 -- ---- IsFound
 
@@ -444,3 +456,25 @@ module _ (ls : List MarkedMessages) (bound : ℕ) (lists_are : AreStationLists l
   -- and where nothing is found, there is no message
   pub found_none : IsFound ls (length ls) None → AllByRecursion (λ m. bound ≤ m.key.time) (all_messages ls)
   found_none none = subst (AllByRecursion (λ m. bound ≤ m.key.time)) (sym (all_messages-none ls none)) tt
+
+-- what is found is taken out of its list
+module _ (ls : List MarkedMessages) (own : AreStationLists ls) (i : ℕ) (m : Msg)
+    (found : IsFound ls (length ls) (Some (i, m))) (old : MarkedMessages) (at : old ≡ get_or ls i old)
+    (taken : Msg) (k : Unit {0}) (new : MarkedMessages) (is : old ≡ (taken, k) ∷ new) where
+  -- its place has the first message of all, before some bound
+  first : HasFirst ls (suc m.key.time) i
+  first = found_is_first ls (suc m.key.time) own i m found (omega arith)
+
+  -- so the lists are still those of their stations
+  pub station_lists-taken : AreStationLists (set ls i new)
+  station_lists-taken = station_lists-take ls own (suc m.key.time) i first old at taken k new is
+
+  -- the message that was taken is the first of all
+  pub all_messages-taken : all_messages ls ≡ taken ∷ all_messages (set ls i new)
+  all_messages-taken = all_messages-take ls own (suc m.key.time) i first old at taken k new is
+
+  -- and it follows the messages that were taken before it
+  pub all_messages-moved : (before all : List Msg) → before ++ all_messages ls ≡ all
+      → (before ++ taken ∷ []) ++ all_messages (set ls i new) ≡ all
+  all_messages-moved before all added = append_assoc before (taken ∷ []) (all_messages (set ls i new))
+      ∙ (ap (λ (t : List Msg). before ++ t) (sym all_messages-taken) ∙ added)

@@ -4,3 +4,4 @@ pub mod ToFront
 pub mod Starting
 pub mod Merging
 pub mod Events
+pub mod Resuming

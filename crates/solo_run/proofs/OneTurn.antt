@@ -30,7 +30,7 @@ use Rattle.stations.proofs.Lawful.{handles-fitting}
 use Rattle.stations.proofs.GoodLaws.{lawful-stations}
 use Rattle.solo_run.specs.EventLists.{IsForStation, EventListView}
 use Rattle.solo_run.specs.Limit.{receiver, first_beyond}
-use Rattle.solo_run.specs.SoloView.{SoloView, IsSolo, IsStateAfter}
+use Rattle.solo_run.specs.SoloView.{Entries, SoloView, IsSoloAfter, IsStateAfter}
 use Rattle.solo_run.specs.SoloView.{state_of, with_due}
 use Rattle.solo_run.specs.Turns.{HandlesAt, HasTurned}
 
@@ -100,9 +100,10 @@ module _ (limit : ℕ) where
   ]
 
   -- and one entry more does not go beyond it, where the log of its station is shorter than the limit
-  beyond_none : (seen : List (Entry Msg Line)) (e : Entry Msg Line) → first_beyond limit [] seen ≡ None
-      → length (log_of receiver e.msg.to seen) < limit → first_beyond limit [] (seen ++ e ∷ []) ≡ None
-  beyond_none seen e none below = beyond_append [] seen (e ∷ []) none ∙ beyond_later seen e [] below
+  beyond_none : (past trace : Entries) (e : Entry Msg Line) → first_beyond limit past trace ≡ None
+      → length (log_of receiver e.msg.to (past ++ trace)) < limit → first_beyond limit past (trace ++ e ∷ []) ≡ None
+  beyond_none past trace e none below =
+      beyond_append past trace (e ∷ []) none ∙ beyond_later (past ++ trace) e [] below
 
 -- ---- a turn
 
@@ -115,10 +116,10 @@ sends_for net now s k (m ∷ ms) are = (
   sends_for net now s (suc k) ms are.1,
 )
 
-module _ (net : Net) (valid : IsNet net) (v : SoloView) (m : Msg) (new : List StateView)
+module _ (net : Net) (valid : IsNet net) (past : Entries) (v : SoloView) (m : Msg) (new : List StateView)
     (next : List Msg) (sends : List Msg) (line : Line)
     (early : m.key.time < ALL_TIMES)
-    (solo : IsSolo net (with_due m v))
+    (solo : IsSoloAfter net past (with_due m v))
     (h : HandlesAt net (m.to - 1) m v.states new sends line) where
   -- the entry that the turn adds to the trace
   abbrev pub e : Entry Msg Line
@@ -129,7 +130,7 @@ module _ (net : Net) (valid : IsNet net) (v : SoloView) (m : Msg) (new : List St
   number = let low : 1 ≤ m.to = solo.targets.0.0 in omega arith
 
   -- its state before the turn
-  old : IsStateAfter net v.trace (m.to - 1) h.before
+  old : IsStateAfter net (past ++ v.trace) (m.to - 1) h.before
   old = solo.states (m.to - 1) h.before h.is_there
 
   -- is one of the states
@@ -137,8 +138,8 @@ module _ (net : Net) (valid : IsNet net) (v : SoloView) (m : Msg) (new : List St
   within = slice_get_within v.states (m.to - 1) h.before h.is_there
 
   -- and has handled what the station's log has
-  full_log : h.before.handled ≡ length (log_of receiver m.to v.trace)
-  full_log = old.log ∙ ap (λ k. length (log_of receiver k v.trace)) (let low : 1 ≤ m.to = solo.targets.0.0 in
+  full_log : h.before.handled ≡ length (log_of receiver m.to (past ++ v.trace))
+  full_log = old.log ∙ ap (λ k. length (log_of receiver k (past ++ v.trace))) (let low : 1 ≤ m.to = solo.targets.0.0 in
       omega arith)
 
   -- the run has come to where the turn leads
@@ -171,9 +172,10 @@ module _ (net : Net) (valid : IsNet net) (v : SoloView) (m : Msg) (new : List St
       }) is
       ∙ sym (ap F gives)
 
-  -- the states after the turn
-  states_after : (i : ℕ) (st : StateView) → slice_get new i ≡ Some st → IsStateAfter net (v.trace ++ e ∷ []) i st
-  states_after i st is = elim (cases_eq i (m.to - 1)) [
+  -- the states after the turn, which adds the entry to the past and the trace together
+  states_after_entry : (i : ℕ) (st : StateView) → slice_get new i ≡ Some st
+      → IsStateAfter net ((past ++ v.trace) ++ e ∷ []) i st
+  states_after_entry i st is = elim (cases_eq i (m.to - 1)) [
     | inl here ↦
         let at : slice_get new (m.to - 1) ≡ Some h.after = ap (λ t. slice_get t (m.to - 1)) h.new_states
         ∙ slice_get-set_same v.states (m.to - 1) h.after within in
@@ -184,9 +186,9 @@ module _ (net : Net) (valid : IsNet net) (v : SoloView) (m : Msg) (new : List St
         ∙ well.station in
         let handled : h.after.handled ≡ h.before.handled + 1 = ap (λ d. d.handled) (sym state) ∙ well.handled in
         let place : m.to ≡ i + 1 = let low : 1 ≤ m.to = solo.targets.0.0 in omega (arith, here) in
-        let log = ap (λ t. length t) (log_here receiver (i + 1) v.trace e place) in
-        let more = length-append (log_of receiver (i + 1) v.trace) (e ∷ []) in
-        let count = full_log ∙ ap (λ k. length (log_of receiver k v.trace)) place in
+        let log = ap (λ t. length t) (log_here receiver (i + 1) (past ++ v.trace) e place) in
+        let more = length-append (log_of receiver (i + 1) (past ++ v.trace)) (e ∷ []) in
+        let count = full_log ∙ ap (λ k. length (log_of receiver k (past ++ v.trace))) place in
         let below = h.below in
         let lies = old.station in
         rw same record {
@@ -206,10 +208,16 @@ module _ (net : Net) (valid : IsNet net) (v : SoloView) (m : Msg) (new : List St
           station = was.station;
           within = was.within;
           log = was.log ∙ ap (λ t. length t)
-              (sym (log_there receiver (i + 1) v.trace e
+              (sym (log_there receiver (i + 1) (past ++ v.trace) e
               (λ k. other (let low : 1 ≤ m.to = solo.targets.0.0 in omega (arith, k)))));
         }
   ]
+
+  -- the same with the entry in the trace
+  states_after : (i : ℕ) (st : StateView) → slice_get new i ≡ Some st
+      → IsStateAfter net (past ++ (v.trace ++ e ∷ [])) i st
+  states_after i st is = subst (λ (t : Entries). IsStateAfter net t i st)
+      (append_assoc past v.trace (e ∷ [])) (states_after_entry i st is)
 
   -- what is sent is for stations
   sends_for_stations : AllByRecursion (IsForStation (length net.sites)) sends
@@ -224,9 +232,9 @@ module _ (net : Net) (valid : IsNet net) (v : SoloView) (m : Msg) (new : List St
   sends_may_be_pending n is =
       subst (λ n. AllByRecursion (IsForStation n) sends) (sym (is ∙ solo.count)) sends_for_stations
 
-  -- after the turn it is a run of the network still, with no log beyond the limit
+  -- after the turn it is still a run of the network after its past, with no log beyond the limit
   pub is_solo : next ≡ insert_all msg_cmp sends v.pending
-      → IsSolo net (record { states = new; pending = next; trace = v.trace ++ e ∷ [] })
+      → IsSoloAfter net past (record { states = new; pending = next; trace = v.trace ++ e ∷ [] })
   is_solo is =
       let order = (lawful-stations net valid).order.order in
       let well = handles-fitting net h.before m valid old.fits old.suits early in
@@ -234,7 +242,8 @@ module _ (net : Net) (valid : IsNet net) (v : SoloView) (m : Msg) (new : List St
       let handled : h.after.handled ≡ h.before.handled + 1 = ap (λ d. d.handled) (sym state) ∙ well.handled in
       let sum = sum_by-set_one (λ st. st.handled) v.states (m.to - 1) h.before h.after h.is_there in
       let new_sum = ap (sum_by (λ st. st.handled)) h.new_states in
-      let longer = length-append v.trace (e ∷ []) in
+      let longer = length-append (past ++ v.trace) (e ∷ []) in
+      let same = ap (λ (t : Entries). length t) (append_assoc past v.trace (e ∷ [])) in
       let total = solo.total in
       record {
         valid = valid;
@@ -243,6 +252,6 @@ module _ (net : Net) (valid : IsNet net) (v : SoloView) (m : Msg) (new : List St
         sorted = subst (Sorted msg_cmp) (sym is) (sorted_insert_all order sends v.pending solo.sorted.1);
         targets = subst (AllByRecursion (IsForStation (length net.sites))) (sym is)
             (all_insert_all order (IsForStation (length net.sites)) sends v.pending sends_for_stations solo.targets.1);
-        total = omega (arith, handled, sum, new_sum, longer, total);
-        below = beyond_none net.limit v.trace e solo.below (let below = h.below in omega (arith, full_log, below));
+        total = omega (arith, handled, sum, new_sum, longer, same, total);
+        below = beyond_none net.limit past v.trace e solo.below (let below = h.below in omega (arith, full_log, below));
       }

@@ -1,6 +1,7 @@
 -- The turns up to a front come to the run, or go beyond the limit.
 use Rattle.std.proofs.Common.{◌≡◌, inl, inr, ℕ, zero, suc, ◌+◌, ◌-◌, ◌*◌, ◌<◌, ◌≤◌, refl}
-use Rattle.std.proofs.Common.{ap, sym, subst, ◌∙◌, List, [], ◌∷◌, ◌++◌, length, append-nil, Some, unwrap_or, arith}
+use Rattle.std.proofs.Common.{ap, sym, subst, ◌∙◌, List, [], ◌∷◌, ◌++◌, length, length-append, append-nil, Some}
+use Rattle.std.proofs.Common.{unwrap_or, arith}
 use Rattle.std.specs.List.{AllByRecursion}
 use Rattle.std.proofs.lemmas.List.{append_assoc}
 use Rattle.std.proofs.lemmas.Option.{slice_get_cases}
@@ -24,8 +25,9 @@ use Rattle.stations.proofs.KindLaws.{good_kind}
 use Rattle.stations.proofs.Lawful.{site_is}
 use Rattle.stations.proofs.GoodLaws.{lawful-stations}
 use Rattle.solo_run.specs.Limit.{receiver, first_beyond}
-use Rattle.solo_run.specs.SoloView.{SoloView, IsSolo, IsStateAfter, config_of, state_of, with_due}
-use Rattle.solo_run.specs.Turns.{GoesBeyond, IsStationFull, Stops, StopsAt, HasTurned, run_from, step_of, IsReached}
+use Rattle.solo_run.specs.SoloView.{Entries, SoloView, IsSoloAfter, IsStateAfter, config_of, state_of, with_due}
+use Rattle.solo_run.specs.Turns.{GoesBeyondAfter, IsStationFull, StopsAfter, StopsAt, HasTurned, run_from, step_of}
+use Rattle.solo_run.specs.Turns.{IsReached}
 use Rattle.solo_run.specs.declared.turn.SoloFault.{SoloFault}
 use Rattle.solo_run.specs.declared.turn.SoloFault.TheVariants.{NoMemory, Limit}
 use Rattle.solo_run.proofs.OneTurn.{beyond_append, beyond_here, sum_most}
@@ -43,11 +45,11 @@ trace-grows net bound {c} {d} (go {d = b} r n) =
     let one : d.at.trace ≡ b.at.trace ++ e ∷ [] = ap (λ k. k.at.trace) n.is in
     (h.0 ++ e ∷ [], one ∙ (ap (λ t. t ++ e ∷ []) h.1 ∙ append_assoc c.at.trace h.0 (e ∷ [])))
 
--- ---- IsSolo
+-- ---- IsSoloAfter
 
-module _ (net : Net) (valid : IsNet net) where
+module _ (net : Net) (valid : IsNet net) (past : Entries) where
   -- the state of a station is good
-  good_station : (trace : List (Entry Msg Line)) (i : ℕ) (st : StateView) → IsStateAfter net trace i st
+  good_station : (trace : Entries) (i : ℕ) (st : StateView) → IsStateAfter net trace i st
       → IsGood net (suc i) st
   good_station trace i st is =
       let station : st.sender.station ≡ suc i = let h = is.station in omega (arith, h) in
@@ -61,36 +63,39 @@ module _ (net : Net) (valid : IsNet net) where
       }
 
   -- and so are those of all numbers
-  good_states : (v : SoloView) → IsSolo net v → (s : ℕ) → IsGood net s (state_of net v.states s)
+  good_states : (v : SoloView) → IsSoloAfter net past v → (s : ℕ) → IsGood net s (state_of net v.states s)
   good_states v solo zero = (lawful-stations net valid).opens zero
   good_states v solo (suc i) = elim (slice_get_cases v.states i).1 [
     | inl found ↦ subst (λ o. IsGood net (suc i) (unwrap_or o (setup net (suc i)).state)) (sym found.2)
-        (good_station v.trace i found.0 (solo.states i found.0 found.2))
-    | inr past ↦ subst (λ o. IsGood net (suc i) (unwrap_or o (setup net (suc i)).state)) (sym past.1)
+        (good_station (past ++ v.trace) i found.0 (solo.states i found.0 found.2))
+    | inr none ↦ subst (λ o. IsGood net (suc i) (unwrap_or o (setup net (suc i)).state)) (sym none.1)
         ((lawful-stations net valid).opens (suc i))
   ]
 
   -- so the world of a run is fine
-  fine_solo : (v : SoloView) → IsSolo net v → Fine msg_cmp (λ m. m.key.time) (AllGood (IsGood net)) 0 (config_of net v)
+  fine_solo : (v : SoloView) → IsSoloAfter net past v
+      → Fine msg_cmp (λ m. m.key.time) (AllGood (IsGood net)) 0 (config_of net v)
   fine_solo v solo = record {
     good = good_states v solo;
     sorted = solo.sorted;
     from_t = all_from_zero (λ (m : Msg). m.key.time) v.pending;
   }
 
-  -- no more is handled than the stations may handle
-  pub trace-short : (v : SoloView) → IsSolo net v → length v.trace ≤ length net.sites * net.limit
+  -- the trace is no longer than what the stations may handle, with or without a past
+  pub trace-short : (v : SoloView) → IsSoloAfter net past v → length v.trace ≤ length net.sites * net.limit
   trace-short v solo =
       let most = sum_most (λ st. st.handled) net.limit v.states (λ i st is. (solo.states i st is).within) in
       let count : length v.states * net.limit ≡ length net.sites * net.limit = ap (λ n. n * net.limit) solo.count in
       let total = solo.total in
-      omega (arith, most, count, total)
+      let both = length-append past v.trace in
+      omega (arith, most, count, total, both)
 
-  -- ---- run_from, GoesBeyond, Stops
+  -- ---- run_from, GoesBeyondAfter, StopsAfter
 
   -- turns before the front that leave nothing pending before it have come to the run
-  pub run_ends : (front : ℕ) (v w : SoloView) → IsSolo net v → IsSolo net w → IsReached net front v w
-      → AllByRecursion (λ m. front ≤ m.key.time) w.pending → config_of net w ≡ run_from net v front
+  pub run_ends : (front : ℕ) (v w : SoloView) → IsSoloAfter net past v → IsSoloAfter net past w
+      → IsReached net front v w → AllByRecursion (λ m. front ≤ m.key.time) w.pending
+      → config_of net w ≡ run_from net v front
   run_ends front v w from to ran none =
       let law = lawful-stations net valid in
       run_is law.order (world_lawful law) front (config_of net v) (config_of net w) (fine_solo v from) ran
@@ -104,10 +109,10 @@ module _ (net : Net) (valid : IsNet net) where
 
   -- the least message is before the front, and its station has handled as many as it may
   goes_beyond : (front : ℕ) (v w : SoloView) (m : Msg) (at_start at_end now station kept : ℕ)
-      → IsSolo net v → IsSolo net (with_due m w) → IsReached net front v (with_due m w)
+      → IsSoloAfter net past v → IsSoloAfter net past (with_due m w) → IsReached net front v (with_due m w)
       → m.key.time < front → IsStationFull net (m.to - 1) w.states now at_end station kept
       → now + length v.trace ≡ at_start + length w.trace
-      → GoesBeyond net v front at_start at_end station kept
+      → GoesBeyondAfter net past v front at_start at_end station kept
   goes_beyond front v w m at_start at_end now station kept from here ran early full count =
       let law = lawful-stations net valid in
       let fine = fine_reach law.order (world_lawful law) 0 (fine_solo v from) ran in
@@ -130,10 +135,10 @@ module _ (net : Net) (valid : IsNet net) where
       let old = here.states (m.to - 1) full.state full.is_there in
       let low : 1 ≤ m.to = here.targets.0.0 in
       let place : m.to - 1 + 1 ≡ m.to = omega arith in
-      let log = old.log ∙ ap (λ k. length (log_of receiver k w.trace)) place in
+      let log = old.log ∙ ap (λ k. length (log_of receiver k (past ++ w.trace))) place in
       let has = full.full in
-      let is : first_beyond net.limit [] (w.trace ++ e ∷ more.0) ≡ Some m.to =
-      beyond_append net.limit [] w.trace (e ∷ more.0) here.below ∙ beyond_here net.limit w.trace e more.0
+      let is : first_beyond net.limit past (w.trace ++ e ∷ more.0) ≡ Some m.to =
+      beyond_append net.limit past w.trace (e ∷ more.0) here.below ∙ beyond_here net.limit (past ++ w.trace) e more.0
       (omega (arith, log, has)) in
       let number : station ≡ m.to = let h = full.is_here in omega (arith, h) in
       let unmoved = full.steps in
@@ -143,7 +148,7 @@ module _ (net : Net) (valid : IsNet net) where
         rest = more.0;
         trace = whole;
         before = here.below;
-        first = ap (first_beyond net.limit []) whole ∙ (is ∙ ap Some (sym number));
+        first = ap (first_beyond net.limit past) whole ∙ (is ∙ ap Some (sym number));
         is_for = number;
         is_station = let at = subst (IsStationOf (length net.sites)) (sym number) here.targets.0 in
             record { low = at.0; high = at.1 };
@@ -154,10 +159,10 @@ module _ (net : Net) (valid : IsNet net) where
 
   -- why the turns stop
   pub Stops-StopsAt : (front : ℕ) (v w : SoloView) (m : Msg) (at_start at_end now : ℕ) (fault : SoloFault)
-      → IsSolo net v → IsSolo net (with_due m w) → IsReached net front v (with_due m w)
+      → IsSoloAfter net past v → IsSoloAfter net past (with_due m w) → IsReached net front v (with_due m w)
       → m.key.time < front → StopsAt net (m.to - 1) w.states now at_end fault
       → now + length v.trace ≡ at_start + length w.trace
-      → Stops net v front at_start at_end fault
+      → StopsAfter net past v front at_start at_end fault
   Stops-StopsAt front v w m at_start at_end now NoMemory from here ran early at count = tt
   Stops-StopsAt front v w m at_start at_end now (Limit station kept) from here ran early at count =
       goes_beyond front v w m at_start at_end now station kept from here ran early at count

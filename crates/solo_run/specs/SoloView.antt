@@ -1,5 +1,6 @@
 -- The view of a one-thread run: the states of the stations in order, the pending messages, and the trace.
-use Rattle.std.specs.Prelude.{◌≡◌, ℕ, zero, suc, ◌+◌, ◌≤◌, List, [], ◌∷◌, length, Some, None, slice_get, unwrap_or}
+use Rattle.std.specs.Prelude.{◌≡◌, ℕ, zero, suc, ◌+◌, ◌≤◌, List, [], ◌∷◌, ◌++◌, length, Some, None, slice_get}
+use Rattle.std.specs.Prelude.{unwrap_or}
 use Rattle.std.specs.List.{AllByRecursion, sum_by}
 use Rattle.sim_base.specs.Order.{msg_cmp}
 use Rattle.sim_base.specs.declared.message.Msg.{Msg}
@@ -16,11 +17,15 @@ use Rattle.stations.specs.Opening.{setup}
 use Rattle.solo_run.specs.EventLists.{IsForStation}
 use Rattle.solo_run.specs.Limit.{receiver, first_beyond}
 
+-- entries of a trace, in order
+abbrev pub Entries : Type 0
+Entries = List (Entry Msg Line)
+
 -- what contracts see of a one-thread run: the states, the pending messages in their order, and the trace
 pub record SoloView : Type 0 where
   pub states : List StateView
   pub pending : List Msg
-  pub trace : List (Entry Msg Line)
+  pub trace : Entries
 
 -- the view with this message once more the first of those that are pending
 abbrev pub with_due : Msg → SoloView → SoloView
@@ -38,20 +43,24 @@ config_of net v = record {
   pending = v.pending;
 }
 
--- the station of number i + 1, in a run with this trace
-pub record IsStateAfter (net : Net) (trace : List (Entry Msg Line)) (i : ℕ) (st : StateView) : Type 0 where
+-- the state of the station of number i + 1, in a run with this trace
+pub record IsStateAfter (net : Net) (trace : Entries) (i : ℕ) (st : StateView) : Type 0 where
   pub fits : FitsState st
   pub suits : SuitsNet net st
   pub station : st.sender.station ≡ i + 1
   pub within : st.handled ≤ net.limit
   pub log : st.handled ≡ length (log_of receiver (i + 1) trace)
 
--- a run of a model's network, in which no log is beyond the limit
-pub record IsSolo (net : Net) (v : SoloView) : Type 0 where
+-- a run of a model's network after past entries, which count towards the limit: no log is beyond it
+pub record IsSoloAfter (net : Net) (past : Entries) (v : SoloView) : Type 0 where
   pub valid : IsNet net
   pub count : length v.states ≡ length net.sites
-  pub states : (i : ℕ) (st : StateView) → slice_get v.states i ≡ Some st → IsStateAfter net v.trace i st
+  pub states : (i : ℕ) (st : StateView) → slice_get v.states i ≡ Some st → IsStateAfter net (past ++ v.trace) i st
   pub sorted : Sorted msg_cmp v.pending
   pub targets : AllByRecursion (IsForStation (length net.sites)) v.pending
-  pub total : length v.trace ≡ sum_by (λ st. st.handled) v.states
-  pub below : first_beyond net.limit [] v.trace ≡ None
+  pub total : length (past ++ v.trace) ≡ sum_by (λ st. st.handled) v.states
+  pub below : first_beyond net.limit past v.trace ≡ None
+
+-- a run of a model's network from the beginning: it has no past
+abbrev pub IsSolo : Net → SoloView → Type 0
+IsSolo net v = IsSoloAfter net [] v

@@ -12,7 +12,7 @@ use Rattle.stations.specs.Fits.{FitsState, SuitsNet}
 use Rattle.stations.specs.Handling.{StateView, handle}
 use Rattle.stations.specs.Runs.{simulation}
 use Rattle.solo_run.specs.Limit.{first_beyond}
-use Rattle.solo_run.specs.SoloView.{SoloView, config_of}
+use Rattle.solo_run.specs.SoloView.{Entries, SoloView, config_of}
 use Rattle.solo_run.specs.declared.turn.SoloFault.{SoloFault}
 use Rattle.solo_run.specs.declared.turn.SoloFault.TheVariants.{NoMemory, Limit}
 
@@ -60,22 +60,33 @@ StopsAt net i states old_steps new_steps (Limit station kept) =
 abbrev pub HasTurned : Net → SoloView → Msg → SoloView → Type 0
 HasTurned net v m new = config_of net new ≡ config_after msg_cmp (step_of net) (config_of net v).at m v.pending
 
--- the run to a front goes beyond the limit: up to the first such entry all was handled, one step for each, and no
--- station has handled more than the limit
-pub record GoesBeyond (net : Net) (v : SoloView) (front old_steps new_steps station kept : ℕ) : Type 0 where
-  pub done : List (Entry Msg Line)
+-- the run to a front goes beyond the limit, and past entries count: all entries before the first one beyond it were
+-- handled, one step for each, and no station has handled more than the limit
+pub record GoesBeyondAfter (net : Net) (past : Entries) (v : SoloView)
+    (front old_steps new_steps station kept : ℕ) : Type 0 where
+  pub done : Entries
   pub entry : Entry Msg Line
-  pub rest : List (Entry Msg Line)
+  pub rest : Entries
   pub trace : (run_from net v front).at.trace ≡ done ++ entry ∷ rest
-  pub before : first_beyond net.limit [] done ≡ None
-  pub first : first_beyond net.limit [] (run_from net v front).at.trace ≡ Some station
+  pub before : first_beyond net.limit past done ≡ None
+  pub first : first_beyond net.limit past (run_from net v front).at.trace ≡ Some station
   pub is_for : station ≡ entry.msg.to
   pub is_station : HasStation net station
   pub keeps : kept ≡ net.limit
   pub steps : new_steps + length v.trace ≡ old_steps + length done
   pub bounded : length done ≤ length net.sites * net.limit
 
--- why a run to a front stops
+-- why a run to a front stops after past entries
+abbrev pub StopsAfter : Net → Entries → SoloView → ℕ → ℕ → ℕ → SoloFault → Type 0
+StopsAfter net past v front old_steps new_steps NoMemory = Unit {0}
+StopsAfter net past v front old_steps new_steps (Limit station kept) =
+    GoesBeyondAfter net past v front old_steps new_steps station kept
+
+-- a run from the beginning goes beyond the limit
+abbrev pub GoesBeyond : Net → SoloView → ℕ → ℕ → ℕ → ℕ → ℕ → Type 0
+GoesBeyond net v front old_steps new_steps station kept =
+    GoesBeyondAfter net [] v front old_steps new_steps station kept
+
+-- why a run from the beginning stops
 abbrev pub Stops : Net → SoloView → ℕ → ℕ → ℕ → SoloFault → Type 0
-Stops net v front old_steps new_steps NoMemory = Unit {0}
-Stops net v front old_steps new_steps (Limit station kept) = GoesBeyond net v front old_steps new_steps station kept
+Stops net v front old_steps new_steps fault = StopsAfter net [] v front old_steps new_steps fault

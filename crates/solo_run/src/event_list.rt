@@ -87,6 +87,31 @@ impl EventList {
         self.words.set(i, word);
         Some(msg)
     }
+
+    /// All messages, in their order. The event list stays as it is.
+    ///
+    /// It merges copies of the stations' lists, and looks at the first message of each list for every message.
+    pub(crate) fn messages(&self, alloc: Global) -> Result<Vec<Msg>, NoMemory>
+        ensures value { IfOk result (λ all. all.items ≡ self.now.messages) }
+    {
+        let mut lists = copy_lists(alloc, &self.lists)?;
+        let mut all = Vec::new(alloc);
+        while let Some((i, _)) = find_first(&lists) {
+            all.push(lists[i].take_message())?;
+        }
+        Ok(all)
+    }
+}
+
+// Copies of the lists, in the same order.
+fn copy_lists(alloc: Global, lists: &Vec<Pending<()>>) -> Result<Vec<Pending<()>>, NoMemory>
+    ensures value { IfOk result (λ copies. copies.items ≡ lists.now.items) }
+{
+    let mut copies = Vec::with_capacity(alloc, lists.len())?;
+    for list in lists.iter() {
+        copies.push(list.copy(alloc)?)?;
+    }
+    Ok(copies)
 }
 
 // The place of the list that has the first message of all, if that is before the bound.

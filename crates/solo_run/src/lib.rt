@@ -12,6 +12,13 @@
 //!     let solo = solo.run_to(&model, model.horizon(), &mut steps)?;   // Err(SoloFault::Limit { .. }) at the limit
 //!     let trace = solo.trace();                                       // the log of what was handled, in order
 //!
+//! A run can be resumed. `state` and `due` are what a snapshot of a run keeps, and `resumed` makes a run of them whose
+//! trace begins empty. `run_on` is `run_to` for such a run: what was handled before it is a ghost value, `past`, and
+//! counts towards the limit too.
+//!
+//!     let solo = Solo::resumed(alloc, &model, states, &due)?;         // states of the stations, pending messages
+//!     let solo = solo.run_on(&model, model.horizon(), &mut steps)?;   // its trace: the messages handled since then
+//!
 //! The future event list is a list for each station, and a tournament of their first keys. A turn costs the handling,
 //! one way up the tournament, and an insert among the messages to one station for each message that is sent; one buffer
 //! serves all turns. A run of n messages keeps n entries of trace in a `Log`: 32 bytes each where packed, as the

@@ -1,20 +1,24 @@
 //! The one-thread run of one clone: one event execution after another from its future event list, up to the horizon
 //! (the stop time).
-ghost use Rattle.std.specs.Prelude.{◌≡◌, ◌+◌, ◌≤◌, ◌<◌, length, IfOk, IfErr};
+ghost use Rattle.std.specs.Prelude.{◌≡◌, ◌+◌, ◌-◌, ◌≤◌, ◌<◌, [], length, slice_get, Some, IfOk, IfErr};
+ghost use Rattle.std.specs.List.{AllByRecursion};
+ghost use Rattle.sim_base.specs.Order.{msg_cmp};
 ghost use Rattle.run_laws.specs.Handlers.{AreForStations};
+ghost use Rattle.run_laws.specs.Queue.{insert_all};
 ghost use Rattle.run_laws.specs.World.{first_world, log_of};
 ghost use Rattle.stations.specs.Runs.{simulation};
+ghost use Rattle.solo_run.specs.EventLists.{IsForStation};
 ghost use Rattle.solo_run.specs.Limit.{receiver};
-ghost use Rattle.solo_run.specs.SoloView.{IsSolo, config_of};
-ghost use Rattle.solo_run.specs.Turns.{Stops, run_from};
+ghost use Rattle.solo_run.specs.SoloView.{Entries, IsSolo, IsSoloAfter, config_of};
+ghost use Rattle.solo_run.specs.Turns.{Stops, StopsAfter, run_from};
 
 use crate::event_list::EventList;
 use crate::opening::{open_all, put_decisions};
-use crate::turn::SoloFault;
+use crate::turn::{SoloFault, put_all};
 use arrayvec::ArrayVec;
 use log_chain::Log;
 use net_model::Model;
-use sim_base::{Entry, NoMemory, Planned, Steps};
+use sim_base::{Entry, Msg, NoMemory, Planned, Steps};
 use stations::State;
 use std::alloc::Global;
 use std::sync::ledger::Ledger;
@@ -57,12 +61,45 @@ impl Solo {
         })
     }
 
+    /// A run resumed from the states of the stations, in order, and the pending messages. Its trace begins empty.
+    pub fn resumed(
+        alloc: Global,
+        model: &Model,
+        states: Vec<State>,
+        due: &[Msg],
+    ) -> Result<Solo, NoMemory>
+        requires count { length states.items ≡ length model.now.sites }
+        requires stations { AllByRecursion (IsForStation (length model.now.sites)) due.now }
+        ensures value { IfOk result (λ solo. solo ≡ record {
+          states = states.items;
+          pending = insert_all msg_cmp due.now [];
+          trace = [];
+        }) }
+    {
+        let mut pending = EventList::new(alloc, model.len())?;
+        put_all(&mut pending, due)?;
+        Ok(Solo {
+            states,
+            pending,
+            trace: Log::new(alloc),
+        })
+    }
+
+    /// The state of a station.
+    pub fn state(&self, station: u32) -> &State
+        requires low { 1 ≤ station }
+        requires high { station ≤ length self.now.states }
+        ensures value { slice_get self.now.states (station - 1) ≡ Some result.now }
+    {
+        &self.states[station as usize - 1]
+    }
+
     /// Handles every message before a front, at most the horizon: the clone's run goes on to there.
     ///
     /// Counts a step for each message handled. It stops where a station would handle more messages than the limit,
     /// and names the station of the first such message; before it, all was handled.
     pub fn run_to<L: Ledger>(
-        mut self,
+        self,
         model: &Model,
         front: u64,
         steps: &mut Steps<L>,
@@ -73,6 +110,30 @@ impl Solo {
         ensures solo { IfOk result (λ solo. IsSolo model.now solo) }
         ensures steps { IfOk result (λ solo. steps.new + length self.trace ≡ steps.old + length solo.trace) }
         ensures stops { IfErr result (λ e. Stops model.now self front steps.old steps.new e) }
+    {
+        self.run_on(model, front, steps)
+    }
+
+    /// Handles every message before a front, as `run_to` does. The run may be a resumed one.
+    ///
+    /// `past` is a ghost value: the entries that were handled before the run's trace begins. They count towards the
+    /// limit.
+    ///
+    /// Counts a step for each message handled. It stops where a station would handle more messages than the limit,
+    /// and names the station of the first such message; before it, all was handled.
+    pub fn run_on<L: Ledger>(
+        mut self,
+        model: &Model,
+        front: u64,
+        steps: &mut Steps<L>,
+    ) -> Result<Solo, SoloFault>
+        ghost past: { Entries }
+        requires solo { IsSoloAfter model.now past self }
+        requires early { front ≤ model.now.horizon }
+        ensures ok { IfOk result (λ solo. config_of model.now solo ≡ run_from model.now self front) }
+        ensures solo { IfOk result (λ solo. IsSoloAfter model.now past solo) }
+        ensures steps { IfOk result (λ solo. steps.new + length self.trace ≡ steps.old + length solo.trace) }
+        ensures stops { IfErr result (λ e. StopsAfter model.now past self front steps.old steps.new e) }
     {
         // One buffer for what each turn sends.
         let mut out = ArrayVec::new();
@@ -97,6 +158,13 @@ impl Solo {
             }
         }
         Ok(log)
+    }
+
+    /// The pending messages, in the order of their keys. The run stays as it is.
+    pub fn due(&self, alloc: Global) -> Result<Vec<Msg>, NoMemory>
+        ensures value { IfOk result (λ due. due.items ≡ self.now.pending) }
+    {
+        self.pending.messages(alloc)
     }
 
     /// The log of the messages that were handled, in order.

@@ -10,7 +10,7 @@ ghost use Rattle.stations.specs.Fits.{SuitsNet};
 ghost use Rattle.stations.specs.Handling.{StateView};
 ghost use Rattle.stations.specs.declared.sender.TheConstants.{ALL_TIMES};
 ghost use Rattle.solo_run.specs.EventLists.{IsForStation};
-ghost use Rattle.solo_run.specs.SoloView.{IsSolo, with_due};
+ghost use Rattle.solo_run.specs.SoloView.{Entries, IsSoloAfter, with_due};
 ghost use Rattle.solo_run.specs.Turns.{HandlesAt, StopsAt, HasTurned};
 
 use crate::event_list::EventList;
@@ -31,8 +31,8 @@ pub enum SoloFault {
     Limit { station: u32, kept: u64 },
 }
 
-// What was sent becomes pending.
-fn put_all(pending: &mut EventList, sends: &[Msg]) -> Result<(), NoMemory>
+// Messages for stations become pending.
+pub(crate) fn put_all(pending: &mut EventList, sends: &[Msg]) -> Result<(), NoMemory>
     requires all { AllByRecursion (IsForStation pending.old.stations) sends.now }
     ensures ok { OnOk result (pending.new.messages ≡ insert_all msg_cmp sends.now pending.old.messages) }
     ensures stations { pending.new.stations ≡ pending.old.stations }
@@ -94,12 +94,13 @@ impl Solo {
         out: &mut ArrayVec<Msg, MOST_SENDS>,
         steps: &mut Steps<L>,
     ) -> Result<(), SoloFault>
-        requires solo { IsSolo model.now (with_due msg.now self.old) }
+        ghost past: { Entries }
+        requires solo { IsSoloAfter model.now past (with_due msg.now self.old) }
         requires early { msg.now.key.time < ALL_TIMES }
 
         // The run comes to where the turn leads.
         ensures turned { OnOk result (HasTurned model.now self.old msg.now self.new) }
-        ensures solo { OnOk result (IsSolo model.now self.new) }
+        ensures solo { OnOk result (IsSoloAfter model.now past self.new) }
 
         // One message was handled.
         ensures counted { OnOk result (steps.new ≡ steps.old + 1) }

@@ -55,7 +55,7 @@ module _ (net : Net) (c : Clone) (plans : List Planned) (end : Option ℕ) (fron
     -- the stations have handled at most as many messages as they may
     pub steps_few : IsFew net 1 old new
     steps_few =
-        let short = trace-short net solo.valid s solo in
+        let short = trace-short net solo.valid [] s solo in
         let none = none_yet in
         omega (arith, short, none, steps)
 

@@ -1,14 +1,5 @@
-use Rattle.std.proofs.Common.{◌≡◌, ◌+◌, ◌-◌, ◌*◌, length}
-use Rattle.solo_run.specs.SoloView.{IsSolo}
-use Rattle.solo_run.specs.Turns.{IsReached}
+use Rattle.std.proofs.Common.{[]}
 use Rattle.solo_run.proofs.solo.Solo.run_to.Given as goal
 
-abbrev pub invariant-loop-due : goal.invariant-loop-due
-invariant-loop-due g l = record {
-  solo : IsSolo l.model l.self;
-  ran : IsReached l.model l.front l.fn.self l.self;
-  steps : l.steps + length l.fn.self.trace ≡ l.fn.steps + length l.self.trace;
-}
-
-abbrev pub decreases-loop-due : goal.decreases-loop-due
-decreases-loop-due g l = length l.model.sites * l.model.limit - length l.self.trace
+abbrev pub ghost-run_on : goal.ghost-run_on
+ghost-run_on g a = []

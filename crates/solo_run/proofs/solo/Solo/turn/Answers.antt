@@ -1,19 +1,19 @@
 use Rattle.std.proofs.Common.{subst, sym, []}
-use Rattle.solo_run.specs.SoloView.{SoloView, IsSolo, with_due}
+use Rattle.solo_run.specs.SoloView.{SoloView, IsSoloAfter, with_due}
 use Rattle.solo_run.specs.Turns.{HasTurned}
 use Rattle.solo_run.proofs.OneTurn.{sends_may_be_pending, is_solo, has_turned, solo_view}
 use Rattle.solo_run.proofs.solo.Solo.turn.Goals as goal
 
 pub handle_at-requires-clause-suits : goal.handle_at-requires-clause-suits
 handle_at-requires-clause-suits g c i st is =
-    let solo = subst (λ (w : SoloView). IsSolo c.args.model.now (with_due c.args.msg.now w))
-    (sym c.self.view_is) c.requires.solo in
+    let solo = subst (λ (w : SoloView). IsSoloAfter c.args.model.now g.past (with_due c.args.msg.now w))
+    (sym c.self.view_is) c.requires.1.0 in
     (solo.states i st is).suits
 
 pub handle_at-requires-clause-numbers : goal.handle_at-requires-clause-numbers
 handle_at-requires-clause-numbers g c i st is =
-    let solo = subst (λ (w : SoloView). IsSolo c.args.model.now (with_due c.args.msg.now w))
-    (sym c.self.view_is) c.requires.solo in
+    let solo = subst (λ (w : SoloView). IsSoloAfter c.args.model.now g.past (with_due c.args.msg.now w))
+    (sym c.self.view_is) c.requires.1.0 in
     (solo.states i st is).station
 
 pub put_all-requires : goal.put_all-requires
@@ -21,10 +21,10 @@ put_all-requires g c =
     let net = c.args.model.now in
     let m = c.args.msg.now in
     let v = solo_view c.self.inside.states.items c.self.inside.trace c.self.inside.pending in
-    let solo = subst (λ (w : SoloView). IsSolo net (with_due m w)) (sym c.self.view_is) c.requires.solo in
+    let solo = subst (λ (w : SoloView). IsSoloAfter net g.past (with_due m w)) (sym c.self.view_is) c.requires.1.0 in
     record {
       all = rw c.as_slice.ensures.value
-          (sends_may_be_pending net solo.valid v m c.handle_at.new.states.items [] _ _ c.requires.early solo
+          (sends_may_be_pending net solo.valid g.past v m c.handle_at.new.states.items [] _ _ c.requires.1.1 solo
           c.in_ok-line.ensures.ok c.self.inside.pending.stations c.self.invariant);
     }
 
@@ -33,18 +33,19 @@ returns-clause-turned g c =
     let net = c.args.model.now in
     let m = c.args.msg.now in
     let v = solo_view c.self.inside.states.items c.self.inside.trace c.self.inside.pending in
-    let solo = subst (λ (w : SoloView). IsSolo net (with_due m w)) (sym c.self.view_is) c.requires.solo in
+    let solo = subst (λ (w : SoloView). IsSoloAfter net g.past (with_due m w)) (sym c.self.view_is) c.requires.1.0 in
     let new = solo_view c.handle_at.new.states.items c.push.new.self c.put_all.new.pending in
     subst (λ (w : SoloView). HasTurned net w m new) c.self.view_is
     (rw c.in-Ok-push.ensures.ok
-    (has_turned net solo.valid v m c.handle_at.new.states.items c.put_all.new.pending.messages _ _ c.requires.early solo
-    c.in_ok-line.ensures.ok (rw c.as_slice.ensures.value at c.in-Ok.ensures.ok)))
+    (has_turned net solo.valid g.past v m c.handle_at.new.states.items c.put_all.new.pending.messages _ _
+    c.requires.1.1 solo c.in_ok-line.ensures.ok (rw c.as_slice.ensures.value at c.in-Ok.ensures.ok)))
 
 pub returns-clause-solo : goal.returns-clause-solo
 returns-clause-solo g c =
     let net = c.args.model.now in
     let m = c.args.msg.now in
     let v = solo_view c.self.inside.states.items c.self.inside.trace c.self.inside.pending in
-    let solo = subst (λ (w : SoloView). IsSolo net (with_due m w)) (sym c.self.view_is) c.requires.solo in
-    rw c.in-Ok-push.ensures.ok (is_solo net solo.valid v m c.handle_at.new.states.items c.put_all.new.pending.messages
-    _ _ c.requires.early solo c.in_ok-line.ensures.ok (rw c.as_slice.ensures.value at c.in-Ok.ensures.ok))
+    let solo = subst (λ (w : SoloView). IsSoloAfter net g.past (with_due m w)) (sym c.self.view_is) c.requires.1.0 in
+    rw c.in-Ok-push.ensures.ok
+    (is_solo net solo.valid g.past v m c.handle_at.new.states.items c.put_all.new.pending.messages _ _
+    c.requires.1.1 solo c.in_ok-line.ensures.ok (rw c.as_slice.ensures.value at c.in-Ok.ensures.ok))
