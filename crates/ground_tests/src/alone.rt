@@ -1,11 +1,13 @@
-//! Clones that are simulated alone: the worked examples of the definitions, run.
+//! Clones that are simulated alone: the worked examples of the definitions, run, and one of them resumed.
 ghost use Rattle.std.specs.Prelude.{◌≡◌, ◌<◌, IfSome};
 ghost use Rattle.solo_run.specs.SoloView.{IsSolo};
 
+mod resumed;
 mod traces;
 
 use log_chain::Log;
 use net_model::{Model, read_model};
+use resumed::resumed_runs;
 use sample_models::{CLASSES, DRAWN_GATE, FAN_BY_TURN, NO_ROOM, ONE_DESK};
 use sim_base::{Change, Entry, Param, Planned, Steps};
 use solo_run::Solo;
@@ -140,7 +142,9 @@ fn with_steps<L: Ledger>(alloc: Global, blank: Blank) -> bool
     requires some { 0 < L.parts }
 {
     let mut steps = Steps::<L>::new(blank);
-    whole_models(alloc, &mut steps) && changed_models(alloc, &mut steps)
+    whole_models(alloc, &mut steps)
+        && changed_models(alloc, &mut steps)
+        && resumed_runs(alloc, &mut steps)
 }
 
 #[test]
