@@ -96,7 +96,8 @@ pub enum LineFault {
     NotAscii,
     /// The line has no known form.
     BadLine,
-    /// The line has a known form, but one of its numbers is not a number of 32 bits.
+    /// The line has a known form, but one of its numbers is not written in digits without a leading zero, or needs more
+    /// than 32 bits.
     BadNumber,
     /// Out of memory.
     NoMemory,

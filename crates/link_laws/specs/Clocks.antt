@@ -1,4 +1,5 @@
--- Link clocks: how far each station may go alone, because every message that others may still send it comes later.
+-- Link clocks: how far each station may go alone. Every message that others may still send it comes at its clock or
+-- later.
 --
 -- The clock of a station is a lower bound on the times of such messages (LBTS). It is computed from the clocks of the
 -- senders and the delays of the links alone, so pending messages do not matter.

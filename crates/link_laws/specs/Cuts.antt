@@ -1,8 +1,7 @@
--- Cuts and rounds: what is known if each station is at a time of its own, what waits there, and how all stations go on
--- to later times.
+-- Cuts and rounds: what is known at a cut, what waits at each station, and how all stations go on to the next cut.
 --
--- A cut is a time for each station, as the consistent cuts of a distributed computation are. A front is the cut with
--- one time for all stations. Nothing here says how cuts are chosen: link clocks are one way, in Clocks.
+-- A cut is a time for each station, like a consistent cut of a distributed computation. A front is the cut with one
+-- time for all stations. Nothing here says how cuts are chosen: link clocks are one way, in Clocks.
 use Rattle.std.specs.Prelude.{◌≡◌, ◌⊎◌, ◌↔◌, ℕ, ◌<◌, ◌≤◌, List, [], ◌∷◌, ◌++◌}
 use Rattle.sim_base.specs.Clones.{Clone}
 use Rattle.sim_base.specs.declared.entry.Entry.{Entry}
@@ -45,15 +44,15 @@ module _ {S M N : Type 0} (sim : Simulation S M N) where
   window_from c cut next s q = local_run sim s (log_at sim c s (cut s)) (state_at sim c s (cut s)) q (next s)
       (end_of sim c)
 
-  -- a round: each station may go alone from its time at one cut to its time at the next. A station that handles a
-  -- message at its time or later sends nothing to another station before that station's next time
+  -- a round: each station may go alone from its time at one cut to its time at the next. A station in a good state that
+  -- handles any message at its time or later sends nothing to another station before that station's next time
   pub record IsRound (Good : ℕ → S → Type 0) (cut next : ℕ → ℕ) : Type 0 where
     pub later : (s : ℕ) → cut s ≤ next s
     pub apart : (x : ℕ) (st : S) (m z : M) → Good x st → In z (sim.handle x st m).sends → ¬ (sim.to z ≡ x) →
         cut x ≤ sim.time m → next (sim.to z) ≤ sim.time z
 
   -- the windows of the stations end with the logs and states of the clone's run. The messages that wait at a station
-  -- then are those that its window leaves and those that other windows lay aside for it, before the clone's end
+  -- then come before the clone's end: its own window leaves them, or another window lays them aside for it
   pub record RoundGives (c : Clone) (cut next : ℕ → ℕ) (q : ℕ → List M) : Type 0 where
     pub log : (s : ℕ) → log_at sim c s (next s) ≡ (window_from c cut next s (q s)).at.log
     pub state : (s : ℕ) → state_at sim c s (next s) ≡ (window_from c cut next s (q s)).at.state

@@ -44,12 +44,12 @@ module _ {S M N : Type 0} (sim : Simulation S M N) (Good : ℕ → S → Type 0)
       IsLeastLinkTime delays sim.stations (clock delays sim.stations sim.horizon k) s sim.horizon
       (clock delays sim.stations sim.horizon (suc k) s)
 
-  -- each round moves a clock by the lookahead at least, or to the horizon
+  -- if k lookaheads reach the horizon, every clock is at the horizon after k rounds
   abbrev pub ClockReachesHorizon : Type 0
   ClockReachesHorizon = (delays : Delays) (k s : ℕ) → KeepsToLinks sim Good delays → sim.horizon ≤ k * sim.lookahead →
       clock delays sim.stations sim.horizon k s ≡ sim.horizon
 
-  -- so the number of rounds is bounded
+  -- so the number of rounds is at most horizon / lookahead + 1
   abbrev pub RoundsAreBounded : Type 0
   RoundsAreBounded = (delays : Delays) (k : ℕ) → KeepsToLinks sim Good delays → 0 < sim.lookahead →
       AreRounds delays sim.stations sim.horizon k → k ≤ sim.horizon / sim.lookahead + 1
@@ -81,7 +81,7 @@ module _ {S M N : Type 0} (K : Type 0) (sim : Simulation S M N) (Good : ℕ → 
   FrontIsCut = (has : K → ℕ → Bool) (cs : List Clone) (front s : ℕ) (copies : List (Copy S M N K)) →
       Stands sim has cs front s copies ↔ StandsAtCut sim has cs (λ x. front) s copies
 
-  -- cuts with equal times at all stations are the same
+  -- copies that represent the clones at a cut do so at each cut with the same times at all stations
   abbrev pub SameCut : Type 0
   SameCut = (has : K → ℕ → Bool) (cs : List Clone) (cut same : ℕ → ℕ) (s : ℕ) (copies : List (Copy S M N K)) →
       AllAreForStations sim cs → IsStation sim s → ((r : ℕ) → IsStation sim r → cut r ≡ same r) →
@@ -121,7 +121,8 @@ module _ {S M N : Type 0} (K : Type 0) (sim : Simulation S M N) (Good : ℕ → 
       GainInRound w.has cs cut next olds s total → AreWithinLimitAt sim cs s (next s) →
       handled_once sim w.same cs s (next s) ≡ handled_once sim w.same cs s (cut s) + total
 
-  -- the sum is at most the limit for each clone, even if logs get too long
+  -- handled once at the station's time plus the gain is at most the limit times the number of clones, even if logs get
+  -- too long
   abbrev pub HandledIsFewInRound : Type 0
   HandledIsFewInRound = (w : Counting M N K) (cs : List Clone) (cut next : ℕ → ℕ) (olds : ℕ → List (Copy S M N K))
       (s total : ℕ) →

@@ -25,7 +25,7 @@ pub fn rounds_give_runs<S, M, N, T: Stations<S, M, N>>()
     ensures due { DueIsWaiting T.sim T.good }
 {}
 
-/// From cut to cut the copies of each station represent the clones.
+/// The copies of each station represent the clones from cut to cut.
 pub fn copies_stand_at_cuts<S, M, N, K, T: Stations<S, M, N>>()
     ensures front { FrontIsCut K T.sim T.good }
     ensures same { SameCut K T.sim T.good }
@@ -33,7 +33,7 @@ pub fn copies_stand_at_cuts<S, M, N, K, T: Stations<S, M, N>>()
     ensures logs { RoundGivesLogs K T.sim T.good }
 {}
 
-/// The messages that a round handles once, and the clones over the limit, by the logs alone.
+/// The messages that a round handles once, the clones over the limit, and the number of copies, by the logs alone.
 pub fn rounds_gain<S, M, N, K, T: Stations<S, M, N>>()
     ensures grows { HandledGrowsInRound K T.sim T.good }
     ensures at_most { HandledIsFewInRound K T.sim T.good }

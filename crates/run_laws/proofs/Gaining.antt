@@ -1,8 +1,9 @@
 -- Handled once: the number of different prefixes of the clones' logs grows by what the copies gain, and there are as
 -- many copies as different logs.
 --
--- The lemmas `.._by_logs` hold for any two times of a station. Their premise is that each copy's run alone, to the
--- later time, ends with the clone's log there. Windows meet it, and the lemmas of windows follow.
+-- The lemmas `.._by_logs` of gains hold for any two times of a station. They have two premises. The messages that a
+-- clone takes come at the earlier time or later, and a copy's run alone to the later time ends with the clone's log
+-- there. Windows meet both, and the lemmas of windows follow.
 use Rattle.std.proofs.Common.{◌≡◌, ◌↔◌, ℕ, ◌+◌, ◌-◌, ◌*◌, ◌≤◌, ◌<◌, min, List, []}
 use Rattle.std.proofs.Common.{◌∷◌, ◌++◌, ◌⊎◌, inl, inr, Bool, true, nat_lt, ◌==◌, refl, sym}
 use Rattle.std.proofs.Common.{ap, ◌∙◌, subst, arith, length, length-append, map, take, drop, append_assoc, append-nil}

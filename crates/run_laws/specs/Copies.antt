@@ -284,7 +284,7 @@ module _ {S M N : Type 0} (sim : Simulation S M N) where
 
 module _ {S M N K : Type 0} (sim : Simulation S M N) (has : K → ℕ → Bool) (cs : List Clone) where
   -- the copies of station s represent the clones at a time by their logs and states. Each clone is in one copy, which
-  -- has the clone's log and state; clones with equal logs are in one copy. Pending messages are any, in order
+  -- has the clone's log and state; clones with equal logs are in one copy. Any messages may be pending, in order
   pub record StandsByLogs (time s : ℕ) (copies : List (Copy S M N K)) : Type 0 where
     pub inhabited : (a : Copy S M N K) → In a copies → (c : ℕ) × Carries has a c
     pub carried : (c : ℕ) → c < length cs → (a : Copy S M N K) × In a copies × Carries has a c

@@ -36,7 +36,7 @@ module _ {S M N : Type 0} (sim : Simulation S M N) where
     pub placed : (j : ℕ) → IsPlaced cs (outcome_at front ls ws j) (option_at places j)
     pub order : IsPlaceOrder (length cs) (trigger_order (length ls) places)
 
-  -- in the order of the triggers, such clones are the script's clones and the branches
+  -- such clones are, in the order of the triggers, the script's clones and then the branches
   abbrev pub ClonesInTriggerOrder : Type 0
   ClonesInTriggerOrder = (front : ℕ) (ls : List Clone) (ws : List (Trigger N)) (cs : List Clone)
       (places : List (Option ℕ)) →
@@ -44,7 +44,7 @@ module _ {S M N : Type 0} (sim : Simulation S M N) where
       in_order cs (trigger_order (length ls) places)
       ≡ map (λ (b : Branch). b.clone) (branches_at sim front (map initial_branch ls) ws)
 
-  -- a pass goes through the triggers in their order, when the world has come from a front to a bound
+  -- a pass goes through the triggers in their order, after the world has gone on from a front to a bound
   module _ (front bound : ℕ) (ls : List Clone) (ws : List (Trigger N)) where
     -- the outcome of the trigger at place j after a pass has gone through the first i triggers
     abbrev pub outcome_after : ℕ → ℕ → Option Branch

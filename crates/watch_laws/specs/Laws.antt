@@ -35,13 +35,14 @@ module _ {S M N : Type 0} (sim : Simulation S M N) where
       AllByRecursion (λ m. until ≤ sim.time m) (all_due sim c front) →
       log_at sim c s until ≡ log_at sim c s front
 
-  -- if a log rises by time, its entries before a front have the due time of the log, if that is before the front
+  -- the due time in the entries before a front is the log's due time, or none if that is at the front or later. The log
+  -- rises by time
   abbrev pub DueBeforeFront : Type 0
   DueBeforeFront = (condition : N → Bool) (start front : ℕ) (es : List (Entry M N)) → RisesByTime sim.time es →
       due_in sim.time condition start (filter (λ e. nat_lt (sim.time e.msg) front) es)
       ≡ time_before front (due_in sim.time condition start es)
 
-  -- a due time is known at a front if it is before the front
+  -- the due time in the log at a front is that in each later log, or none if that is at the front or later
   abbrev pub DueAtFront : Type 0
   DueAtFront = (condition : N → Bool) (c : Clone) (s start front bound : ℕ) → AreForStations sim c.plans →
       front ≤ bound →

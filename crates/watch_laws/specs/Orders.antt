@@ -15,7 +15,7 @@ IsPlaceOrder n order = IsPermutation (range_with_len 0 n) order
 abbrev pub in_order : List Clone → List ℕ → List Clone
 in_order cs order = map (clone_at cs) order
 
--- clones in another order are the same clones
+-- clones in another order are a permutation of the clones
 abbrev pub OrderIsPermutation : Type 0
 OrderIsPermutation = (cs : List Clone) (order : List ℕ) → IsPlaceOrder (length cs) order →
     IsPermutation cs (in_order cs order)

@@ -45,7 +45,7 @@ pub fn figures_ignore_order<S, M, N, T: Stations<S, M, N>>()
     ensures figures { FiguresIgnoreOrder T.sim }
 {}
 
-/// In the order of the triggers, the clones that hold the branches are the script's clones and the branches.
+/// Clones that hold the branches are, in the order of the triggers, the script's clones and then the branches.
 pub fn clones_are_in_trigger_order<S, M, N, T: Stations<S, M, N>>()
     ensures in_order { ClonesInTriggerOrder T.sim }
 {}
