@@ -24,8 +24,8 @@ abbrev pub lost_in : Line → ℕ
 lost_in (Server busy wait done lost) = lost
 lost_in _ = 0
 
--- an event at a queue: a job arrives and is admitted, a job arrives and is lost, a job's service ends and it departs,
--- a parameter changes, or an event that does not concern the queue
+-- an event at a queue: an arrival that is admitted, an arrival that is lost, a departure at the end of a service, a
+-- change of a parameter, or an event that does not concern the queue
 pub data Event : Type 0 where
   visit : JobOf → Event
   loss : Event

@@ -11,8 +11,8 @@ pub fn logs_are_queues()
     ensures queues { (net : Net) → IsNet net → LogsAreQueues net }
 {}
 
-/// Every run keeps Little's law in its finite form. A station of one server also keeps Lindley's equation, and if it
-/// serves by arrival, jobs depart in order of arrival.
+/// Every run keeps Little's law in its finite form. Until a parameter changes, a station of one server also keeps
+/// Lindley's equation, and if it serves by arrival, jobs depart in order of arrival.
 pub fn runs_keep_the_laws_of_queues()
     ensures little { (net : Net) → IsNet net → RunsKeepLittle net }
     ensures lindley { (net : Net) → IsNet net → RunsKeepLindley net }

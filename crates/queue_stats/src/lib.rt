@@ -1,8 +1,9 @@
 //! Queue statistics: the figures of a server's queue in the run of a clone.
 //!
 //! A server's log is the whole history of its queue. Each entry is an arrival, a loss, a departure or a change of a
-//! parameter, with the numbers of jobs in service and waiting after it. The statistics are exact whole numbers: counts,
-//! the greatest number of waiting jobs, the area under the number in the system, and the waits at a single server.
+//! parameter. It has the numbers of jobs in service and waiting after it. The statistics are exact whole numbers:
+//! counts, the greatest number of waiting jobs, the area under the number in the system, and the waits at a single
+//! server.
 //!
 //! ```text
 //! number in the system

@@ -1,4 +1,5 @@
--- What a server keeps in a run: sources of the network made its waiting jobs, and each service has a completion.
+-- What a server keeps in a run: sources of the network may have made its waiting jobs, and each service that begins
+-- has a completion.
 use Rattle.std.proofs.Common.{◌≡◌, ℕ, zero, suc, ◌+◌, ◌-◌, ◌≤◌, List, [], ◌∷◌, ◌++◌, length, Bool, true, false}
 use Rattle.std.proofs.Common.{nat_lt}
 use Rattle.std.proofs.Common.{if◌then◌else◌, refl, sym, Option, Some, None, slice_get, arith, ltb-true, take, drop}
@@ -42,7 +43,7 @@ all_remove : {X : Type 0} (P : X → Type 0) (xs : List X) (i : ℕ) → AllByRe
 all_remove P xs i all = all_append P (take i xs) (drop (suc i) xs) (all_take P xs i all) (all_drop P xs (suc i) all)
 
 module _ (net : Net) (site : Site) (now : ℕ) (links : AllByRecursion (IsLink net) site.links) where
-  -- sources of the network made every job in the waiting line
+  -- sources of the network may have made every job in the waiting line
   abbrev LineIsOfNet : ServerState → Type 0
   LineIsOfNet s = AllByRecursion (λ j. is_job_of net j ≡ true) s.waiting
 

@@ -9,8 +9,8 @@ use Rattle.run_laws.specs.Runs.{run}
 use Rattle.run_laws.specs.Handlers.{IsStation, AreForStations}
 
 module _ {S M N : Type 0} (sim : Simulation S M N) (sender number : M → ℕ) (next : S → ℕ) where
-  -- pending messages have used numbers: a decision's number is a place in the list of decisions, and a station's
-  -- message has a number below the next one of its sender; every pending message is for a station
+  -- pending messages have used numbers. A decision's number is a place in the list of decisions. The number of a
+  -- station's message is below the next number of its sender. Every pending message is for a station
   pub record HasUsedNumbers (plans : List Planned) (w : Config (World S M N) M) : Type 0 where
     pub used : (z : M) → In z w.pending →
         ((sender z ≡ 0) × (number z < length plans))

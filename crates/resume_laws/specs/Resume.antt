@@ -17,7 +17,7 @@ module _ {S M N : Type 0} where
   without_trace c = record { at = record { states = c.at.states; trace = [] }; pending = c.pending }
 
 module _ {S M N : Type 0} (sim : Simulation S M N) where
-  -- the entries that a run adds to the trace of a world, up to a bound
+  -- the entries of a run from the states and the pending messages of a world, before a bound
   abbrev pub onward : Config (World S M N) M → ℕ → List (Entry M N)
   onward c bound = (run_from sim (without_trace c) bound).at.trace
 

@@ -17,7 +17,7 @@ use Rattle.stations.specs.Fitting.{is_job_of}
 use Rattle.stations.specs.Handling.{StateView}
 use Rattle.resume_laws.specs.Tally.{tally}
 
--- a job that a message carries was made by a source of the network, before the horizon
+-- a source of the network may have made the job that a message carries, before the horizon
 abbrev pub CarriesJobOf : Net → Payload → Type 0
 CarriesJobOf net (Job j) = is_job_of net j ≡ true
 CarriesJobOf net (Done j) = is_job_of net j ≡ true
@@ -61,8 +61,8 @@ abbrev pub busy_of : KindState → ℕ
 busy_of (Server s) = s.busy
 busy_of _ = 0
 
--- what a run keeps of a kind's state: a source may send the model's number of jobs; sources of the network made every
--- waiting job; the stays at a sink are at most `ALL_TIMES` for each message
+-- what a run keeps of a kind's state. A source may send the model's number of jobs. Sources of the network may have
+-- made the waiting jobs, before the horizon. The sum of stays at a sink is at most `ALL_TIMES` for each message
 abbrev pub RunKeepsKind : Net → Kind → ℕ → KindState → Type 0
 RunKeepsKind net (kind.Source lo hi jobs class) handled (Source s) = s.jobs ≡ jobs
 RunKeepsKind net (kind.Server servers room lo hi by_class) handled (Server s) =
@@ -83,8 +83,8 @@ pub record RunKeepsMessage (net : Net) (m : Msg) : Type 0 where
   pub job : CarriesJobOf net m.payload
   pub time_max : m.key.time < ALL_TIMES
 
--- what a run keeps of its world: a source has at most one tick pending, and only if a job is left to send; a server has
--- at most as many completions pending as jobs in service
+-- what a run keeps of its world. A source has at most one pending tick, and only if a job is left to send. A server has
+-- no more pending completions than jobs in service
 pub record RunKeepsWorld (net : Net) (w : Config (World StateView Msg Line) Msg) : Type 0 where
   pub states : (s : ℕ) → RunKeepsState net s (w.at.states s)
   pub pending : AllByRecursion (RunKeepsMessage net) w.pending

@@ -12,7 +12,7 @@ use Rattle.stations.specs.Saving.{saved_of, restored}
 use Rattle.resume_laws.specs.RunKeeps.{RunKeepsState, RunKeepsWorld, sent_of, jobs_of}
 
 module _ (net : Net) where
-  -- a state of station s in a run that is within the limit
+  -- what every state of station s keeps in a run within the limit
   pub record IsRunState (s : ℕ) (st : StateView) : Type 0 where
     pub station : st.sender.station ≡ s
     pub fits : FitsState st

@@ -8,21 +8,21 @@ ghost use Rattle.stations.specs.Fitting.{FittingIsRestored};
 
 use run_laws::laws::{NumberingStations, Stations};
 
-/// A run never reads the trace of its world. So the trace of a clone is the trace of its run to a front, and then what
-/// a run from the states and the pending messages of that front adds.
+/// A run never reads the trace of its world. So the trace of a clone has two parts: the trace of its run to a front,
+/// and what a run from the states and the pending messages at that front adds.
 pub fn resumed_runs_are_unbroken<S, M, N, T: Stations<S, M, N>>()
     ensures forgets { RunForgetsItsTrace T.sim }
     ensures unbroken { ResumedIsUnbroken T.sim }
 {}
 
-/// The numbers of pending messages are used up: a decision's number is a place in the list of decisions, and the number
-/// of a station's message is below the next number of its sender.
+/// The numbers of pending messages are used up. A decision's number is a place in the list of decisions. The number of
+/// a station's message is below the next number of its sender.
 pub fn pending_numbers_are_used<S, M, N, T: NumberingStations<S, M, N>>()
     ensures { PendingHasUsedNumbers T.sim T.sender T.number T.next }
 {}
 
-/// Data that fits a station restores a state of it. The saved data of a run's state fits its station and restores that
-/// state with its draws. Every run of a network keeps the invariant of runs.
+/// Data that fits a station restores a state of it. If a state meets `IsRunState`, its saved data fits its station and
+/// restores that state with its draws. A run whose decisions are before the horizon keeps the invariant of runs.
 pub fn runs_are_saved()
     ensures restored { (net : Net) → IsNet net → FittingIsRestored net }
     ensures same { (net : Net) → IsNet net → StateIsRestored net }

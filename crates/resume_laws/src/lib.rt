@@ -1,8 +1,8 @@
 //! The theory of saving and resuming one clone: what a run needs of its past, and what every run keeps.
 //!
-//! A snapshot of a run at a front has the states of the stations and the pending messages. It has no trace, since a run
-//! never reads the trace of its world. These are the laws by which the resumed run handles, message by message, what
-//! the unbroken run handles from that front on:
+//! A snapshot of a run at a front has the states of the stations and the pending messages. It needs no trace, since a
+//! run never reads the trace of its world. By the laws of this crate, the resumed run handles the same messages as the
+//! unbroken run from that front on:
 //!
 //! ```text
 //! unbroken    1  4  4  9 | 11  12  17 ..
@@ -16,7 +16,7 @@
 //! - Numbers: pending messages have numbers below the next ones of their senders;
 //! - Tally: the sum of a measure over a list;
 //! - RunKeeps: the invariant of a network's runs, for example at most one pending tick per source;
-//! - SavedLaws: the data of a run's state fits its station, and restores that state.
+//! - SavedLaws: the saved data of a state that meets `IsRunState` fits its station, and restores that state.
 //!
 //! There is nothing to run: the contract of each function in `laws` is a law. The crates above cite a definition in
 //! their contracts and a lemma in their proofs:

@@ -60,7 +60,7 @@ StopsAt net i states old_steps new_steps (Limit station kept) =
 abbrev pub HasTurned : Net → SoloView → Msg → SoloView → Type 0
 HasTurned net v m new = config_of net new ≡ config_after msg_cmp (step_of net) (config_of net v).at m v.pending
 
--- the run to a front goes beyond the limit, and past entries count: all entries before the first one beyond it were
+-- the run to a front goes beyond the limit, and past entries count. All entries before the first one beyond it were
 -- handled, one step for each, and no station has handled more than the limit
 pub record GoesBeyondAfter (net : Net) (past : Entries) (v : SoloView)
     (front old_steps new_steps station kept : ℕ) : Type 0 where

@@ -12,9 +12,9 @@
 //!     let solo = solo.run_to(&model, model.horizon(), &mut steps)?;   // Err(SoloFault::Limit { .. }) at the limit
 //!     let trace = solo.trace();                                       // the log of what was handled, in order
 //!
-//! A run can be resumed. `state` and `due` are what a snapshot of a run keeps, and `resumed` makes a run of them whose
-//! trace begins empty. `run_on` is `run_to` for such a run: what was handled before it is a ghost value, `past`, and
-//! counts towards the limit too.
+//! A run can be resumed. `state` and `due` return what a snapshot of a run keeps. `resumed` makes a run from these, and
+//! its trace begins empty. `run_on` is `run_to` for such a run: the ghost value `past` has the entries handled before,
+//! which count towards the limit too.
 //!
 //!     let solo = Solo::resumed(alloc, &model, states, &due)?;         // states of the stations, pending messages
 //!     let solo = solo.run_on(&model, model.horizon(), &mut steps)?;   // its trace: the messages handled since then

@@ -118,9 +118,6 @@ impl Solo {
     ///
     /// `past` is a ghost value: the entries that were handled before the run's trace begins. They count towards the
     /// limit.
-    ///
-    /// Counts a step for each message handled. It stops where a station would handle more messages than the limit,
-    /// and names the station of the first such message; before it, all was handled.
     pub fn run_on<L: Ledger>(
         mut self,
         model: &Model,

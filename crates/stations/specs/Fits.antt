@@ -33,8 +33,8 @@ abbrev pub HasLinks : KindState → List Link → Type 0
 HasLinks (Sink s) links = Unit {0}
 HasLinks _ links = AreLinks links
 
--- a source has a range of times from 1 on and no more jobs than the most; it may be restored with any number of jobs
--- sent that a model allows, and has sent at most one more for each message that it handled
+-- a source has a range of times from 1 on and at most `MOST_JOBS` jobs. It may be restored with up to `MOST_JOBS` jobs
+-- sent, and sends at most one job for each message that it handles
 pub record FitsSource (handled : ℕ) (s : SourceState) : Type 0 where
   pub range : IsRange 1 s.lo s.hi
   pub jobs : s.jobs ≤ MOST_JOBS
@@ -59,8 +59,8 @@ pub record FitsRouter (handled : ℕ) (s : RouterState) : Type 0 where
   pub weights : AreWeights s.weights.items
   pub passed : s.passed ≤ handled
 
--- a sink got no more jobs than it handled messages; it may be restored with any sum of stays below `ALL_STAYS`, which
--- has grown by at most `ALL_TIMES` for each message
+-- a sink got no more jobs than it handled messages. It may be restored with any sum of stays below `ALL_STAYS`, and
+-- each message adds at most `ALL_TIMES`
 pub record FitsSink (handled : ℕ) (s : SinkState) : Type 0 where
   pub got : s.got ≤ handled
   pub stay : s.stay ≤ ALL_STAYS + ALL_TIMES * handled

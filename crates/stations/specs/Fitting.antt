@@ -19,8 +19,8 @@ use Rattle.stations.specs.declared.saved.Shape.TheVariants as shape
 abbrev pub is_job_of : Net → JobOf → Bool
 is_job_of net j = is_source (site_of net j.source).kind && (nat_lt j.count MOST_JOBS && nat_lt j.born net.horizon)
 
--- whether a shape is one of a station of this kind, which has handled that number of messages: its parameters are in
--- range, its counts are within their bounds, and sources may have made the jobs that wait
+-- whether a shape fits a station of this kind that has handled this number of messages: its parameters are in range,
+-- its counts are within their bounds, and sources may have made the jobs that wait
 abbrev pub fits_shape : Net → Site → ℕ → Kind → Shape → Bool
 fits_shape net site handled (kind.Source lo hi jobs class) (shape.Source low high sent) =
     is_range 1 low high && nat_le sent jobs
@@ -38,14 +38,14 @@ fits_shape net site handled (kind.Router turn) (shape.Router passed weights) =
 fits_shape net site handled kind.Sink (shape.Sink got stay) = nat_le got handled && nat_lt stay ALL_STAYS
 fits_shape net site handled _ _ = false
 
--- whether plain data is a state of station s: its counts are within their bounds, and its shape is one of the station
+-- whether plain data fits station s: its counts are within their bounds, and its shape fits the station
 abbrev pub fits_saved : Net → ℕ → Saved → Bool
 fits_saved net s saved =
     (nat_le saved.handled net.limit
     && (nat_le saved.next (MOST_SENDS * (saved.handled + 1)) && nat_le saved.drawn (MOST_SENDS * (saved.handled + 1))))
     && fits_shape net (site_of net s) saved.handled (site_of net s).kind saved.shape
 
--- data that fits restores a state of the station, from which a run may go on
+-- plain data restores a state of station s, which is within the bounds of every state
 pub record RestoresState (net : Net) (s : ℕ) (saved : Saved) : Type 0 where
   pub state : StateView
   pub is : restored net s saved ≡ Some state
@@ -54,7 +54,7 @@ pub record RestoresState (net : Net) (s : ℕ) (saved : Saved) : Type 0 where
   pub station : state.sender.station ≡ s
   pub handled : state.handled ≡ saved.handled
 
--- whatever fits a station restores a state of it
+-- data that fits a station restores a state of it
 abbrev pub FittingIsRestored : Net → Type 0
 FittingIsRestored net = (s : ℕ) (saved : Saved) → HasStation net s → fits_saved net s saved ≡ true
     → RestoresState net s saved

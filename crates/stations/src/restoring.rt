@@ -1,4 +1,4 @@
-//! How plain data becomes the state of a station again, if it may be one.
+//! Tests whether plain data fits a station, and restores the station's state from it.
 ghost use Rattle.std.specs.Prelude.{◌≡◌, ◌+◌, ◌≤◌, length, Some, None, IfOk, IfErr, OnOk, true, false};
 ghost use Rattle.std.specs.List.{list_all};
 ghost use Rattle.net_model.specs.Net.{HasStation, is_source, site_of};
@@ -171,7 +171,7 @@ fn restore_kind(alloc: Global, kind: &Kind, shape: &Shape) -> Result<KindState, 
 impl State {
     /// The state of a station that plain data restores. Its draws go on where they were.
     ///
-    /// `Unfit` comes exactly if the data is no state of this station of the model.
+    /// It returns `Unfit` only if the data does not fit this station of the model, and Ok only if it fits.
     pub fn restore(
         alloc: Global,
         model: &Model,

@@ -1,4 +1,4 @@
-//! How the state of a station becomes plain data.
+//! Saves the state of a station as plain data.
 ghost use Rattle.std.specs.Prelude.{◌≡◌, IfOk};
 ghost use Rattle.stations.specs.Saving.{shape_of as shape_of', saved_of};
 

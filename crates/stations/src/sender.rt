@@ -21,7 +21,7 @@ pub const MOST_SENDS: usize = MOST_SERVERS as usize;
 /// How many times there are at which a station may handle a message: 31 bits, more than the greatest horizon.
 pub const ALL_TIMES: u64 = 2_147_483_648;
 
-/// How many sums of stays there are with which a sink may be restored: 48 bits, more than the sum of any run.
+/// A sink may be restored with a sum of stays below this number: 48 bits, more than the sum of any run.
 pub const ALL_STAYS: u64 = 281_474_976_710_656;
 
 /// How many numbers there are for the messages of a station, for its draws, and for each of its counts: 32 bits.

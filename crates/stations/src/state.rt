@@ -243,7 +243,7 @@ pub fn setup(alloc: Global, model: &Model, station: u32) -> Result<(State, Optio
 }
 
 impl State {
-    // A state of its parts, which keep what every state keeps.
+    // The state with these parts, which are within the bounds of every state.
     pub(crate) fn of(sender: Sender, handled: u64, kind: KindState) -> State
         requires fits { FitsState (record { sender = sender; handled = handled; kind = kind }) }
         ensures value { result ≡ record { sender = sender; handled = handled; kind = kind } }
@@ -316,7 +316,7 @@ fn copy_kind(kind: &KindState, alloc: Global) -> Result<KindState, NoMemory>
     }
 }
 
-// Weights of their own, equal to these.
+// A copy of the weights.
 pub(crate) fn copy_weights(weights: &[u32]) -> ArrayVec<u32, MOST_LINKS>
     requires { length weights.now ≤ MOST_LINKS }
     ensures { result.items ≡ weights.now }

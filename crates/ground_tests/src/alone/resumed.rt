@@ -12,8 +12,8 @@ use stations::State;
 use std::alloc::Global;
 use std::sync::ledger::Ledger;
 
-/// A front of the worked example: the places in its trace of the messages that are pending there, in order, and the
-/// number of messages that each station has handled.
+/// A front of the worked example. `due` has the places of its pending messages in the trace, in order. `handled` has
+/// the number of messages that each station has handled.
 struct Front {
     time: u64,
     due: &'static [usize],
@@ -123,7 +123,8 @@ fn hold(before: &Log, after: &Log, entries: &[Entry]) -> bool {
     first.next().is_none() && second.next().is_none()
 }
 
-/// Whether the example is at a front what its row says, and handles the rest of its trace once it is resumed.
+/// Whether the example has the pending messages and counts of a front's row, and handles the rest of its trace once it
+/// is resumed.
 fn goes_on<L: Ledger>(alloc: Global, model: &Model, front: &Front, steps: &mut Steps<L>) -> bool {
     if front.time > model.horizon() {
         return false;

@@ -1,4 +1,4 @@
-//! The state of each kind of station becomes plain data, and the state that this restores goes on as it would have.
+//! The state of each kind of station is saved as plain data, and the restored state goes on like the saved one.
 ghost use Rattle.std.specs.Prelude.{◌≡◌, ◌<◌, IfSome};
 ghost use Rattle.ground_tests.specs.States.{IsStateOf};
 
@@ -106,7 +106,7 @@ fn line_of(alloc: Global, length: u64) -> Result<JobLine, NoMemory> {
     Ok(JobLine::of(jobs))
 }
 
-/// Whether a desk is restored with a line of this length, None if memory is refused.
+/// Whether a desk is restored with a line of this length; None if out of memory.
 fn takes_line(alloc: Global, model: &Model, length: u64) -> Option<bool> {
     if model.len() < 2 {
         return None;

@@ -35,8 +35,8 @@ sources_at_bounds =
     saved 262160 262160 16384 (Source 1 1000000 2)
     ∷ saved 16 16 0 (Source 1 1 2) ∷ []
 
--- a handled count above the limit; numbers and draws above 16 for each message and the opening; ranges that begin at 0,
--- go down, or end too late; more jobs than the model's; the shape of another kind
+-- a handled count above the limit; more than 16 numbers or draws for each message and the opening; ranges that begin at
+-- 0, go down, or end too late; more jobs sent than the model has; the shape of another kind
 abbrev pub unfit_sources : List Saved
 unfit_sources =
     saved 0 0 16385 (Source 3 3 0)
@@ -56,8 +56,9 @@ servers_at_bounds =
     saved 0 0 3 (Server 16 4096 1 1000000 16 3 3 (waiting 1 999999 19 ∷ []))
     ∷ saved 0 0 0 (Server 1 0 1 1 0 0 0 []) ∷ []
 
--- no server and 17; too much room; ranges that begin at 0 and go down; 17 busy; a job that waits beside a free server;
--- more done or lost than handled; jobs that no source made, with a count or a time of birth that is none
+-- no server and 17; too much room; ranges that begin at 0 and go down; 17 busy; a job that waits while a server is
+-- free; more done or lost than handled; jobs made by a server and by no station; a count and a time of birth that are
+-- too large; the shape of another kind
 abbrev pub unfit_servers : List Saved
 unfit_servers =
     saved 0 0 3 (Server 0 5 4 4 0 0 0 [])
@@ -80,7 +81,7 @@ unfit_servers =
 abbrev pub sinks_at_bounds : List Saved
 sinks_at_bounds = saved 0 0 3 (Sink 3 281474976710655) ∷ []
 
--- more jobs than messages; a sum of stays of 48 bits and one; the shape of another kind
+-- more jobs than messages; a sum of stays of 2^48; the shape of another kind
 abbrev pub unfit_sinks : List Saved
 unfit_sinks =
     saved 0 0 3 (Sink 4 0) ∷ saved 0 0 3 (Sink 0 281474976710656) ∷ saved 0 0 3 (Delay 1 1 0) ∷ []
