@@ -1,13 +1,17 @@
 -- One step of a pass, case by case: the outcome, and the conditions of the fork and the set that make the branch.
 use Rattle.std.proofs.Common.{◌≡◌, ℕ, zero, suc, ◌+◌, ◌<◌, ◌≤◌, List, [], ◌∷◌, ◌++◌, inl, inr, Option, Some, None, refl}
-use Rattle.std.proofs.Common.{sym, ap, ◌∙◌, arith, subst, cond, map, length, slice_set}
-use Rattle.std.specs.List.{range_with_len}
+use Rattle.std.proofs.Common.{sym, ap, ◌∙◌, arith, subst, cond, map, length, slice_set, Bool, true, false, not, nat_lt}
+use Rattle.std.specs.List.{range_with_len, position_or_len}
+use Rattle.std.specs.Str.{bytes_eq}
+use Rattle.std.proofs.lemmas.Slice.Eq.{bytes_eq-Decides}
+use Rattle.std.proofs.lemmas.Option.{slice_get_within}
 use Rattle.std.proofs.lemmas.Bool.{lt-ltb, le-ltb}
 use Rattle.std.proofs.Common.{length-append}
 use Rattle.std.proofs.lemmas.List.Sorted.{length_permutation}
-use Rattle.sim_base.specs.Clones.{Clone, clone_at, clones_with_fork, clones_with_plan, fork_of, with_plan}
+use Rattle.sim_base.specs.Clones.{Clone, clone_at, clones_with_fork, clones_with_plan, fork_of, with_plan, place_of}
 use Rattle.sim_base.specs.declared.decision.Planned.{Planned}
 use Rattle.run_laws.specs.Simulation.{Simulation}
+use Rattle.run_laws.specs.Handlers.{IsStation}
 use Rattle.run_laws.proofs.Places.{clone_push_same}
 use Rattle.watch_laws.specs.Branches.{Branch, Trigger, initial_branch, present, branch_if_due, branch_from}
 use Rattle.watch_laws.specs.Branches.{branch_of, due_time}
@@ -15,7 +19,7 @@ use Rattle.watch_laws.specs.Keeping.{HoldsAfter, IsPlaced, option_at, trigger_or
 use Rattle.watch_laws.specs.Laws.{DueAtFront, DueIsNotLate}
 use Rattle.watch_laws.specs.PassLaws.{SameOrLate, Fires, IsInPass, PassGoesOn, source_at}
 use Rattle.watch_laws.proofs.Keeping.{pass_grows, pass_stays, no_place, outcome_after-ahead, present-fewer}
-use Rattle.watch_laws.proofs.Steps.{name_is_new, outcome_at-same_or_late, outcomes-at}
+use Rattle.watch_laws.proofs.Steps.{name_is_new, outcome_at-same_or_late, outcomes-at, targets-at}
 
 -- ---- clones_with_fork, clones_with_plan
 
@@ -48,6 +52,25 @@ few_clones n cs places i l e same =
     long : (a n : ℕ) → length (range_with_len a n) ≡ n
     long a zero = refl
     long a (suc n) = ap suc (long (a + 1) n)
+
+-- ---- place_of
+
+-- if no clone has a name, the name has no place
+place_of-none : (name : List ℕ) (cs : List Clone) → ((k : ℕ) → k < length cs → (clone_at cs k).name ≡ name → ⊥) →
+    place_of name cs ≡ None
+place_of-none name cs f = ap (λ n. cond (nat_lt n (length cs)) (Some n) None) (past cs f)
+    ∙ ap (λ b. cond b (Some (length cs)) None) (le-ltb (length cs) (length cs) (omega arith))
+  where
+    past : (cs : List Clone) → ((k : ℕ) → k < length cs → (clone_at cs k).name ≡ name → ⊥) →
+        position_or_len (λ (c : Clone). bytes_eq c.name name) cs ≡ length cs
+    past [] f = refl
+    past (c ∷ cs) f = by (bytes_eq c.name name) refl (past cs (λ k l. f (suc k) (omega (arith, l))))
+      where
+        by : (b : Bool) → bytes_eq c.name name ≡ b →
+            position_or_len (λ (c : Clone). bytes_eq c.name name) cs ≡ length cs →
+            cond (not b) (1 + position_or_len (λ (c : Clone). bytes_eq c.name name) cs) 0 ≡ suc (length cs)
+        by true e rest = absurd (f zero (omega arith) ((bytes_eq-Decides c.name name).0 e))
+        by false e rest = omega (arith, rest)
 
 -- ---- StepHolds
 
@@ -121,28 +144,35 @@ module _ {S M N : Type 0} {sim : Simulation S M N} (known : DueAtFront sim) (not
     ]
 
     -- the fork and the set make the branch
-    step_fires : (k : ℕ) → clone_at cs k ≡ b.clone → i < length ws →
+    step_fires : (k : ℕ) → clone_at cs k ≡ b.clone →
         HoldsAfter sim front bound ls ws (i + 1)
         (clones_with_plan (clones_with_fork cs w.new k) (length cs)
         (record { at = t + sim.lookahead; station = w.target; change = w.change }))
         (slice_set places i (Some (length cs)))
-    step_fires k is below =
+    step_fires k is =
         subst (λ l. HoldsAfter sim front bound ls ws (i + 1) l (slice_set places i (Some (length cs))))
         (sym (fork_with_plan cs k w.new (record { at = t + sim.lookahead; station = w.target; change = w.change })
         ∙ ap (λ (c : Clone). cs ++ with_plan (fork_of c w.new)
         (record { at = t + sim.lookahead; station = w.target; change = w.change }) ∷ []) is))
-        (pass_grows sim front bound ls ws i cs places (branch_of sim w b.clone t) below (none_before f.no_place) makes
-        p.so_far)
+        (pass_grows sim front bound ls ws i cs places (branch_of sim w b.clone t) (slice_get_within ws i w p.trigger)
+        (none_before f.no_place) makes p.so_far)
+
+  -- the set is for a station
+  step_is_station : IsStation sim w.target
+  step_is_station = targets-at sim.stations ws i w p.valid.targets p.trigger
 
   -- the fork has room
-  step_room : i < length places → option_at places i ≡ None → length cs < length ls + length places
-  step_room below none = few_clones (length ls) cs places i below none
+  step_room : option_at places i ≡ None → length cs < length ls + length places
+  step_room none =
+      let below = slice_get_within ws i w p.trigger in
+      let same = p.so_far.same_length in
+      few_clones (length ls) cs places i (omega (arith, below, same)) none
       (length_permutation (range_with_len 0 (length cs)) (trigger_order (length ls) places) p.so_far.order)
 
   -- the fork has an unused name
-  step_unused : option_at places i ≡ None → (k : ℕ) → k < length cs → (clone_at cs k).name ≡ w.new → ⊥
-  step_unused none k below same = name_is_new known not_late p.names ls ws p.valid window_clones front bound p.window
-      p.held i cs places w p.trigger none p.so_far k below same
+  step_unused : option_at places i ≡ None → place_of w.new cs ≡ None
+  step_unused none = place_of-none w.new cs (name_is_new known not_late p.names ls ws p.valid window_clones front bound
+      p.window p.held i cs places w p.trigger none p.so_far)
 
 module _ {S M N : Type 0} {sim : Simulation S M N} (known : DueAtFront sim) (not_late : DueIsNotLate sim) where
   -- each step of a pass holds the branches
@@ -155,6 +185,7 @@ module _ {S M N : Type 0} {sim : Simulation S M N} (known : DueAtFront sim) (not
     past_horizon = step_past_horizon known not_late p;
     fires = step_fires known not_late p;
     not_late = step_not_late known not_late p;
+    is_station = step_is_station known not_late p;
     room = step_room known not_late p;
     unused = step_unused known not_late p;
   }

@@ -1,20 +1,28 @@
 -- A pass through the triggers at a window's end: the clones that hold the branches, and their order.
 use Rattle.std.proofs.Common.{◌≡◌, ℕ, zero, suc, ◌+◌, ◌<◌, ◌≤◌, List, [], ◌∷◌, ◌++◌, inl, inr, Option, Some, None, refl}
-use Rattle.std.proofs.Common.{sym, ap, ap₂, ◌∙◌, arith, subst, cond, map, length, length-append, slice_set}
+use Rattle.std.proofs.Common.{sym, ap, ap₂, ◌∙◌, arith, subst, cond, map, length, length-append, slice_set, append-nil}
 use Rattle.std.specs.Prelude.{IsPermutation}
 use Rattle.std.specs.List.{range_with_len}
 use Rattle.std.proofs.lemmas.Bool.{cases_lt, cases_eq, lt-ltb, le-ltb}
+use Rattle.std.proofs.lemmas.List.{length-map}
+use Rattle.std.proofs.lemmas.List.FromFn.{length-range_with_len}
 use Rattle.std.proofs.lemmas.List.Sorted.{IsPermutation-refl, IsPermutation-cons, IsPermutation-trans}
 use Rattle.std.proofs.lemmas.List.Sorted.{IsPermutation-sym, IsPermutation-middle, IsPermutation-append_right}
 use Rattle.std.proofs.lemmas.List.Sorted.{IsPermutation-to_front, length_permutation}
 use Rattle.sim_base.specs.Clones.{Clone, clone_at}
 use Rattle.run_laws.specs.Queue.{In}
 use Rattle.run_laws.specs.Simulation.{Simulation}
+use Rattle.run_laws.specs.World.{log_of}
+use Rattle.run_laws.specs.Runs.{log_at}
+use Rattle.run_laws.proofs.Beginning.{run_at_0}
 use Rattle.run_laws.proofs.Places.{clone_push_same, clone_push_other}
+use Rattle.watch_laws.specs.Due.{due_in}
 use Rattle.watch_laws.specs.Branches.{Branch, Trigger, initial_branch, present, with_branch, branch_by, outcomes}
+use Rattle.watch_laws.specs.Branches.{branch_named, branch_from, branch_if_due}
 use Rattle.watch_laws.specs.Keeping.{HoldsAfter, outcome_after, IsPlaced, option_at, trigger_order, outcome_at}
 use Rattle.watch_laws.specs.Keeping.{HoldsBranches, ClonesInTriggerOrder}
 use Rattle.watch_laws.specs.Orders.{IsPlaceOrder}
+use Rattle.watch_laws.specs.PassLaws.{HoldsAtStart}
 use Rattle.watch_laws.proofs.Branches.{branches_at-is}
 
 -- ---- range_with_len
@@ -77,7 +85,17 @@ present-at (None ∷ os) x i = let h = present-at os x i in (suc h.0, h.1)
 present-at (Some y ∷ os) x (inl e) = (zero, ap Some (sym e))
 present-at (Some y ∷ os) x (inr i) = let h = present-at os x i in (suc h.0, h.1)
 
+-- if there is none at any place, there are none
+present-none : {X Y : Type 0} (xs : List X) → present {X = Y} (map (λ x. None) xs) ≡ []
+present-none [] = refl
+present-none (x ∷ xs) = present-none xs
+
 -- ---- option_at
+
+option_at-none : {X Y : Type 0} (xs : List X) (i : ℕ) → option_at {X = Y} (map (λ x. None) xs) i ≡ None
+option_at-none [] i = refl
+option_at-none (x ∷ xs) zero = refl
+option_at-none (x ∷ xs) (suc i) = option_at-none xs i
 
 option_at-set_same : {X : Type 0} (os : List (Option X)) (i : ℕ) (o : Option X) → i < length os →
     option_at (slice_set os i o) i ≡ o
@@ -116,6 +134,19 @@ IsPlaced-last : (cs : List Clone) (b : Branch) → IsPlaced (cs ++ b.clone ∷ [
 IsPlaced-last cs b =
     let many : length (cs ++ b.clone ∷ []) ≡ length cs + 1 = length-append cs (b.clone ∷ []) in
     (omega (arith, many), clone_push_same cs b.clone)
+
+-- ---- trigger_order
+
+-- if these are the places of all clones, there are at least n clones
+clones-at_least : (n : ℕ) (cs : List Clone) (places : List (Option ℕ)) →
+    IsPlaceOrder (length cs) (trigger_order n places) → n ≤ length cs
+clones-at_least n cs places order = omega (
+  arith,
+  length_permutation (range_with_len 0 (length cs)) (trigger_order n places) order,
+  length-append (range_with_len 0 n) (present places),
+  length-range_with_len 0 (length cs),
+  length-range_with_len 0 n,
+)
 
 -- ---- in_order
 
@@ -177,6 +208,40 @@ module _ {S M N : Type 0} (sim : Simulation S M N) where
       (present (outcomes sim front (map initial_branch ls) ws)))
       ∙ ap (map (λ (b : Branch). b.clone)) (sym (branches_at-is sim front (map initial_branch ls) ws))
 
+  -- ---- HoldsBranches
+
+  -- at front 0 each log is empty
+  log_at-0 : (c : Clone) (s : ℕ) → log_at sim c s 0 ≡ []
+  log_at-0 c s = ap (λ w. log_of sim.to s w.at.trace) (run_at_0 sim c)
+
+  -- so no trigger makes a branch
+  branch_by-0 : (bs : List Branch) (w : Trigger N) → branch_by sim 0 bs w ≡ None
+  branch_by-0 bs w = by (branch_named w.who bs)
+    where
+      by : (o : Option Branch) → branch_from sim 0 w o ≡ None
+      by None = refl
+      by (Some b) = ap (λ es. branch_if_due sim w b.clone (due_in sim.time w.condition b.start es))
+          (log_at-0 b.clone w.station)
+
+  outcomes-0 : (bs : List Branch) (ws : List (Trigger N)) (i : ℕ) → option_at (outcomes sim 0 bs ws) i ≡ None
+  outcomes-0 bs [] i = refl
+  outcomes-0 bs (w ∷ ws) zero = branch_by-0 bs w
+  outcomes-0 bs (w ∷ ws) (suc i) = outcomes-0 (with_branch bs (branch_by sim 0 bs w)) ws i
+
+  -- and the script's clones hold the branches
+  pub holds_at_start : HoldsAtStart sim
+  holds_at_start ls ws =
+      let firsts : List ℕ = range_with_len 0 (length ls) in
+      record {
+        script = λ k l. refl;
+        same_length = length-map ws (λ w. None);
+        placed = λ j. subst (λ o. IsPlaced ls o (option_at (map (λ w. None) ws) j))
+            (sym (outcomes-0 (map initial_branch ls) ws j))
+            (subst (λ p. IsPlaced ls None p) (sym (option_at-none ws j)) tt);
+        order = subst (λ l. IsPermutation firsts l)
+            (sym (ap (λ l. firsts ++ l) (present-none ws) ∙ append-nil firsts)) (IsPermutation-refl firsts);
+      }
+
   -- ---- HoldsAfter
 
   module _ (front bound : ℕ) (ls : List Clone) (ws : List (Trigger N)) where
@@ -198,27 +263,13 @@ module _ {S M N : Type 0} (sim : Simulation S M N) where
     -- before the first trigger
     pub pass_begins : (cs : List Clone) (places : List (Option ℕ)) → HoldsBranches sim front ls ws cs places →
         HoldsAfter sim front bound ls ws 0 cs places
-    pass_begins cs places k =
-        let same : length (trigger_order (length ls) places) ≡ length (range_with_len 0 (length cs)) =
-        length_permutation (range_with_len 0 (length cs)) (trigger_order (length ls) places) k.order in
-        record {
-          script = k.script;
-          at_least = omega (
-            arith,
-            same,
-            length-append (range_with_len 0 (length ls)) (present places),
-            long 0 (length cs),
-            long 0 (length ls),
-          );
-          same_length = k.same_length;
-          placed = λ j. subst (λ o. IsPlaced cs o (option_at places j)) (sym (outcome_after-ahead 0 j (omega arith)))
-              (k.placed j);
-          order = k.order;
-        }
-      where
-        long : (a n : ℕ) → length (range_with_len a n) ≡ n
-        long a zero = refl
-        long a (suc n) = ap suc (long (a + 1) n)
+    pass_begins cs places k = record {
+      script = k.script;
+      same_length = k.same_length;
+      placed = λ j. subst (λ o. IsPlaced cs o (option_at places j)) (sym (outcome_after-ahead 0 j (omega arith)))
+          (k.placed j);
+      order = k.order;
+    }
 
     -- after the last trigger
     pub pass_ends : (cs : List Clone) (places : List (Option ℕ)) →
@@ -248,7 +299,6 @@ module _ {S M N : Type 0} (sim : Simulation S M N) where
         HoldsAfter sim front bound ls ws (i + 1) cs places
     pass_stays i cs places e h = record {
       script = h.script;
-      at_least = h.at_least;
       same_length = h.same_length;
       placed = λ j. elim (cases_eq j i) [
         | inl is ↦ subst (λ o. IsPlaced cs o (option_at places j))
@@ -277,7 +327,7 @@ module _ {S M N : Type 0} (sim : Simulation S M N) where
         HoldsAfter sim front bound ls ws (i + 1) (cs ++ y.clone ∷ []) (slice_set places i (Some (length cs)))
     pass_grows i cs places y below e f h =
         let many = h.same_length in
-        let enough = h.at_least in
+        let enough = clones-at_least (length ls) cs places h.order in
         let here : i < length places = omega (arith, below, many) in
         let none : option_at places i ≡ None = no_place i cs places e h in
         let more : length (cs ++ y.clone ∷ []) ≡ suc (length cs) = omega (arith, length-append cs (y.clone ∷ [])) in
@@ -285,7 +335,6 @@ module _ {S M N : Type 0} (sim : Simulation S M N) where
         record {
           script = λ k l. clone_push_other cs y.clone k (λ d. let no : ⊥ = omega (arith, d, l, enough) in no)
               ∙ h.script k l;
-          at_least = omega (arith, enough, more);
           same_length = length-slice_set places i (Some (length cs)) ∙ many;
           placed = λ j. elim (cases_eq j i) [
             | inl is ↦ subst (λ k. IsPlaced (cs ++ y.clone ∷ []) (outcome_after sim front bound ls ws (i + 1) k)

@@ -1,13 +1,8 @@
 -- The clones of a world on the way to the horizon, and the clones of the whole run.
-use Rattle.std.proofs.Common.{ℕ, ◌≤◌, List, map, length, subst, sym, arith, Option, Bool, nat_lt}
-use Rattle.std.specs.List.{filter}
-use Rattle.std.proofs.lemmas.List.Sums.{count_by-le-length, length-filter}
+use Rattle.std.proofs.Common.{ℕ, ◌≤◌, List, map, length, subst, sym, Option}
 use Rattle.sim_base.specs.Clones.{Clone}
 use Rattle.run_laws.specs.Queue.{In}
 use Rattle.run_laws.specs.Simulation.{Simulation}
-use Rattle.run_laws.specs.Sharing.{IsBeyond}
-use Rattle.run_laws.specs.Runs.{log_at}
-use Rattle.run_laws.specs.Laws.{LogAtFront}
 use Rattle.run_laws.proofs.Counts.{in_map, map_has}
 use Rattle.watch_laws.specs.Branches.{Branch, Trigger, initial_branch, clones_with_branches, branches_at}
 use Rattle.watch_laws.specs.Keeping.{HoldsBranches, trigger_order}
@@ -32,15 +27,3 @@ module _ {S M N : Type 0} (sim : Simulation S M N) where
       subst (λ x. In x (clones_with_branches sim ls ws)) (sym b.2)
       (map_has (λ (b : Branch). b.clone) (branches_at sim sim.horizon (map initial_branch ls) ws) b.0
       (branches_stay known names (map initial_branch ls) ws front sim.horizon valid l b.0 b.1))
-
-  -- a log that is beyond the limit at a front is beyond it at every later front
-  pub beyond_stays : LogAtFront sim → (c : Clone) (s front bound : ℕ) → front ≤ bound → IsBeyond sim s front c →
-      IsBeyond sim s bound c
-  beyond_stays at c s front bound l beyond =
-      let short : length (log_at sim c s front) ≤ length (log_at sim c s bound) =
-      subst (λ es. length es ≤ length (log_at sim c s bound)) (at c s front bound l)
-      (no_longer (λ e. nat_lt (sim.time e.msg) front) (log_at sim c s bound)) in
-      omega (arith, beyond, short)
-    where
-      no_longer : {X : Type 0} (p : X → Bool) (xs : List X) → length (filter p xs) ≤ length xs
-      no_longer p xs = omega (arith, length-filter p xs, count_by-le-length p xs)

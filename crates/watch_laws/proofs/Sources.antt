@@ -45,6 +45,16 @@ module _ {S M N : Type 0} (sim : Simulation S M N) where
       by (Some b) e g =
           ap (λ (z : Branch). z.clone.name) (branch_if_due-made sim w b.clone (due_time sim front w b) y g).2
 
+  -- and no end
+  pub branch_by-no_end : (front : ℕ) (bs : List Branch) (w : Trigger N) (y : Branch) →
+      branch_by sim front bs w ≡ Some y → y.clone.end ≡ None
+  branch_by-no_end front bs w y h = by (branch_named w.who bs) refl h
+    where
+      by : (o : Option Branch) → branch_named w.who bs ≡ o → branch_from sim front w o ≡ Some y → y.clone.end ≡ None
+      by None e g = absurd (cc)
+      by (Some b) e g =
+          ap (λ (z : Branch). z.clone.end) (branch_if_due-made sim w b.clone (due_time sim front w b) y g).2
+
   -- a name that finds no branch, and that is no trigger's new name, finds none after all triggers
   branch_named-still_none : (front : ℕ) (bs : List Branch) (ws : List (Trigger N)) (name : List ℕ) →
       branch_named name bs ≡ None →

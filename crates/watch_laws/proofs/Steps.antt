@@ -40,7 +40,7 @@ module _ {N : Type 0} where
   targets-take n (w ∷ ws) (suc i) h = (h.0, targets-take n ws i h.1)
 
   -- the target of a trigger is a station
-  targets-at : (n : ℕ) (ws : List (Trigger N)) (i : ℕ) (w : Trigger N) → TargetsAreStations n ws →
+  pub targets-at : (n : ℕ) (ws : List (Trigger N)) (i : ℕ) (w : Trigger N) → TargetsAreStations n ws →
       slice_get ws i ≡ Some w → IsStationOf n w.target
   targets-at n [] i w h e = absurd (cc)
   targets-at n (v ∷ ws) zero w h e = let same : v ≡ w = cc in subst (λ (u : Trigger N). IsStationOf n u.target) same h.0

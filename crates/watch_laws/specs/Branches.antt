@@ -2,7 +2,7 @@
 -- first meets the trigger's condition, a branch of the clone is made.
 use Rattle.std.specs.Prelude.{ℕ, ◌+◌, nat_lt, if◌then◌else◌, List, [], ◌∷◌, ◌++◌, map, Bool, Option, Some, None, find}
 use Rattle.std.specs.Prelude.{⊤}
-use Rattle.std.specs.List.{AllByRecursion, cons_option}
+use Rattle.std.specs.List.{AllByRecursion, filter_map}
 use Rattle.std.specs.Str.{bytes_eq}
 use Rattle.sim_base.specs.Clones.{Clone, fork_of, with_plan}
 use Rattle.sim_base.specs.declared.message.Change.{Change}
@@ -47,8 +47,7 @@ HaveNewNames names (w ∷ ws) = ¬ (In w.new names) × HaveNewNames (w.new ∷ n
 
 -- the values that are present, in their order
 abbrev pub present : {X : Type 0} → List (Option X) → List X
-present [] = []
-present (o ∷ os) = cons_option o (present os)
+present os = filter_map (λ o. o) os
 
 -- every target is one of n stations
 abbrev pub TargetsAreStations : {N : Type 0} → ℕ → List (Trigger N) → Type 0

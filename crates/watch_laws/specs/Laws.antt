@@ -76,6 +76,11 @@ module _ {S M N : Type 0} (sim : Simulation S M N) where
       ((x : Branch) → In x (branches_at sim front bs ws) → In x.clone cs) →
       (y : Branch) → In y (branches_at sim bound bs ws) → In y (branches_at sim front bs ws) ⊎ (bound ≤ y.start)
 
+  -- a branch that a trigger makes has no end
+  abbrev pub MadeBranchHasNoEnd : Type 0
+  MadeBranchHasNoEnd = (front : ℕ) (bs : List Branch) (w : Trigger N) (b : Branch) →
+      branch_by sim front bs w ≡ Some b → b.clone.end ≡ None
+
   -- triggers leave the branches that are there, and append theirs in the order of the triggers
   abbrev pub BranchesAreAppended : Type 0
   BranchesAreAppended = (front : ℕ) (bs : List Branch) (ws : List (Trigger N)) →

@@ -1,10 +1,11 @@
 -- What is proved of a pass through the triggers at a window's end, in words that contracts cite.
 use Rattle.std.specs.Prelude.{◌≡◌, ◌⊎◌, ℕ, ◌+◌, ◌<◌, ◌≤◌, List, Option, Some, None, length, map, slice_get, slice_set}
 use Rattle.std.specs.Prelude.{take}
-use Rattle.sim_base.specs.Clones.{Clone, clone_at, clones_with_fork, clones_with_plan}
+use Rattle.sim_base.specs.Clones.{Clone, clone_at, clones_with_fork, clones_with_plan, place_of}
 use Rattle.run_laws.specs.Queue.{In}
 use Rattle.run_laws.specs.Simulation.{Simulation}
 use Rattle.run_laws.specs.Fronts.{IsWindow}
+use Rattle.run_laws.specs.Handlers.{IsStation}
 use Rattle.watch_laws.specs.Branches.{Branch, Trigger, branch_named, branches_at, due_time, initial_branch}
 use Rattle.watch_laws.specs.Keeping.{HoldsAfter, HoldsBranches, option_at, outcome_at}
 use Rattle.watch_laws.specs.Laws.{AreValidTriggers}
@@ -14,6 +15,10 @@ abbrev pub SameOrLate : (ℕ → Type 0) → Option Branch → Option Branch →
 SameOrLate Late o p = (o ≡ p) ⊎ ((o ≡ None) × ((y : Branch) × (p ≡ Some y) × Late y.start))
 
 module _ {S M N : Type 0} (sim : Simulation S M N) where
+  -- at front 0 no trigger is due, so the script's clones hold the branches
+  abbrev pub HoldsAtStart : Type 0
+  HoldsAtStart = (ls : List Clone) (ws : List (Trigger N)) → HoldsBranches sim 0 ls ws ls (map (λ w. None) ws)
+
   -- before a pass the clones hold the branches of the front
   abbrev pub PassBegins : Type 0
   PassBegins = (front bound : ℕ) (ls : List Clone) (ws : List (Trigger N)) (cs : List Clone)
@@ -68,17 +73,18 @@ module _ {S M N : Type 0} (sim : Simulation S M N) where
         HoldsAfter sim front bound ls ws (i + 1) cs places
     -- if the trigger fires, a fork of its source and a set make the branch, which is the last clone
     pub fires : (b : Branch) (t : ℕ) → Fires bound ls ws i w places b t → (k : ℕ) → clone_at cs k ≡ b.clone →
-        i < length ws →
         HoldsAfter sim front bound ls ws (i + 1)
         (clones_with_plan (clones_with_fork cs w.new k) (length cs)
         (record { at = t + sim.lookahead; station = w.target; change = w.change }))
         (slice_set places i (Some (length cs)))
     -- that set is not late
     pub not_late : (b : Branch) (t : ℕ) → Fires bound ls ws i w places b t → bound ≤ t + sim.lookahead
-    -- and that fork has room, since the clones are fewer than the script's clones and the triggers together
-    pub room : i < length places → option_at places i ≡ None → length cs < length ls + length places
+    -- and is for a station
+    pub is_station : IsStation sim w.target
+    -- that fork has room, since the clones are fewer than the script's clones and the triggers together
+    pub room : option_at places i ≡ None → length cs < length ls + length places
     -- and its name is no clone's
-    pub unused : option_at places i ≡ None → (k : ℕ) → k < length cs → (clone_at cs k).name ≡ w.new → ⊥
+    pub unused : option_at places i ≡ None → place_of w.new cs ≡ None
 
   -- each step of a pass holds the branches
   abbrev pub PassGoesOn : Type 0

@@ -6,9 +6,9 @@ ghost use Rattle.watch_laws.specs.Orders.{FiguresIgnoreOrder, OrderIsPermutation
 ghost use Rattle.watch_laws.specs.Keeping.{ClonesInTriggerOrder};
 ghost use Rattle.watch_laws.specs.Laws.{BeyondStays, BranchesAreAppended, BranchesStay, BranchIsNotLate};
 ghost use Rattle.watch_laws.specs.Laws.{DueAtFront, DueBeforeFront, DueIsNotLate, ForkThenSetAppends};
-ghost use Rattle.watch_laws.specs.Laws.{HeldClonesStay, NewNameIsOutcome, NothingDueLeavesLogs};
+ghost use Rattle.watch_laws.specs.Laws.{HeldClonesStay, MadeBranchHasNoEnd, NewNameIsOutcome, NothingDueLeavesLogs};
 ghost use Rattle.watch_laws.specs.Laws.{OutcomeIsOfEarlier, ScriptNameIsFound};
-ghost use Rattle.watch_laws.specs.PassLaws.{PassBegins, PassEnds, PassGoesOn};
+ghost use Rattle.watch_laws.specs.PassLaws.{HoldsAtStart, PassBegins, PassEnds, PassGoesOn};
 
 use run_laws::laws::{NumberingStations, Stations};
 
@@ -27,10 +27,12 @@ pub fn branches_are_made_in_time<S, M, N, T: NumberingStations<S, M, N>>()
 {}
 
 /// Branches are appended in the order of their triggers, and each trigger finds the branches of the triggers before it.
+/// A branch that a trigger makes has no end.
 pub fn branches_are_appended<S, M, N, T: Stations<S, M, N>>()
     ensures appended { BranchesAreAppended T.sim }
     ensures outcome { OutcomeIsOfEarlier T.sim }
     ensures branch_name { NewNameIsOutcome T.sim }
+    ensures no_end { MadeBranchHasNoEnd T.sim }
 {}
 
 /// A script's clone is found by its name, and a fork and then a set append a branch.
@@ -50,9 +52,10 @@ pub fn clones_are_in_trigger_order<S, M, N, T: Stations<S, M, N>>()
     ensures in_order { ClonesInTriggerOrder T.sim }
 {}
 
-/// A pass through the triggers at a window's end turns clones that hold the front's branches into clones that hold the
-/// bound's.
+/// At front 0 the script's clones hold the branches. A pass through the triggers at a window's end turns clones that
+/// hold the front's branches into clones that hold the bound's.
 pub fn passes_hold_branches<S, M, N, T: NumberingStations<S, M, N>>()
+    ensures start { HoldsAtStart T.sim }
     ensures begins { PassBegins T.sim }
     ensures goes_on { PassGoesOn T.sim }
     ensures ends { PassEnds T.sim }

@@ -1,5 +1,5 @@
 use Rattle.watch_laws.proofs.Branches.{branches_at-is}
-use Rattle.watch_laws.proofs.Sources.{branch_named-outcome}
+use Rattle.watch_laws.proofs.Sources.{branch_by-no_end, branch_named-outcome}
 use Rattle.watch_laws.proofs.Steps.{outcomes-at}
 use Rattle.watch_laws.proofs.laws.branches_are_appended.Goals as goal
 
@@ -11,3 +11,6 @@ returns-clause-outcome g c = outcomes-at g.T.Stations.sim
 
 pub returns-clause-branch_name : goal.returns-clause-branch_name
 returns-clause-branch_name g c = branch_named-outcome g.T.Stations.sim
+
+pub returns-clause-no_end : goal.returns-clause-no_end
+returns-clause-no_end g c = branch_by-no_end g.T.Stations.sim

@@ -1,5 +1,5 @@
-use Rattle.run_laws.proofs.Fronts.{log_at_front}
-use Rattle.watch_laws.proofs.Limits.{beyond_stays, held_clones_stay}
+use Rattle.run_laws.proofs.Gaining.{IsBeyond-later}
+use Rattle.watch_laws.proofs.Limits.{held_clones_stay}
 use Rattle.watch_laws.proofs.Windows.{due_at_front}
 use Rattle.watch_laws.proofs.laws.clones_on_the_way_stay.Goals as goal
 
@@ -8,4 +8,4 @@ returns-clause-clones g c = held_clones_stay g.T.Stations.sim
     (due_at_front g.T.Stations.lawful g.T.Stations.to_stations g.met.T.NumberingStations.fresh)
 
 pub returns-clause-beyond : goal.returns-clause-beyond
-returns-clause-beyond g c = beyond_stays g.T.Stations.sim (log_at_front g.T.Stations.lawful)
+returns-clause-beyond g c = IsBeyond-later g.T.Stations.lawful

@@ -1,7 +1,10 @@
 use Rattle.watch_laws.proofs.Bodies.{pass_goes_on}
-use Rattle.watch_laws.proofs.Keeping.{pass_begins, pass_ends}
+use Rattle.watch_laws.proofs.Keeping.{holds_at_start, pass_begins, pass_ends}
 use Rattle.watch_laws.proofs.Windows.{due_at_front, due_is_not_late}
 use Rattle.watch_laws.proofs.laws.passes_hold_branches.Goals as goal
+
+pub returns-clause-start : goal.returns-clause-start
+returns-clause-start g c = holds_at_start g.T.Stations.sim
 
 pub returns-clause-begins : goal.returns-clause-begins
 returns-clause-begins g c = pass_begins g.T.Stations.sim
