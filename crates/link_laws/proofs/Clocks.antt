@@ -234,21 +234,25 @@ module _ (delays : Delays) (stations horizon : ℕ) where
         let m = suc-mul k low in
         omega (arith, h, l, m))
 
-    -- so after enough rounds it is at the horizon
+    -- so a clock is at the horizon once k times the least delay reaches it
     pub clock-done : (k s : ℕ) → horizon ≤ k * low → clock delays stations horizon k s ≡ horizon
     clock-done k s l =
         let h = clock-far k s in
         let w = clock-within k s in
         omega (arith, h, w)
 
-    -- and the number of rounds is bounded
+    -- so horizon / low + 1 rounds are enough
+    pub rounds-enough : 0 < low → AreDone delays stations horizon (horizon / low + 1)
+    rounds-enough moves s is = clock-done (horizon / low + 1) s
+        (let h = lt-div-mul-add {a = horizon} {b = low} moves in
+        let m = add-mul (horizon / low) 1 low in
+        let one : 1 * low ≡ low = omega arith in
+        omega (arith, h, m, one))
+
+    -- and the number of rounds is at most that
     pub rounds-at_most : (k : ℕ) → 0 < low → AreRounds delays stations horizon k → k ≤ horizon / low + 1
     rounds-at_most k moves r = elim (cases_lt (horizon / low + 1) k) [
-      | inl l ↦ absurd (r.least (horizon / low + 1) l (λ s is. clock-done (horizon / low + 1) s
-          (let h = lt-div-mul-add {a = horizon} {b = low} moves in
-          let m = add-mul (horizon / low) 1 low in
-          let one : 1 * low ≡ low = omega arith in
-          omega (arith, h, m, one))))
+      | inl l ↦ absurd (r.least (horizon / low + 1) l (rounds-enough moves))
       | inr l ↦ l
     ]
 

@@ -30,7 +30,7 @@ module _ (delays : Delays) (stations : ℕ) (clocks : ℕ → ℕ) (s : ℕ) whe
     pub each : (t : ℕ) → IsLinkTime t → time ≤ t
     pub one : (time ≡ horizon) ⊎ IsLinkTime time
 
-module _ {S M N : Type 0} (sim : Simulation S M N) (Good : ℕ → S → Type 0) where
+module _ {S M N : Type 0} (sim : Simulation S M N) where
   -- the clock of a station never falls, and never passes the horizon
   abbrev pub ClockRises : Type 0
   ClockRises = (delays : Delays) (k s : ℕ) →
@@ -44,21 +44,31 @@ module _ {S M N : Type 0} (sim : Simulation S M N) (Good : ℕ → S → Type 0)
       IsLeastLinkTime delays sim.stations (clock delays sim.stations sim.horizon k) s sim.horizon
       (clock delays sim.stations sim.horizon (suc k) s)
 
+  -- a loop that makes rounds until all clocks are at the horizon makes exactly the number of rounds
+  abbrev pub FirstDoneIsRounds : Type 0
+  FirstDoneIsRounds = (delays : Delays) (k : ℕ) → AreDone delays sim.stations sim.horizon k →
+      ((j : ℕ) → k ≡ suc j → ¬ (AreDone delays sim.stations sim.horizon j)) →
+      AreRounds delays sim.stations sim.horizon k
+
+  -- if all stations are at one front, the messages that wait at a station are those that are due there
+  abbrev pub DueIsWaiting : Type 0
+  DueIsWaiting = (c : Clone) (s front : ℕ) → AreWaiting sim c (λ x. front) s (due_at sim c s front)
+
+module _ {S M N : Type 0} (sim : Simulation S M N) (Good : ℕ → S → Type 0) where
   -- if k lookaheads reach the horizon, every clock is at the horizon after k rounds
   abbrev pub ClockReachesHorizon : Type 0
   ClockReachesHorizon = (delays : Delays) (k s : ℕ) → KeepsToLinks sim Good delays → sim.horizon ≤ k * sim.lookahead →
       clock delays sim.stations sim.horizon k s ≡ sim.horizon
 
-  -- so the number of rounds is at most horizon / lookahead + 1
+  -- if the lookahead is positive, horizon / lookahead + 1 rounds are enough
+  abbrev pub RoundsAreEnough : Type 0
+  RoundsAreEnough = (delays : Delays) → KeepsToLinks sim Good delays → 0 < sim.lookahead →
+      AreDone delays sim.stations sim.horizon (sim.horizon / sim.lookahead + 1)
+
+  -- so the number of rounds is at most that
   abbrev pub RoundsAreBounded : Type 0
   RoundsAreBounded = (delays : Delays) (k : ℕ) → KeepsToLinks sim Good delays → 0 < sim.lookahead →
       AreRounds delays sim.stations sim.horizon k → k ≤ sim.horizon / sim.lookahead + 1
-
-  -- a loop that makes rounds until all clocks are at the horizon makes exactly that number
-  abbrev pub FirstDoneIsRounds : Type 0
-  FirstDoneIsRounds = (delays : Delays) (k : ℕ) → AreDone delays sim.stations sim.horizon k →
-      ((j : ℕ) → k ≡ suc j → ¬ (AreDone delays sim.stations sim.horizon j)) →
-      AreRounds delays sim.stations sim.horizon k
 
   -- the clocks after k rounds and those after one more make a round
   abbrev pub ClocksMakeRounds : Type 0
@@ -70,12 +80,8 @@ module _ {S M N : Type 0} (sim : Simulation S M N) (Good : ℕ → S → Type 0)
   RoundsGiveRuns = (c : Clone) (cut next : ℕ → ℕ) (q : ℕ → List M) → IsRound sim Good cut next →
       ((s : ℕ) → AreWaiting sim c cut s (q s)) → RoundGives sim c cut next q
 
-  -- if all stations are at one front, the messages that wait at a station are those that are due there
-  abbrev pub DueIsWaiting : Type 0
-  DueIsWaiting = (c : Clone) (s front : ℕ) → AreWaiting sim c (λ x. front) s (due_at sim c s front)
-
 -- K are sets of clones
-module _ {S M N : Type 0} (K : Type 0) (sim : Simulation S M N) (Good : ℕ → S → Type 0) where
+module _ {S M N : Type 0} (K : Type 0) (sim : Simulation S M N) where
   -- copies represent the clones at a front exactly if they do so at the cut with that time for all stations
   abbrev pub FrontIsCut : Type 0
   FrontIsCut = (has : K → ℕ → Bool) (cs : List Clone) (front s : ℕ) (copies : List (Copy S M N K)) →
@@ -87,6 +93,12 @@ module _ {S M N : Type 0} (K : Type 0) (sim : Simulation S M N) (Good : ℕ → 
       AllAreForStations sim cs → IsStation sim s → ((r : ℕ) → IsStation sim r → cut r ≡ same r) →
       StandsAtCut sim has cs cut s copies → StandsAtCut sim has cs same s copies
 
+  -- the number of copies is the number of different logs
+  abbrev pub CopiesAreLogsAtCut : Type 0
+  CopiesAreLogsAtCut = (w : Counting M N K) (cs : List Clone) (cut : ℕ → ℕ) (s : ℕ) (old : List (Copy S M N K)) →
+      StandsAtCut sim w.has cs cut s old → copies sim w.same cs s (cut s) ≡ length old
+
+module _ {S M N : Type 0} (K : Type 0) (sim : Simulation S M N) (Good : ℕ → S → Type 0) where
   -- let the copies of all stations represent the clones at a cut, and let each station be stepped to its next time.
   -- Once station s has received what others sent it, its copies represent the clones at the next cut
   abbrev pub StandsAfterRound : Type 0
@@ -137,8 +149,3 @@ module _ {S M N : Type 0} (K : Type 0) (sim : Simulation S M N) (Good : ℕ → 
       ((r : ℕ) → IsStation sim r → StandsAtCut sim has cs cut r (olds r)) → IsStation sim s →
       AreOver sim has (ends_of sim cs) s (next s) (olds s) over → (c : ℕ) →
       (has over c ≡ true) ↔ ((c < length cs) × IsBeyond sim s (next s) (clone_at cs c))
-
-  -- the number of copies is the number of different logs
-  abbrev pub CopiesAreLogsAtCut : Type 0
-  CopiesAreLogsAtCut = (w : Counting M N K) (cs : List Clone) (cut : ℕ → ℕ) (s : ℕ) (old : List (Copy S M N K)) →
-      StandsAtCut sim w.has cs cut s old → copies sim w.same cs s (cut s) ≡ length old

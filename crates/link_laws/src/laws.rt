@@ -5,30 +5,31 @@ ghost use Rattle.link_laws.specs.RoundLaws.{ClockRises, ClockIsLeast, ClockReach
 ghost use Rattle.link_laws.specs.RoundLaws.{FirstDoneIsRounds, ClocksMakeRounds, RoundsGiveRuns, DueIsWaiting};
 ghost use Rattle.link_laws.specs.RoundLaws.{FrontIsCut, SameCut, StandsAfterRound, RoundGivesLogs};
 ghost use Rattle.link_laws.specs.RoundLaws.{HandledGrowsInRound, HandledIsFewInRound, OverIsBeyondInRound};
-ghost use Rattle.link_laws.specs.RoundLaws.{CopiesAreLogsAtCut};
+ghost use Rattle.link_laws.specs.RoundLaws.{CopiesAreLogsAtCut, RoundsAreEnough};
 
 use run_laws::laws::Stations;
 
 /// Clocks rise link by link to the horizon, in a bounded number of rounds.
 pub fn clocks_reach_the_horizon<S, M, N, T: Stations<S, M, N>>()
-    ensures rises { ClockRises T.sim T.good }
-    ensures least { ClockIsLeast T.sim T.good }
+    ensures rises { ClockRises T.sim }
+    ensures least { ClockIsLeast T.sim }
     ensures at_horizon { ClockReachesHorizon T.sim T.good }
+    ensures enough { RoundsAreEnough T.sim T.good }
     ensures at_most { RoundsAreBounded T.sim T.good }
-    ensures rounds { FirstDoneIsRounds T.sim T.good }
+    ensures rounds { FirstDoneIsRounds T.sim }
 {}
 
 /// In a round each station may go alone, from its clock to its next one.
 pub fn rounds_give_runs<S, M, N, T: Stations<S, M, N>>()
     ensures clocks { ClocksMakeRounds T.sim T.good }
     ensures alone { RoundsGiveRuns T.sim T.good }
-    ensures due { DueIsWaiting T.sim T.good }
+    ensures due { DueIsWaiting T.sim }
 {}
 
 /// The copies of each station represent the clones from cut to cut.
 pub fn copies_stand_at_cuts<S, M, N, K, T: Stations<S, M, N>>()
-    ensures front { FrontIsCut K T.sim T.good }
-    ensures same { SameCut K T.sim T.good }
+    ensures front { FrontIsCut K T.sim }
+    ensures same { SameCut K T.sim }
     ensures round { StandsAfterRound K T.sim T.good }
     ensures logs { RoundGivesLogs K T.sim T.good }
 {}
@@ -38,5 +39,5 @@ pub fn rounds_gain<S, M, N, K, T: Stations<S, M, N>>()
     ensures grows { HandledGrowsInRound K T.sim T.good }
     ensures at_most { HandledIsFewInRound K T.sim T.good }
     ensures over { OverIsBeyondInRound K T.sim T.good }
-    ensures copies { CopiesAreLogsAtCut K T.sim T.good }
+    ensures copies { CopiesAreLogsAtCut K T.sim }
 {}
