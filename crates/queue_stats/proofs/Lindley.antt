@@ -10,11 +10,11 @@ use Rattle.sim_base.proofs.ListLaws.{all_push}
 use Rattle.queue_stats.specs.Moments.{Event, visit, loss, departure, change, other, Moment, in_system, is_visit}
 use Rattle.queue_stats.specs.Moments.{is_departure, is_change}
 use Rattle.queue_stats.specs.Figures.{one_if, count, times, service_start_after, service_start, arrival_time}
-use Rattle.queue_stats.specs.Figures.{departure_time, last_in_system, last_wait, departure_count, visit_count}
+use Rattle.queue_stats.specs.Figures.{departure_time, last_in_system, departure_count, visit_count}
 use Rattle.queue_stats.specs.Queues.{Follows, IsQueue, opened, goes_on}
 use Rattle.queue_stats.specs.Lindley.{IsLindley}
 use Rattle.queue_stats.proofs.Lists.{get_or-push, get_or-le}
-use Rattle.queue_stats.proofs.Pushes.{count-push, count-cons, times-push, times-length, last_wait-push}
+use Rattle.queue_stats.proofs.Pushes.{count-push, count-cons, times-push, times-length, last_wait, last_wait-push}
 use Rattle.queue_stats.proofs.Pushes.{last_in_system-push}
 use Rattle.queue_stats.proofs.Little.{conserved}
 
@@ -366,14 +366,18 @@ service_start-started {ms} q unchanged n t is = elim (cases_lt n (started_count 
 -- Lindley's equation at one server, until a parameter changes
 pub lindley : {ms : List Moment} → IsQueue 1 ms → count is_change ms ≡ 0 → IsLindley ms
 lindley {ms} q unchanged = record {
+  ordered = λ n s is. let e = (service_start-started q unchanged n s is).1 in omega (arith, e);
   first = λ s is. let h = service_start-started q unchanged 0 s is in let e = h.1 in omega (arith, e);
   before = λ n t is.
       let h = service_start-started q unchanged (suc n) t is in
-      let low = h.0 in (
+      let low = h.0 in
+      let e = h.1 in (
         start_time n ms,
         service_start-is q unchanged n
             ∙ start_if_below-low n (started_count ms) (start_time n ms) (omega (arith, low)),
         omega (arith, low),
+        start_time-le-departure_time q n (omega (arith, low)),
+        omega (arith, e),
       );
   next = λ n s t is after.
       let a = service_start-started q unchanged n s is in

@@ -8,7 +8,7 @@ use Rattle.std.proofs.lemmas.Bool.{le-leb, lt-leb}
 use Rattle.std.proofs.Math.Nat.{suc-mul}
 use Rattle.sim_base.proofs.ListLaws.{all_weaker}
 use Rattle.queue_stats.specs.Moments.{Event, Moment, in_system}
-use Rattle.queue_stats.specs.Figures.{one_if, count, times, last_wait, last_in_system, in_system_at, sum_below, present}
+use Rattle.queue_stats.specs.Figures.{one_if, count, times, last_in_system, in_system_at, sum_below, present}
 use Rattle.queue_stats.proofs.Lists.{filter-push, filter-cons}
 
 -- ---- count, times
@@ -41,6 +41,11 @@ pub times-length : (p : Event → Bool) (ms : List Moment) → length (times p m
 times-length p ms = length-map (filter (λ m. p m.event) ms) (λ m. m.time)
 
 -- ---- last_wait, last_in_system
+
+-- the number of jobs that wait after the last moment, or n if there is no moment
+abbrev pub last_wait : ℕ → List Moment → ℕ
+last_wait n [] = n
+last_wait n (m ∷ ms) = last_wait m.wait ms
 
 -- the number waiting after one moment more
 pub last_wait-push : (n : ℕ) (ms : List Moment) (m : Moment) → last_wait n (ms ++ m ∷ []) ≡ m.wait

@@ -14,8 +14,8 @@ abbrev pub shared_desk : ℕ
 shared_desk = 3
 
 -- two jobs of class 2, one every 3, and a job of class 1 at 7; one server, which serves for 4, by class or by arrival
-abbrev pub two_classes : Bool → Net
-two_classes by_class = record {
+abbrev pub low_and_high : Bool → Net
+low_and_high by_class = record {
   format = 2;
   lookahead = 2;
   horizon = 20;

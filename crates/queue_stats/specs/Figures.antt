@@ -41,7 +41,8 @@ abbrev pub greatest : List ℕ → ℕ
 greatest [] = 0
 greatest (n ∷ ns) = max n (greatest ns)
 
--- the sum of some numbers
+-- the sum of some numbers. Unlike std's `sum`, which is a fold, it computes at a list with a known head: to the head
+-- plus the sum of the rest
 abbrev pub total : List ℕ → ℕ
 total [] = 0
 total (n ∷ ns) = n + total ns
@@ -49,11 +50,6 @@ total (n ∷ ns) = n + total ns
 -- the greatest number of jobs that waited
 abbrev pub most_waiting : List Moment → ℕ
 most_waiting ms = greatest (map (λ m. m.wait) ms)
-
--- the number of jobs that wait after the last moment, or n if there is no moment
-abbrev pub last_wait : ℕ → List Moment → ℕ
-last_wait n [] = n
-last_wait n (m ∷ ms) = last_wait m.wait ms
 
 -- ---- the number in the system over time
 

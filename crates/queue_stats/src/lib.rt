@@ -30,7 +30,10 @@
 //! | Lindley's equation | each wait follows from the wait before it | one, until a parameter changes |
 //! | order of service | jobs depart in order of arrival | the same, by arrival |
 //!
-//! All three rest on one law, `laws::logs_are_queues`: the log of every server in every run is the history of a queue.
+//! In Lindley's equation the n-th visit has the n-th arrival, the n-th service start and the n-th departure. At a
+//! server by class these may be of different jobs: the equation is then about visits by count, not one job's wait.
+//!
+//! All three laws rest on one, `laws::logs_are_queues`: the log of every server in every run is the history of a queue.
 #![tactic(auto)]
 
 pub mod examples;

@@ -9,7 +9,7 @@ ghost use Rattle.queue_stats.specs.Queues.{IsServerQueue};
 ghost use Rattle.queue_stats.specs.Lindley.{IsLindley};
 ghost use Rattle.queue_stats.specs.Tallies.{IsWithinLimits};
 ghost use Rattle.queue_stats.specs.Trails.{waits_along_log};
-ghost use Rattle.queue_stats.specs.Stats.{stats};
+ghost use Rattle.queue_stats.specs.Stats.{stats, server_stats};
 ghost use Rattle.queue_stats.specs.Laws.{IsLogOf, is_server, is_single_by_arrival as is_single_by_arrival_of};
 
 use crate::tally::{Tally, tally_of};
@@ -93,7 +93,7 @@ pub fn stats_of(model: &Model, station: u32, log: &Log, until: u64) -> Stats
     requires server { is_server (site_of model.now station).kind ≡ true }
     requires of_run { IsLogOf model.now station until log.now }
     requires entries_max { length log.now ≤ model.now.limit }
-    ensures value { result ≡ stats (is_single_by_arrival_of (site_of model.now station).kind) until log.now }
+    ensures value { result ≡ server_stats model.now station until log.now }
     ensures little { result.present ≡ time_in_system until (moments log.now) }
     ensures lindley { IsSome result.waits → IsLindley (moments log.now) }
 {
