@@ -6,3 +6,4 @@ pub mod ServerKeeps
 pub mod KindKeeps
 pub mod RunKeeps
 pub mod Restoring
+pub mod RunStates

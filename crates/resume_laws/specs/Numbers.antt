@@ -11,13 +11,13 @@ use Rattle.run_laws.specs.Handlers.{IsStation, AreForStations}
 module _ {S M N : Type 0} (sim : Simulation S M N) (sender number : M → ℕ) (next : S → ℕ) where
   -- pending messages have used numbers. A decision's number is a place in the list of decisions. The number of a
   -- station's message is below the next number of its sender. Every pending message is for a station
-  pub record HasUsedNumbers (plans : List Planned) (w : Config (World S M N) M) : Type 0 where
+  pub record PendingNumbersAreUsed (plans : List Planned) (w : Config (World S M N) M) : Type 0 where
     pub used : (z : M) → In z w.pending →
         ((sender z ≡ 0) × (number z < length plans))
         ⊎ (IsStation sim (sender z) × (number z < next (w.at.states (sender z))))
     pub to_station : (z : M) → In z w.pending → IsStation sim (sim.to z)
 
   -- the pending messages of every run have used numbers, at each front
-  abbrev pub PendingHasUsedNumbers : Type 0
-  PendingHasUsedNumbers = (plans : List Planned) (front : ℕ) → AreForStations sim plans →
-      HasUsedNumbers plans (run sim plans front)
+  abbrev pub PendingNumbersAreUsedInRuns : Type 0
+  PendingNumbersAreUsedInRuns = (plans : List Planned) (front : ℕ) → AreForStations sim plans →
+      PendingNumbersAreUsed plans (run sim plans front)

@@ -16,7 +16,8 @@
 //! - Numbers: pending messages have numbers below the next ones of their senders;
 //! - Tally: the sum of a measure over a list;
 //! - RunKeeps: the invariant of a network's runs, for example at most one pending tick per source;
-//! - SavedLaws: the saved data of a state that meets `IsRunState` fits its station, and restores that state.
+//! - SavedLaws: the saved data of a state that meets `IsRunState` fits its station, and restores that state. The states
+//!   of runs within the limit meet it, if all decisions come before the horizon.
 //!
 //! There is nothing to run: the contract of each function in `laws` is a law. The crates above cite a definition in
 //! their contracts and a lemma in their proofs:
