@@ -82,11 +82,6 @@ StopsAfter net past v front old_steps new_steps NoMemory = Unit {0}
 StopsAfter net past v front old_steps new_steps (Limit station kept) =
     GoesBeyondAfter net past v front old_steps new_steps station kept
 
--- a run from the beginning goes beyond the limit
-abbrev pub GoesBeyond : Net → SoloView → ℕ → ℕ → ℕ → ℕ → ℕ → Type 0
-GoesBeyond net v front old_steps new_steps station kept =
-    GoesBeyondAfter net [] v front old_steps new_steps station kept
-
 -- why a run from the beginning stops
 abbrev pub Stops : Net → SoloView → ℕ → ℕ → ℕ → SoloFault → Type 0
 Stops net v front old_steps new_steps fault = StopsAfter net [] v front old_steps new_steps fault

@@ -3,7 +3,7 @@ use Rattle.std.proofs.Common.{◌≡◌, ℕ, zero, suc, ◌+◌, ◌*◌, ◌�
 use Rattle.std.proofs.Common.{refl, Some, arith, ◌==◌, ltb-true, eq-eqb, eqb-true}
 use Rattle.std.specs.Prelude.{◌&&◌, ◌||◌, nat_le}
 use Rattle.std.specs.List.{AllByRecursion, list_all}
-use Rattle.std.proofs.lemmas.Bool.{leb-true, le-leb}
+use Rattle.std.proofs.lemmas.Bool.{leb-true, le-leb, and_parts as both, and_from as and}
 use Rattle.sim_base.specs.Weights.{IsWeight}
 use Rattle.net_model.specs.declared.station.Kind.{Kind}
 use Rattle.net_model.specs.declared.station.Kind.TheVariants as kind
@@ -33,25 +33,20 @@ site_at-within net (suc i) is = let high = is.high in elim (slice_get_cases net.
 
 -- ---- tests
 
--- both hold where their conjunction does
-pub both : (a b : Bool) → (a && b) ≡ true → (a ≡ true) × (b ≡ true)
-both true b e = (refl, e)
-both false b e = absurd (cc)
-
-pub and : (a b : Bool) → a ≡ true → b ≡ true → (a && b) ≡ true
-and a b p q = rw p q
-
 pub range-true : (low lo hi : ℕ) → IsRange low lo hi → is_range low lo hi ≡ true
-range-true low lo hi r = and _ _ (and _ _ (le-leb low lo r.above) (le-leb lo hi r.ordered)) (le-leb hi MOST_TIME r.small)
+range-true low lo hi r =
+    and _ _ (and _ _ (le-leb low lo r.above) (le-leb lo hi r.ordered)) (le-leb hi MOST_TIME r.small)
 
 pub within-true : (low high n : ℕ) → low ≤ n → n ≤ high → is_within low high n ≡ true
 within-true low high n p q = and _ _ (le-leb low n p) (le-leb n high q)
 
-pub all_pass-true : {X : Type 0} (p : X → Bool) (xs : List X) → AllByRecursion (λ x. p x ≡ true) xs → list_all p xs ≡ true
+pub all_pass-true : {X : Type 0} (p : X → Bool) (xs : List X) → AllByRecursion (λ x. p x ≡ true) xs
+    → list_all p xs ≡ true
 all_pass-true p [] all = refl
 all_pass-true p (x ∷ xs) all = and (p x) (list_all p xs) all.0 (all_pass-true p xs all.1)
 
-pub all_pass-all : {X : Type 0} (p : X → Bool) (xs : List X) → list_all p xs ≡ true → AllByRecursion (λ x. p x ≡ true) xs
+pub all_pass-all : {X : Type 0} (p : X → Bool) (xs : List X) → list_all p xs ≡ true
+    → AllByRecursion (λ x. p x ≡ true) xs
 all_pass-all p [] e = tt
 all_pass-all p (x ∷ xs) e = let h = both (p x) (list_all p xs) e in (h.0, all_pass-all p xs h.1)
 
@@ -80,7 +75,8 @@ module _ (net : Net) where
     pub fits : FitsKind handled state
     pub of : IsOfKind site k state
 
-  shape-restored : (site : Site) (k : Kind) (handled : ℕ) (h : Shape) → IsKind k → 1 ≤ length site.links ⊎ (k ≡ kind.Sink) →
+  shape-restored : (site : Site) (k : Kind) (handled : ℕ) (h : Shape) → IsKind k →
+      1 ≤ length site.links ⊎ (k ≡ kind.Sink) →
       length site.links ≤ 16 → fits_shape net site handled k h ≡ true → KindIsRestored site k handled h
   shape-restored site (kind.Source lo hi jobs class) handled (shape.Source low high sent) valid links few e =
       let h = both _ _ e in
@@ -193,7 +189,8 @@ module _ (net : Net) where
       let h = both numbers_fit (fits_shape net site saved.handled site.kind saved.shape) e in
       let counts = both _ _ h.0 in
       let numbers = both _ _ counts.1 in
-      let kind = shape-restored site site.kind saved.handled saved.shape lawful.kind (has-way site lawful) lawful.few h.1 in
+      let kind = shape-restored site site.kind saved.handled saved.shape lawful.kind (has-way site lawful) lawful.few
+      h.1 in
       let low = there.low in
       record {
         state = record {
@@ -207,7 +204,11 @@ module _ (net : Net) where
         };
         is = rw kind.is refl;
         fits = record {
-          sender = record { station = low; next = leb-true saved.next _ numbers.0; draws = leb-true saved.drawn _ numbers.1 };
+          sender = record {
+            station = low;
+            next = leb-true saved.next _ numbers.0;
+            draws = leb-true saved.drawn _ numbers.1;
+          };
           kind = kind.fits;
         };
         suits = record { site = site; is_there = here; kind = kind.of };

@@ -5,6 +5,7 @@ use Rattle.net_model.specs.declared.station.Kind.TheVariants as kind
 use Rattle.net_model.specs.Net.{Net, site_of}
 use Rattle.stations.specs.declared.kind_state.KindState.{KindState}
 use Rattle.stations.specs.declared.kind_state.KindState.TheVariants.{Source, Server, Delay, Router, Sink}
+use Rattle.stations.specs.declared.kind_state.ServerState.{ServerState}
 use Rattle.stations.specs.Handling.{StateView}
 use Rattle.stations.specs.declared.saved.Saved.{Saved}
 use Rattle.stations.specs.declared.saved.Shape.{Shape}
@@ -27,21 +28,25 @@ saved_of st = record {
   shape = shape_of st.kind;
 }
 
+-- what a server keeps that has this shape; None if the shape is of another kind
+abbrev pub restored_server : Shape → Option ServerState
+restored_server (shape.Server servers room lo hi busy done lost line) = Some (record {
+  servers = servers;
+  room = room;
+  lo = lo;
+  hi = hi;
+  busy = busy;
+  waiting = line;
+  done = done;
+  lost = lost;
+})
+restored_server _ = None
+
 -- what a station of a kind keeps if it has this shape; None if the shape is of another kind
 abbrev pub restored_kind : Kind → Shape → Option KindState
 restored_kind (kind.Source lo hi jobs class) (shape.Source low high sent) =
     Some (Source (record { lo = low; hi = high; jobs = jobs; sent = sent }))
-restored_kind (kind.Server servers room lo hi by_class) (shape.Server number space low high busy done lost line) =
-    Some (Server (record {
-      servers = number;
-      room = space;
-      lo = low;
-      hi = high;
-      busy = busy;
-      waiting = line;
-      done = done;
-      lost = lost;
-    }))
+restored_kind (kind.Server servers room lo hi by_class) h = option_map Server (restored_server h)
 restored_kind (kind.Delay lo hi) (shape.Delay low high passed) =
     Some (Delay (record { lo = low; hi = high; passed = passed }))
 restored_kind (kind.Router turn) (shape.Router passed weights) =

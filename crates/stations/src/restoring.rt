@@ -7,7 +7,7 @@ ghost use Rattle.net_model.specs.Sites.{as_site};
 ghost use Rattle.net_model.specs.declared.limits.TheConstants.{MOST_WEIGHT};
 ghost use Rattle.stations.specs.Fits.{FitsState, SuitsNet};
 ghost use Rattle.stations.specs.Fitting.{is_job_of, fits_shape, fits_saved};
-ghost use Rattle.stations.specs.Saving.{restored_kind, restored};
+ghost use Rattle.stations.specs.Saving.{restored_server, restored_kind, restored};
 
 use crate::job_line::JobLine;
 use crate::job_queue::JobQueue;
@@ -109,6 +109,35 @@ fn queue_of(line: &JobLine, alloc: Global) -> Result<JobQueue, NoMemory>
     Ok(queue)
 }
 
+// The state of a server of this shape, None if the shape is of another kind.
+fn restore_server(alloc: Global, shape: &Shape) -> Result<Option<ServerState>, NoMemory>
+    ensures { IfOk result (λ server. server ≡ restored_server shape.now) }
+{
+    let Shape::Server {
+        servers,
+        room,
+        lo,
+        hi,
+        busy,
+        done,
+        lost,
+        line,
+    } = shape
+    else {
+        return Ok(None);
+    };
+    Ok(Some(ServerState {
+        servers: *servers,
+        room: *room,
+        lo: *lo,
+        hi: *hi,
+        busy: *busy,
+        waiting: queue_of(line, alloc)?,
+        done: *done,
+        lost: *lost,
+    }))
+}
+
 fn restore_kind(alloc: Global, kind: &Kind, shape: &Shape) -> Result<KindState, RestoreFault>
     ensures ok { IfOk result (λ k. restored_kind kind.now shape.now ≡ Some k) }
     ensures unfit { IfErr result (λ e. e ≡ RestoreFault.Unfit → restored_kind kind.now shape.now ≡ None) }
@@ -122,33 +151,11 @@ fn restore_kind(alloc: Global, kind: &Kind, shape: &Shape) -> Result<KindState, 
                 sent: *sent,
             },
         )),
-        (
-            Kind::Server { .. },
-            Shape::Server {
-                servers,
-                room,
-                lo,
-                hi,
-                busy,
-                done,
-                lost,
-                line,
-            },
-        ) => {
-            let Ok(waiting) = queue_of(line, alloc) else {
-                return Err(RestoreFault::NoMemory);
-            };
-            Ok(KindState::Server(ServerState {
-                servers: *servers,
-                room: *room,
-                lo: *lo,
-                hi: *hi,
-                busy: *busy,
-                waiting,
-                done: *done,
-                lost: *lost,
-            }))
-        }
+        (Kind::Server { .. }, _) => match restore_server(alloc, shape) {
+            Ok(Some(server)) => Ok(KindState::Server(server)),
+            Ok(None) => Err(RestoreFault::Unfit),
+            Err(NoMemory) => Err(RestoreFault::NoMemory),
+        },
         (Kind::Delay { .. }, Shape::Delay { lo, hi, passed }) => Ok(KindState::Delay(DelayState {
             lo: *lo,
             hi: *hi,
@@ -171,7 +178,7 @@ fn restore_kind(alloc: Global, kind: &Kind, shape: &Shape) -> Result<KindState, 
 impl State {
     /// The state of a station that plain data restores. Its draws go on where they were.
     ///
-    /// It returns `Unfit` only if the data does not fit this station of the model, and Ok only if it fits.
+    /// `Unfit` comes exactly if the data does not fit this station of the model.
     pub fn restore(
         alloc: Global,
         model: &Model,
@@ -180,10 +187,11 @@ impl State {
     ) -> Result<State, RestoreFault>
         // what it asks: the number of a station of the model
         requires is_station { HasStation model.now station }
-        // what it gives: the state that the data restores, and then the data fits; `Unfit` only if it does not
+        // what it gives: the state that the data restores; `Unfit` exactly if the data does not fit
         ensures ok { IfOk result (λ st. restored model.now station saved.now ≡ Some st) }
         ensures fit { OnOk result (fits_saved model.now station saved.now ≡ true) }
         ensures unfit { IfErr result (λ e. e ≡ RestoreFault.Unfit → fits_saved model.now station saved.now ≡ false) }
+        ensures tested { IfErr result (λ e. e ≡ RestoreFault.NoMemory → fits_saved model.now station saved.now ≡ true) }
         // what holds of the state: it is one of this station of the network, within its bounds
         ensures fits { IfOk result (λ st. FitsState st) }
         ensures suits { IfOk result (λ st. SuitsNet model.now st) }

@@ -10,7 +10,8 @@ pub of-requires : goal.of-requires
 of-requires c =
     let net = c.args.model.now in
     let fit : fits_saved net c.args.station c.args.saved.now ≡ true = search rules in
-    let all = fits-restored net c.station-site.ensures.valid c.args.station c.args.saved.now c.requires.is_station fit in
+    let all = fits-restored net c.station-site.ensures.valid c.args.station c.args.saved.now c.requires.is_station
+    fit in
     let is = restored-by net c.args.station (as_site c.station-site.result.now) c.args.saved.now _
     c.station-site.ensures.value c.in_ok-kind.ensures.ok in
     let same = same_Some _ _ (sym is ∙ all.is) in
@@ -20,7 +21,8 @@ pub returns-clause-suits : goal.returns-clause-suits
 returns-clause-suits c =
     let net = c.args.model.now in
     let fit : fits_saved net c.args.station c.args.saved.now ≡ true = search rules in
-    let all = fits-restored net c.station-site.ensures.valid c.args.station c.args.saved.now c.requires.is_station fit in
+    let all = fits-restored net c.station-site.ensures.valid c.args.station c.args.saved.now c.requires.is_station
+    fit in
     let is = restored-by net c.args.station (as_site c.station-site.result.now) c.args.saved.now _
     c.station-site.ensures.value c.in_ok-kind.ensures.ok in
     let same = same_Some _ _ (sym is ∙ all.is) in
