@@ -3,7 +3,7 @@ use Rattle.std.proofs.Common.{◌≡◌, ℕ, ◌≤◌, List, [], ◌∷◌, le
 use Rattle.std.proofs.Common.{Option, Some, arith, subst, eq-eqb}
 use Rattle.std.specs.Prelude.{option_map}
 use Rattle.std.specs.List.{AllByRecursion}
-use Rattle.std.proofs.lemmas.Bool.{le-leb, lt-ltb}
+use Rattle.std.proofs.lemmas.Bool.{le-leb, lt-ltb, and_from as and}
 use Rattle.sim_base.specs.Weights.{IsWeight}
 use Rattle.net_model.specs.declared.station.Kind.{Kind}
 use Rattle.net_model.specs.declared.station.Kind.TheVariants as kind
@@ -18,7 +18,7 @@ use Rattle.stations.specs.Fitting.{is_job_of, fits_shape}
 use Rattle.stations.specs.Handling.{StateView}
 use Rattle.stations.specs.Saving.{shape_of, restored_kind}
 use Rattle.stations.proofs.Lawful.{site_is}
-use Rattle.stations.proofs.RestoringLaws.{and, range-true, within-true, all_pass-true, line-true}
+use Rattle.stations.proofs.RestoringLaws.{range-true, within-true, all_pass-true, line-true}
 use Rattle.resume_laws.specs.RunKeeps.{RunKeepsKind, sent_of, jobs_of}
 use Rattle.resume_laws.specs.SavedLaws.{StateIsRestored}
 
