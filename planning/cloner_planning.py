@@ -1,0 +1,14 @@
+#!/usr/bin/env python3
+"""cloner_planning.py COMMAND ..: the planners' tools of cloner. `--help` lists the commands.
+
+The tools read what the proved program writes. They are plain Python, and nothing of them is proved.
+"""
+import os
+import sys
+
+sys.path.insert(0, os.path.dirname(os.path.realpath(__file__)))
+
+from planner.command_line import main  # noqa: E402  (the path comes first)
+
+if __name__ == "__main__":
+    sys.exit(main(sys.argv[1:]))

@@ -1,0 +1,1 @@
+"""The planners' tools of cloner: plain Python, unproved, for readers of traces."""

@@ -1,0 +1,234 @@
+"""Explains an error line of cloner: what it means, which line of a file it is about, and what may have been meant."""
+import argparse
+import os
+import re
+import sys
+from typing import Any, Iterable, List, NamedTuple, Optional, Tuple
+
+from .check_flow import estimate_station
+from .errors import PlanningError
+from .explain_model import Explainer, Refusal
+from .explain_script import Decisions, Lines, explain_script, read_lines, some
+from .explain_tables import Status, Tables, is_integer, read_tables
+from .names import did_you_mean
+from .places import Places, printable, read_bytes, read_places
+
+DESCRIPTION = """Says what an error line of cloner means, and where.
+
+The error line is the last line of standard input, so the journal of `live` may precede it:
+
+    cloner run MODEL SCRIPT > TRACES 2> ERROR || cloner_planning.py explain MODEL SCRIPT < ERROR
+
+Prints the meaning from docs/FORMATS.md, the line of the model or the script, what is allowed there, and the nearest
+word. Ends with 1 after an explanation, with 0 if standard input is empty, with 2 if its last line is no error line
+of cloner."""
+
+MODEL_LINE = re.compile(r"cloner: model: refusal (\d+) at station (\d+)(?: key ?(.*))?\Z")
+SCRIPT_LINE = re.compile(r"cloner: (script|decision): refusal (\d+) at line (\d+)\Z")
+LIMIT_LINE = re.compile(r"cloner: limit (\d+) met at station (\w+) in clone (\w+)\Z")
+CLONE_LINE = re.compile(r"cloner: no clone (\S+)\Z")
+FRONT_LINE = re.compile(rb"# front (\d{1,10})\s*\Z")
+LONGEST_LINE = 4096
+GREATEST_LIMIT = 65_536
+ROOM_TO_SPARE = 1.1
+
+
+def add_arguments(parser: argparse.ArgumentParser) -> None:
+    """Adds the words of the command line."""
+    parser.add_argument("model", nargs="?", metavar="MODEL", help="the model file that cloner was given")
+    parser.add_argument("script", nargs="?", metavar="SCRIPT", help="the script that cloner was given")
+
+
+class Needed(NamedTuple):
+    """The messages of a station up to the horizon, the time at which it meets the limit, and the horizon."""
+
+    messages: float
+    met: int
+    horizon: int
+
+
+class Files:
+    """The model and the script of the command line, read when they are asked for; None if they are not named."""
+
+    def __init__(self, model: Optional[str], script: Optional[str]):
+        self.model = model
+        self.script = script
+
+    def places(self) -> Optional[Places]:
+        """Returns the places of the model."""
+        return read_places(self.model) if self.model else None
+
+    def lines(self) -> Optional[Lines]:
+        """Returns the lines of the script."""
+        return read_lines(self.script) if self.script else None
+
+
+PARTS = {"N": r"\d+", "P": r"\d+", "S": r"\S+", "C": r"\S+", "NAME": r"\S+", "..": ".*"}
+
+
+def status_of(said: str, tables: Tables) -> Optional[Status]:
+    """Returns the row of the statuses to which an error line belongs, or None if it is no line of cloner."""
+    for row in tables.statuses():
+        for pattern in row.patterns:
+            words = [PARTS.get(word, re.escape(word)) for word in pattern.split()]
+            key = "(?: key.*)?" if "model: refusal" in pattern else ""
+            if re.match(" ".join(words) + key + r"\Z", said):
+                return row
+    return None
+
+
+def explain(said: str, front: Optional[int], tables: Tables, files: Files) -> List[str]:
+    """Returns the lines that explain an error line; PlanningError if it is none.
+
+    `front` is the last front of a journal before the error line, or None.
+    """
+    row = status_of(said, tables)
+    if row is None:
+        raise PlanningError(f"this is no error line of cloner: {printable(said)}")
+    model, script, limit = MODEL_LINE.match(said), SCRIPT_LINE.match(said), LIMIT_LINE.match(said)
+    if model:
+        return explain_model(Refusal(int(model.group(1)), int(model.group(2)), model.group(3)), tables, files)
+    if script:
+        return explain_lines(script.group(1), int(script.group(2)), int(script.group(3)), tables, files)
+    if limit:
+        return [row.meaning] + explain_limit(limit.groups(), front, files) + [f"What to do: {row.to_do}"]
+    return [row.meaning] + more_of(said, row, tables, files) + ([f"What to do: {row.to_do}"] if row.to_do else [])
+
+
+def meaning_of(subject: str, number: int, tables: Tables) -> List[str]:
+    """Returns the meaning of a refusal; PlanningError if there is none of this number."""
+    meanings = tables.refusals(subject)
+    if number not in meanings:
+        raise PlanningError(f"cloner has no refusal {number} of a {subject}")
+    return [meanings[number]]
+
+
+def explain_model(refusal: Refusal, tables: Tables, files: Files) -> List[str]:
+    """Returns what a refusal of a model means, and where."""
+    meaning = meaning_of("model", refusal.number, tables)
+    places = files.places()
+    if places is None:
+        return meaning + ["Give the model's file as well, and its line is shown."]
+    return meaning + Explainer(places, tables, refusal).lines()
+
+
+def explain_lines(subject: str, number: int, line: int, tables: Tables, files: Files) -> List[str]:
+    """Returns what a refusal of a script or a decision means, and where."""
+    meaning = meaning_of(subject, number, tables)
+    lines = files.lines()
+    if lines is None:
+        return meaning + ["Give the files of the model and the script as well, and the line is shown."]
+    if subject == "script":
+        return meaning + explain_script(lines, tables, number, line)
+    return meaning + Decisions(lines, tables, files.places()).explain(number, line)
+
+
+def explain_limit(groups: Tuple[str, ...], front: Optional[int], files: Files) -> List[str]:
+    """Returns what is known of a station that met the limit: its line, the front, and which limit or horizon fits."""
+    limit, station, branch = int(groups[0]), groups[1], groups[2]
+    lines = [f"Station `{station}` would handle more than {limit:,} messages in branch `{branch}`."]
+    if front is not None:
+        lines.append(f"The journal's last front is {front}: the limit was met before that time.")
+    places = files.places()
+    if places is None or places.fault:
+        return lines + [advice_for(limit, None)]
+    numbers = [number for number, table in enumerate(places.stations(), 1) if table.get("name") == station]
+    for place in [("station", number, "name") for number in numbers] + [("limit",), ("horizon",)]:
+        line = places.line(place)
+        lines += [places.shown(line)] if line else []
+    return lines + [advice_for(limit, needed(station, branch, limit, front, places, files))]
+
+
+def needed(station: str, branch: str, limit: int, front: Optional[int], places: Places,
+           files: Files) -> Optional[Needed]:
+    """Returns what the station would need; from the front if there is one, else from mean rates; None if unknown."""
+    horizon = places.data.get("horizon")
+    if not is_integer(horizon):
+        return None
+    if front:
+        return Needed(limit * horizon / front, front, horizon)
+    try:
+        found = estimate_station(files.model, files.script, station, branch, limit)
+    except PlanningError:
+        return None
+    return Needed(*found, horizon) if found else None
+
+
+def advice_for(limit: int, needs: Optional[Needed]) -> str:
+    """Returns what to change so that the limit is kept."""
+    if needs is None and limit >= GREATEST_LIMIT:
+        return "Shorten `horizon`, or split the station over several."
+    if needs is None:
+        return (f"Write a greater `limit` at the top, up to {GREATEST_LIMIT}, shorten `horizon`, "
+                "or split the station over several.")
+    said = f"Up to the horizon {needs.horizon} it would handle about {needs.messages:,.0f}."
+    wanted = int(needs.messages * ROOM_TO_SPARE) + 1
+    if wanted <= GREATEST_LIMIT:
+        shorter = int(needs.met / ROOM_TO_SPARE)
+        return f"{said} Write `limit = {wanted}` at the top, or a `horizon` of at most about {shorter}."
+    fits = int(needs.met * GREATEST_LIMIT / limit / ROOM_TO_SPARE)
+    return (f"{said} The greatest limit is {GREATEST_LIMIT}: with it a `horizon` of about {fits} fits; "
+            "or split the station over several.")
+
+
+def more_of(said: str, row: Status, tables: Tables, files: Files) -> List[str]:
+    """Returns what more can be said of an error line that is about no line of a file."""
+    clone = CLONE_LINE.match(said)
+    if clone:
+        lines = files.lines()
+        made = list(lines.forks()) if lines else ["base"]
+        said_so = did_you_mean(clone.group(1), made)
+        return said_so + ([f"The branches of the script: {some(made)}."] if lines else [])
+    if row.status == 2:
+        return [f"Known: {form}" for form in tables.commands()]
+    if row.status == 3:
+        what = "model" if said.endswith("model") else "script"
+        return why_unread(files.model if what == "model" else files.script, what)
+    return []
+
+
+def why_unread(path: Optional[str], what: str) -> List[str]:
+    """Returns why a file cannot be read, as far as that can be seen now."""
+    if not path:
+        return []
+    if not os.path.lexists(path):
+        folder = os.path.dirname(path) or "."
+        names = os.listdir(folder) if os.path.isdir(folder) else []
+        near = did_you_mean(os.path.basename(path), names)
+        return [f"There is no file {path}."] + near
+    if os.path.isdir(path):
+        return [f"{path} is a folder."]
+    try:
+        read_bytes(path, what)
+    except PlanningError as fault:
+        return [f"{str(fault).capitalize()}."]
+    return [f"{path} can be read now."]
+
+
+def read_said(lines: Iterable[bytes]) -> Tuple[str, Optional[int]]:
+    """Returns the last line that is not empty, and the last front of a journal before it, or None."""
+    said, front = b"", None
+    for line in lines:
+        found = FRONT_LINE.match(line)
+        front = int(found.group(1)) if found else front
+        said = line.strip() or said
+    return said[:LONGEST_LINE].decode("utf-8", errors="replace"), front
+
+
+def write(lines: List[str]) -> None:
+    """Prints lines, with a substitute for each character that the output cannot show."""
+    reconfigure: Any = getattr(sys.stdout, "reconfigure", None)
+    if reconfigure:
+        reconfigure(errors="backslashreplace")
+    for line in lines:
+        print(line)
+
+
+def run(options: argparse.Namespace) -> int:
+    """Explains the error line on standard input; returns 1, or 0 if there is none."""
+    said, front = read_said(sys.stdin.buffer)
+    if not said:
+        return 0
+    found = explain(said, front, read_tables(), Files(options.model, options.script))
+    write([printable(said)] + [f"  {line}" for line in found])
+    return 1

@@ -1,0 +1,134 @@
+"""plot: pictures of traces. One matplotlib makes the same SVG of the same trace, byte for byte."""
+import argparse
+import sys
+from typing import Optional, Tuple
+
+from . import models, traces
+from .errors import PlanningError
+from .series import MOST_BRANCHES, StationReader, read_series
+from .shares import Shares
+
+DESCRIPTION = f"""Pictures of a trace: a station over time in several branches, or what each branch computed alone.
+
+TRACE is what `cloner run`, `solo` or `live` wrote, or - for standard input. The picture is an SVG on standard
+output, or with --output a file .svg or .png. Drawing needs matplotlib.
+
+plot TRACE STATION [BRANCH ..]
+  A line for each branch; without BRANCH all branches, at most {MOST_BRANCHES}. It shows how many jobs wait at a server
+  (line) or how many of its servers are busy (busy). At a sink, a dot for each job shows its time in the network
+  (stay). If branches coincide, the first of them covers the others.
+plot TRACE --alone [BRANCH ..]
+  A row for each branch, from pale to solid: the share of its messages that no earlier branch has. An earlier
+  branch has a message if its lines of that station are the same, from the first line up to this one. On the right
+  is the share of all the branch's messages. A trace does not show when a job was made, so the sum can be a little
+  below `handled` in the report."""
+
+NO_MATPLOTLIB = ("plot draws with matplotlib, which this Python does not have: apt-get install python3-matplotlib, "
+                 "then run plot with /usr/bin/python3")
+
+
+def add_arguments(parser: argparse.ArgumentParser) -> None:
+    """Adds the words and options of plot."""
+    parser.add_argument("trace", metavar="TRACE", help="a trace; - is the standard input")
+    parser.add_argument("words", metavar="STATION [BRANCH ..]", nargs="*", help="the station, and the branches to draw")
+    parser.add_argument("--what", choices=("line", "busy", "stay"),
+                        help="line or busy at a server, stay at a sink; without it line or stay")
+    parser.add_argument("--alone", action="store_true", help="draw what each branch computed alone")
+    parser.add_argument("--from", dest="begin", type=time_of, default=0, metavar="TIME", help="the first time to draw")
+    parser.add_argument("--to", dest="stop", type=time_of, metavar="TIME", help="the time at which the picture ends")
+    parser.add_argument("--model", metavar="FILE", help="the model: the picture ends at its horizon, and a dotted line "
+                        "shows the station's servers or room, if any branch reaches them")
+    parser.add_argument("--output", default="-", metavar="FILE", help="a file .svg or .png; - is the standard output")
+    parser.parse_args = parser.parse_intermixed_args  # options may come between the words
+
+
+def time_of(word: str) -> int:
+    """Returns the time that a word names."""
+    if not (word.isascii() and word.isdigit() and len(word) <= 10):
+        raise argparse.ArgumentTypeError(f"{word!r} is no time; times are whole numbers from 0 on")
+    return int(word)
+
+
+def pictures_module():
+    """Returns the module that draws, if there is matplotlib."""
+    try:
+        import matplotlib.figure  # noqa: F401  (late: only plot needs it)
+    except ImportError:
+        raise PlanningError(NO_MATPLOTLIB) from None
+    from . import pictures
+    return pictures
+
+
+def kind_of_file(output: str) -> str:
+    """Returns svg or png, by the end of the file's name."""
+    kind = "svg" if output == "-" else output.lower().rpartition(".")[2]
+    if kind not in ("svg", "png"):
+        raise PlanningError(f"the picture's name must end in .svg or .png: {output}")
+    return kind
+
+
+def read_trace(path: str, read):
+    """Returns what `read` makes of the trace's branches, and takes the standard input to its end."""
+    with traces.open_trace(path) as file:
+        result = read(traces.branches(file))
+        if path == "-":
+            for _ in file:
+                pass
+    return result
+
+
+def span_of(options: argparse.Namespace, model: Optional[models.Model], last: int) -> Tuple[int, int]:
+    """Returns the first time to draw and the end of the picture: --to, the horizon, or after the last message."""
+    end = options.stop
+    if end is None:
+        end = model.horizon if model else last + 1
+    if end <= options.begin:
+        raise PlanningError(f"no time is left to draw: from {options.begin} to {end}")
+    return options.begin, end
+
+
+def capacity(station: models.Station, figure: str) -> Optional[Tuple[int, str]]:
+    """Returns a station's servers or room in the model, with a label."""
+    if figure == "busy":
+        return station.servers, f"model: {station.servers} servers"
+    return (station.room, f"model: room {station.room}") if figure == "line" else None
+
+
+def station_picture(options: argparse.Namespace, model: Optional[models.Model], pictures):
+    """Returns the picture of one figure of a station."""
+    name, branches = options.words[0], options.words[1:]
+    station = model.station(name) if model else None
+    reader = StationReader(name, options.what)
+    if model and not station:
+        raise PlanningError(f"the model has no station {name}: it has {', '.join(one.name for one in model.stations)}")
+    if station:
+        reader.settle(station.kind)
+    series = read_trace(options.trace, lambda trace: read_series(trace, reader, branches))
+    if reader.figure is None:
+        raise PlanningError(f"the branches have no message at a station {name}")
+    span = span_of(options, model, max(one.end for one in series))
+    limit = capacity(station, reader.figure) if station else None
+    return pictures.draw_series(series, reader.figure, name, span, limit)
+
+
+def alone_picture(options: argparse.Namespace, model: Optional[models.Model], pictures):
+    """Returns the picture of what each branch computed alone."""
+    if options.what:
+        raise PlanningError("--alone and --what exclude each other")
+    shares = Shares(options.begin, options.stop)
+    read_trace(options.trace, lambda trace: shares.read(trace, options.words))
+    if not any(sum(row.handled) for row in shares.rows):
+        raise PlanningError("the branches have no message in the time to draw")
+    return pictures.draw_shares(shares, span_of(options, model, shares.last))
+
+
+def run(options: argparse.Namespace) -> int:
+    """Draws what the options ask for and returns the status."""
+    kind = kind_of_file(options.output)
+    if not (options.words or options.alone):
+        raise PlanningError("plot needs a station, or --alone")
+    pictures = pictures_module()
+    model = models.read_model(options.model) if options.model else None
+    picture = (alone_picture if options.alone else station_picture)(options, model, pictures)
+    pictures.write(picture, sys.stdout.buffer if options.output == "-" else options.output, kind)
+    return 0
