@@ -3,7 +3,7 @@ import argparse
 import importlib
 import os
 import sys
-from typing import List, NoReturn
+from typing import List, NoReturn, TextIO
 
 from .errors import PlanningError
 
@@ -89,9 +89,9 @@ def complain(message: str) -> int:
     """Writes one error line and returns the status of bad input."""
     line = " ".join(message.split())
     try:
-        print(f"{PROGRAM}: {line}", file=sys.stderr)
+        print(f"{PROGRAM}: {line}", file=sys.stderr, flush=True)
     except OSError:  # nobody can be told; the status is left
-        pass
+        drop(sys.stderr)
     return WRONG_INPUT
 
 
@@ -105,10 +105,10 @@ def open_closed_streams() -> None:
         sys.stderr = open(os.devnull, "w", encoding="utf-8")
 
 
-def drop_output() -> None:
-    """Makes the interpreter's last flush harmless after the reader of the output went away."""
+def drop(stream: TextIO) -> None:
+    """Sends the rest of a stream that takes nothing more to nowhere, so that the interpreter's last flush is harmless."""
     try:
-        os.dup2(os.open(os.devnull, os.O_WRONLY), sys.stdout.fileno())
+        os.dup2(os.open(os.devnull, os.O_WRONLY), stream.fileno())
     except (OSError, ValueError):
         pass
 
@@ -126,10 +126,10 @@ def main(words: List[str]) -> int:
     except PlanningError as fault:
         return complain(str(fault))
     except BrokenPipeError:
-        drop_output()
+        drop(sys.stdout)
         return 0
     except OSError as fault:
-        drop_output()
+        drop(sys.stdout)
         return complain(": ".join(str(part) for part in (fault.filename, fault.strerror or fault) if part))
     except KeyboardInterrupt:
         return INTERRUPTED
