@@ -15,6 +15,14 @@ BUILT = os.path.join(TOP, "crates", "cloner_cli", "out", "cloner_cli")
 PLANNING = os.path.join(TOP, "planning", "cloner_planning.py")
 
 
+def program():
+    """Returns the path of `cloner`. Ends with one line if it is not there, so a script calls it before it starts processes."""
+    found = shutil.which("cloner") or BUILT
+    if not os.access(found, os.X_OK):
+        sys.exit("there is no `cloner` on the path, and none that `rt run` has built in crates/cloner_cli")
+    return found
+
+
 def example(name):
     """Returns the text of a file of examples/."""
     with open(os.path.join(TOP, "examples", name), encoding="ascii") as file:
@@ -38,7 +46,7 @@ def printed(command, **texts):
 
 def run(model, script=""):
     """Returns the traces and the report of a run."""
-    return printed([shutil.which("cloner") or BUILT, "run", "@model", "@script"], model=model, script=script)
+    return printed([program(), "run", "@model", "@script"], model=model, script=script)
 
 
 def traces(output):

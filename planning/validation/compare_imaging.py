@@ -68,6 +68,7 @@ def main():
     parser.add_argument("--own-order", action="store_true", help="simultaneous events in SimPy's own order")
     parser.add_argument("--processes", type=int, default=2)
     chosen = parser.parse_args()
+    cloner_runs.program()
     simpy_runs = functools.partial(simpy_run, own_order=chosen.own_order)
     with multiprocessing.Pool(chosen.processes) as pool:
         ours = pool.map(cloner_run, range(CLONER_SEEDS, CLONER_SEEDS + chosen.seeds), chunksize=4)

@@ -139,6 +139,7 @@ def row(queue, exact, waits, numbers):
 def main():
     """Compares the three queues; returns 1 if an expected value is outside an interval."""
     chosen = arguments()
+    cloner_runs.program()
     seeds = range(1, max(chosen.seeds) + 1)
     with multiprocessing.Pool(chosen.processes) as pool:
         exact = pool.map(expected, QUEUES, chunksize=1)

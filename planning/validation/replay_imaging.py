@@ -49,6 +49,7 @@ def main():
     parser.add_argument("--seeds", type=int, default=10)
     parser.add_argument("--processes", type=int, default=2)
     chosen = parser.parse_args()
+    cloner_runs.program()
     with multiprocessing.Pool(chosen.processes) as pool:
         runs = pool.map(compare, range(1, chosen.seeds + 1), chunksize=1)
     rows = {branch: [sum(column) for column in zip(*(run[branch] for run in runs))] for branch in runs[0]}

@@ -10,8 +10,12 @@ smaller sender come first, and of one sender those that were sent first. With --
 """
 import argparse
 import random
+import sys
 
-import simpy
+try:
+    import simpy
+except ModuleNotFoundError:
+    sys.exit("this Python has no SimPy: apt-get install python3-simpy3, then run the script with /usr/bin/python3")
 
 HORIZON = 20160
 NAMES = "analyst inpatients outpatients registration split new_scanner old_scanner check beds exit".split()
