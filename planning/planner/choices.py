@@ -1,7 +1,15 @@
-"""Choices of names on the command line."""
+"""Names and numbers on the command line."""
+import argparse
 from typing import List, Optional, Sequence
 
 from .errors import PlanningError
+
+
+def whole_number(word: str) -> int:
+    """Returns the whole number that a word of the command line is, as a time."""
+    if not (word.isascii() and word.isdigit() and len(word) <= 10):
+        raise argparse.ArgumentTypeError(f"{word!r} is no whole number from 0 on")
+    return int(word)
 
 
 def names_in(words: str) -> List[str]:

@@ -106,7 +106,7 @@ def open_closed_streams() -> None:
 
 
 def drop(stream: TextIO) -> None:
-    """Sends the rest of a stream that takes nothing more to nowhere, so that the interpreter's last flush is harmless."""
+    """Sends the rest of a full or closed stream to nowhere, so that the interpreter's last flush is harmless."""
     try:
         os.dup2(os.open(os.devnull, os.O_WRONLY), stream.fileno())
     except (OSError, ValueError):

@@ -4,6 +4,7 @@ import sys
 from typing import Optional, Tuple
 
 from . import models, traces
+from .choices import whole_number
 from .errors import PlanningError
 from .series import MOST_BRANCHES, StationReader, read_series
 from .shares import Shares
@@ -34,19 +35,14 @@ def add_arguments(parser: argparse.ArgumentParser) -> None:
     parser.add_argument("--what", choices=("line", "busy", "stay"),
                         help="line or busy at a server, stay at a sink; without it line or stay")
     parser.add_argument("--alone", action="store_true", help="draw what each branch computed alone")
-    parser.add_argument("--from", dest="begin", type=time_of, default=0, metavar="TIME", help="the first time to draw")
-    parser.add_argument("--to", dest="stop", type=time_of, metavar="TIME", help="the time at which the picture ends")
+    parser.add_argument("--from", dest="begin", type=whole_number, default=0, metavar="TIME",
+                        help="the first time to draw")
+    parser.add_argument("--to", dest="stop", type=whole_number, metavar="TIME",
+                        help="the time at which the picture ends")
     parser.add_argument("--model", metavar="FILE", help="the model: the picture ends at its horizon, and a dotted line "
                         "shows the station's servers or room, if any branch reaches them")
     parser.add_argument("--output", default="-", metavar="FILE", help="a file .svg or .png; - is the standard output")
     parser.parse_args = parser.parse_intermixed_args  # options may come between the words
-
-
-def time_of(word: str) -> int:
-    """Returns the time that a word names."""
-    if not (word.isascii() and word.isdigit() and len(word) <= 10):
-        raise argparse.ArgumentTypeError(f"{word!r} is no time; times are whole numbers from 0 on")
-    return int(word)
 
 
 def pictures_module():

@@ -8,7 +8,7 @@ import sys
 import tempfile
 from typing import Dict, Iterator, List, Optional, Sequence, TextIO, Tuple
 
-from .choices import chosen, names_in
+from .choices import chosen, names_in, whole_number
 from .errors import PlanningError
 from .models import Model, parse_model, read_model
 from .scripts import Script, read_script
@@ -62,13 +62,6 @@ def add_arguments(parser: argparse.ArgumentParser) -> None:
     parser.add_argument("--branches", type=names_in, metavar="LIST",
                         help="only these branches; base is always compared with")
     parser.add_argument("--bin", default="cloner", metavar="FILE", help="the program (default: cloner, on the path)")
-
-
-def whole_number(word: str) -> int:
-    """Returns the whole number that a word of the command line is."""
-    if not (word.isascii() and word.isdigit() and len(word) <= 10):
-        raise argparse.ArgumentTypeError(f"{word!r} is no whole number from 0 on")
-    return int(word)
 
 
 def number_of_jobs(word: str) -> int:
@@ -235,6 +228,7 @@ def run(options: argparse.Namespace) -> int:
         plan = plan_of(options, script, folder)
         table = replicate(plan, options)
     if options.csv != "-":
-        print(f"{len(options.seeds)} {'seed' if len(options.seeds) == 1 else 'seeds'}, times from {plan.start} on and before {plan.stop}\n")
+        seeds = "1 seed" if len(options.seeds) == 1 else f"{len(options.seeds)} seeds"
+        print(f"{seeds}, times from {plan.start} on and before {plan.stop}\n")
         write_table(sys.stdout, COLUMNS, table.rows(plan, options.branches), NAMES)
     return 0

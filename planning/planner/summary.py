@@ -3,7 +3,7 @@ import argparse
 import sys
 from typing import Dict, Iterator, List, Optional
 
-from .choices import chosen, names_in
+from .choices import chosen, names_in, whole_number
 from .errors import PlanningError
 from .models import Model, read_model
 from .scripts import Script, parse_script, read_script
@@ -162,10 +162,11 @@ def add_arguments(parser: argparse.ArgumentParser) -> None:
     parser.add_argument("trace", metavar="TRACE", help="the output of run, solo or live; - for standard input")
     parser.add_argument("--model", metavar="M", help="the model file: horizon, numbers of servers, order of service")
     parser.add_argument("--script", metavar="S", help="the script file: which branches end, and when")
-    parser.add_argument("--from", dest="start", metavar="T", type=time, default=0,
+    parser.add_argument("--from", dest="start", metavar="T", type=whole_number, default=0,
                         help="start of the span (default: 0)")
-    parser.add_argument("--to", dest="stop", metavar="T", type=time, help="end of the span (default: the horizon)")
-    parser.add_argument("--over", metavar="T", type=time, default=0,
+    parser.add_argument("--to", dest="stop", metavar="T", type=whole_number,
+                        help="end of the span (default: the horizon)")
+    parser.add_argument("--over", metavar="T", type=whole_number, default=0,
                         help="the wait that the column >T%% is about (default: 0)")
     parser.add_argument("--stations", type=names_in, metavar="LIST",
                         help="only these servers and sinks, as in desk,out, and no table of branches")
@@ -174,13 +175,6 @@ def add_arguments(parser: argparse.ArgumentParser) -> None:
                         help="write CSV: one row per branch and station, and one per branch")
     parser.add_argument("--by-class", action="store_true",
                         help="add a row for each class of jobs at each server and sink")
-
-
-def time(word: str) -> int:
-    """Returns the time that a word of the command line is."""
-    if not (word.isascii() and word.isdigit() and len(word) <= 10):
-        raise argparse.ArgumentTypeError(f"{word!r} is no time; times are whole numbers from 0 on")
-    return int(word)
 
 
 def note(text: str) -> None:

@@ -312,8 +312,8 @@ class Refusals(Case):
         self.assertIn("--from 9 is not below --to 9", self.refused(ROSTER, "--from", "9", "--to", "9"))
         self.assertIn("--from 20 is not below 20", self.refused(ROSTER, "--from", "20"))
         self.assertIn("--from 19 is not below 19", self.refused(ROSTER, "--from", "19", model=None))
-        self.assertIn("is no time", self.refused(ROSTER, "--to", "-1"))
-        self.assertIn("is no time", self.refused(ROSTER, "--over", "2.5"))
+        self.assertIn("is no whole number", self.refused(ROSTER, "--to", "-1"))
+        self.assertIn("is no whole number", self.refused(ROSTER, "--over", "2.5"))
         self.rows(ROSTER, "--to", "21")
         self.assertIn("--to 21 is beyond 20", self.notes)
 
