@@ -36,7 +36,8 @@ class Journal:
         if not re.fullmatch(r"journal \d+ \d+", head) or not found:
             raise Difference(f"no journal: {text[:80]!r}")
         self.calls, self.fronts = map(int, head.split()[1:])
-        self.script = events
+        # without its comments, with which a long journal would be larger than a script may be
+        self.script = "".join(line for line in events.splitlines(keepends=True) if not line.startswith("#"))
         self.count, *self.looks = looks.splitlines()
         if int(self.count) != len(self.looks):
             raise Difference(f"{self.count} looks in {len(self.looks)} lines")
