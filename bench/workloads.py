@@ -57,9 +57,9 @@ def gen():
     return model, "".join(script)
 
 
-def wards_model(lookahead, horizon=375000):
+def wards_model(lookahead, horizon=375000, jobs=65000):
     """64 stations: a tree of routers leads to 40 desks in 8 groups; two of three jobs go round again."""
-    parts = [station("door", "source", [("root", lookahead)], every=(4, 8), jobs=65000),
+    parts = [station("door", "source", [("root", lookahead)], every=(4, 8), jobs=jobs),
              station("root", "router", [(f"mid{i}", lookahead + i, i) for i in range(1, 5)], by="weights")]
     for i in range(1, 5):
         links = [(f"leaf{2 * i - 1}", lookahead), (f"leaf{2 * i}", lookahead + 3)]
@@ -98,6 +98,13 @@ set b at 187500 desk5_1 servers 1
 fork c from a
 set c at 337500 walk7 hold 0 0
 """
+
+
+def big():
+    """25 clones of a shorter `wide` that part early; in each one desk differs. Each window has thousands of messages."""
+    forked = [f"fork c{i} from base\n" for i in range(1, 25)]
+    sets = [f"set c{i} at 3000 desk{1 + i % 8}_{1 + i // 8 % 5} service 10 {20 + i}\n" for i in range(1, 25)]
+    return wards_model(1000, horizon=60000, jobs=9000), "".join(forked + sets)
 
 
 def change(i):
@@ -209,7 +216,7 @@ def chain(stations):
                    station("exit", "sink")), ""
 
 
-NAMED = (clinic, gen, many, many64, equal, early, tree, tree64, wide, wide4, tight, heavy, hub, wait60000)
+NAMED = (clinic, gen, many, many64, equal, early, tree, tree64, wide, wide4, big, tight, heavy, hub, wait60000)
 WORKLOADS = {make.__name__: make for make in NAMED}
 
 
