@@ -118,14 +118,15 @@ module _ (net told : Net) (cs those : List Clone) (name : List ℕ) (k old_steps
         (subst (λ t. IsNotPut t old new e) is_text not)) h
 
   -- where the limit is met in the run of the clone by itself, that run stops for it
-  pub alone_stops : (station who : ℕ) (stop : Stop) → StopsAlone told those k old_steps new_steps station who
+  pub alone_stops : (station who : ℕ) (stop : Stop)
+      → StopsAlone told (clone_at those k) k old_steps new_steps station who
       → stop ≡ limit_stop told station name
       → StoppedFor (MayRunAlone net cs name) old_steps new_steps [] stop
   alone_stops station who stop stops is =
-      let one : StopsAlone net those k old_steps new_steps station who =
-      subst (λ (n : Net). StopsAlone n those k old_steps new_steps station who) same_net stops in
-      let all : StopsAlone net cs k old_steps new_steps station who =
-      subst (λ l. StopsAlone net l k old_steps new_steps station who) same_clones one in
+      let one : StopsAlone net (clone_at those k) k old_steps new_steps station who =
+      subst (λ (n : Net). StopsAlone n (clone_at those k) k old_steps new_steps station who) same_net stops in
+      let all : StopsAlone net (clone_at cs k) k old_steps new_steps station who =
+      subst (λ l. StopsAlone net (clone_at l k) k old_steps new_steps station who) same_clones one in
       let stop_is : limit_stop net station name ≡ stop =
       sym (is ∙ ap (λ (n : Net). limit_stop n station name) same_net) in
       subst (StoppedFor (MayRunAlone net cs name) old_steps new_steps []) stop_is

@@ -22,7 +22,7 @@ use std::alloc::Global;
 use std::sync::Wait;
 use std::sync::ledger::Ledger;
 use std::thread::Threads;
-use study_run::{StudyCrew, StudyFault};
+use study_run::StudyFault;
 use world_core::World;
 
 // The world at the horizon with the text of the journal, or why there is none.
@@ -68,12 +68,10 @@ fn run_and_journal<G: Gate, L: Ledger, R: Threads + Wait + Sync>(
     ensures ran { IfOk result (λ r. IsJournaledRun study.now.model.value study.now.script steps.old steps.new r.0
         r.1.items) }
 {
-    let crew = StudyCrew {
-        workers: Workers {
-            count: request.workers,
-        },
+    let workers = Workers {
+        count: request.workers,
     };
-    let live = live_study(rt, alloc, &crew, gate, &study.model, &study.script, steps)?;
+    let live = live_study(rt, alloc, workers, gate, &study.model, &study.script, steps)?;
     let journal = live_journal_text(alloc, &study.script, &live)?;
     Ok((live, journal))
 }

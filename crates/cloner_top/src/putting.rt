@@ -44,7 +44,7 @@ pub(crate) fn put_trace<O: Sink>(
     ensures err { IfErr result (λ r. IsNotPut (trace_text model.now name.now trace.now ∷ [])
         (O.view out.old) (O.view out.new) r) }
 {
-    match put_alone(model, name, trace, out) {
+    match put_alone(model, name, b"", trace, out) {
         Ok(()) => Ok(()),
         Err(_) => Err(Refusal::CannotWrite),
     }

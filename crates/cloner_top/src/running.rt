@@ -4,6 +4,7 @@ ghost use Rattle.net_model.specs.Net.{HasStation};
 ghost use Rattle.rolling_text.specs.WorldTraces.{AreShort};
 ghost use Rattle.world_core.specs.Worlds.{total_handled};
 ghost use Rattle.study_run.specs.Accepted.{IsAcceptedJournal};
+ghost use Rattle.study_run.specs.Going.{IsStudyRun};
 ghost use Rattle.study_run.specs.Limits.{AreWithin};
 ghost use Rattle.study_run.specs.Reports.{MayReport};
 ghost use Rattle.command_words.specs.Requests.{source_view};
@@ -27,7 +28,7 @@ use std::alloc::Global;
 use std::sync::Wait;
 use std::sync::ledger::Ledger;
 use std::thread::Threads;
-use study_run::{StudyCrew, StudyFault, run_alone, run_study};
+use study_run::{StudyFault, run_alone, run_study, run_study_sequentially};
 use world_core::World;
 
 /// The stop where a log would get longer than the limit: at this station, in the clone of this name.
@@ -40,6 +41,28 @@ pub(crate) fn stop_at(model: &Model, station: u32, clone: Name) -> Stop
         station: model.station(station).name,
         clone,
     }
+}
+
+// Runs all clones in one world, to the horizon: in this thread, or with several workers.
+fn run_clones<G: Gate, L: Ledger, R: Threads + Wait + Sync>(
+    rt: &R,
+    alloc: Global,
+    gate: &G,
+    request: &Request,
+    plan: &Plan,
+    steps: &mut Steps<L>,
+) -> Result<World, StudyFault>
+    requires accepted { IsAcceptedJournal plan.now.book.net plan.now.book.events }
+    ensures ran { IsStudyRun plan.now.model.value (clones_of_book plan.now.book) steps.old steps.new result }
+{
+    let calls = plan.book.calls();
+    if request.workers == 1 {
+        return run_study_sequentially(alloc, &plan.model, calls, steps);
+    }
+    let workers = Workers {
+        count: request.workers,
+    };
+    run_study(rt, alloc, workers, gate, &plan.model, calls, steps)
 }
 
 // Runs all clones in one world, to the horizon.
@@ -63,20 +86,7 @@ fn run_world<G: Gate, L: Ledger, R: Threads + Wait + Sync>(
         steps.old steps.new []) r) }
 {
     let lists = plan.book.lists();
-    let crew = StudyCrew {
-        workers: Workers {
-            count: request.workers,
-        },
-    };
-    match run_study(
-        rt,
-        alloc,
-        &crew,
-        gate,
-        &plan.model,
-        plan.book.calls(),
-        steps,
-    ) {
+    match run_clones(rt, alloc, gate, request, plan, steps) {
         Ok(world) => Ok(world),
         Err(StudyFault::NoMemory) => Err(Refusal::OutOfMemory),
         Err(StudyFault::LimitMet { station, who }) => Err(Refusal::Stopped(stop_at(

@@ -1,5 +1,5 @@
-mod AnswerLists
 mod Slots
-mod DequeRule
 mod Pairs
-mod TaskMoves
+mod DequeRule
+mod PlaceLaws
+mod Taken

@@ -1,28 +1,9 @@
 -- Lists of things beside their numbers.
-use Rattle.std.proofs.Common.{
-  ◌≡◌,
-  ℕ,
-  zero,
-  suc,
-  ◌+◌,
-  ◌<◌,
-  List,
-  [],
-  ◌∷◌,
-  ◌++◌,
-  length,
-  sym,
-  refl,
-  ap,
-  ◌∙◌,
-  subst,
-  arith,
-  get_or,
-  remove,
-}
-use Rattle.std.proofs.lemmas.List.{map-append}
+use Rattle.std.proofs.Common.{◌≡◌, ℕ, ◌+◌, List, [], ◌∷◌, ◌++◌, length, sym, ap, ◌∙◌, subst, arith, get_or, length-append}
+use Rattle.std.proofs.lemmas.List.{map-append, get_or_append_left, get_or-append-add, length_push}
 use Rattle.crew_pool.specs.declared.task_deque.SeatView.{SeatView}
-use Rattle.crew_pool.specs.Deque.{seat_view, occurrences, one_if_same, numbers, EachPair, Without}
+use Rattle.crew_pool.specs.Deque.{seat_view, occurrences, one_if_same, numbers, EachPair, IsItemAt, TakesTasks}
+use Rattle.crew_pool.specs.Tasks.{EachAt, AnswersTo}
 
 -- ---- numbers
 
@@ -34,29 +15,9 @@ numbers-push {X} ps p = map-append (λ (q : ℕ × X). q.0) ps (p ∷ [])
 pub numbers-append : {X : Type 0} (ps qs : List (ℕ × X)) → numbers (ps ++ qs) ≡ numbers ps ++ numbers qs
 numbers-append {X} ps qs = map-append (λ (p : ℕ × X). p.0) ps qs
 
--- a number that stands at no place stands nowhere
-pub numbers-nowhere : {X : Type 0} (i : ℕ) (ps : List (ℕ × X))
-    → ((k : ℕ) (d : ℕ × X) → k < length ps → ¬ ((get_or ps k d).0 ≡ i)) → occurrences i (numbers ps) ≡ 0
-numbers-nowhere i [] none = refl
-numbers-nowhere i (p ∷ ps) none =
-    let first : ¬ (p.0 ≡ i) = none 0 p (omega arith) in
-    let not_here : one_if_same i p.0 ≡ 0 = grind (arith, first) in
-    omega (arith, not_here, numbers-nowhere i ps (λ k d less. none (suc k) d (omega (arith, less))))
-
--- the view after a thief's seat and its answers were taken back
-pub numbers-merged : {X : Type 0} (v u : SeatView) (dealt : ℕ) (ps qs rs : List (ℕ × X))
-    → u ≡ seat_view 1 dealt (numbers qs) → v.taken ≡ numbers ps → rs ≡ ps ++ qs
-    → seat_view (v.parts + u.parts) v.dealt (v.taken ++ u.taken) ≡ seat_view (v.parts + 1) v.dealt (numbers rs)
-numbers-merged v u dealt ps qs rs e own more =
-    let p : u.parts ≡ 1 = ap (λ (h : SeatView). h.parts) e in
-    let t : u.taken ≡ numbers qs = ap (λ (h : SeatView). h.taken) e in
-    let n : numbers rs ≡ numbers ps ++ numbers qs = ap numbers more ∙ numbers-append ps qs in
-    let l : v.taken ++ u.taken ≡ numbers rs = (ap (λ l. l ++ u.taken) own ∙ ap (λ l. numbers ps ++ l) t) ∙ sym n in
-    ap (λ k. seat_view (v.parts + k) v.dealt (v.taken ++ u.taken)) p ∙ ap (λ l. seat_view (v.parts + 1) v.dealt l) l
-
 -- ---- EachPair
 
--- where each pair is as asked, and one more is, so is each of the pairs with that one at the end
+-- with one more pair at the end, each pair is as its number asks
 pub EachPair-push : {X : Type 0} (asks : ℕ → X → Type 0) (ps : List (ℕ × X)) (p : ℕ × X)
     → asks p.0 p.1 → EachPair asks ps → EachPair asks (ps ++ p ∷ [])
 EachPair-push asks [] p one all = (one, tt)
@@ -68,17 +29,60 @@ pub EachPair-append : {X : Type 0} (asks : ℕ → X → Type 0) (ps qs : List (
 EachPair-append asks [] qs all more = more
 EachPair-append asks (p ∷ ps) qs all more = (all.0, EachPair-append asks ps qs all.1 more)
 
--- ---- Without
+-- what asks less is also as asked
+pub EachPair-weaken : {X : Type 0} (asks needs : ℕ → X → Type 0) (ps : List (ℕ × X))
+    → ((i : ℕ) (x : X) → asks i x → needs i x) → EachPair asks ps → EachPair needs ps
+EachPair-weaken asks needs [] less all = tt
+EachPair-weaken asks needs (p ∷ ps) less all = (less p.0 p.1 all.0, EachPair-weaken asks needs ps less all.1)
 
--- the list without the pair at a place
-pub Without-remove : {X : Type 0} (asks : ℕ → X → Type 0) (ps : List (ℕ × X)) (k : ℕ) (p : ℕ × X)
-    → k < length ps → p ≡ get_or ps k p → Without asks ps p.0 p.1 (remove ps k)
-Without-remove asks [] k p less e = absurd (omega (arith, less))
-Without-remove asks (q ∷ qs) zero p less e =
-    let f : q.0 ≡ p.0 = sym (ap (λ z. z.0) e) in (
-      (λ y. ap (λ z. one_if_same y z + occurrences y (numbers qs)) (sym f)),
-      λ all. (subst (λ z. asks z.0 z.1) (sym e) all.0, all.1),
+-- where no number stands in the list there is no pair
+pub EachPair-none : {X : Type 0} (asks : ℕ → X → Type 0) (ps : List (ℕ × X))
+    → ((x : ℕ) → occurrences x (numbers ps) ≡ 0) → EachPair asks ps
+EachPair-none asks [] none = tt
+EachPair-none asks (p ∷ ps) none = absurd (omega (arith, none p.0, same p.0))
+  where
+    same : (x : ℕ) → one_if_same x x ≡ 1
+    same x = grind arith
+
+-- ---- IsItemAt
+
+-- an item keeps its place where more stand behind it
+pub IsItemAt-more : {X : Type 0} (items more : List X) (i : ℕ) (x : X) → IsItemAt items i x → IsItemAt (items ++ more) i x
+IsItemAt-more items more i x is =
+    (omega (arith, is.0, length-append items more), λ d. get_or_append_left items more d i is.0 ∙ is.1 d)
+
+-- the last one stands behind the others
+pub IsItemAt-last : {X : Type 0} (items : List X) (x : X) → IsItemAt (items ++ x ∷ []) (length items) x
+IsItemAt-last items x =
+    let here : length items + 0 ≡ length items = omega arith in (
+      omega (arith, length_push items x),
+      λ d. subst (λ (n : ℕ). get_or (items ++ x ∷ []) n d ≡ x) here (get_or-append-add items (x ∷ []) 0 d),
     )
-Without-remove asks (q ∷ qs) (suc k) p less e =
-    let r = Without-remove asks qs k p (omega (arith, less)) e in
-    ((λ y. omega (arith, r.0 y)), λ all. let s = r.1 all.1 in (s.0, (all.0, s.1)))
+
+-- an item may be given to the task of its place
+pub IsItemAt-ready : {X : Type 0} (ready : ℕ → X → Type 0) (items : List X) (i : ℕ) (x : X)
+    → EachAt ready items → IsItemAt items i x → ready i x
+IsItemAt-ready ready items i x each is = subst (λ y. ready i y) (is.1 x) (each i x is.0)
+
+-- an answer to an item is an answer at its place
+pub IsItemAt-answers : {X Y : Type 0} (answers : ℕ → X → Y → Type 0) (items : List X) (i : ℕ) (x : X) (y : Y)
+    → IsItemAt items i x → answers i x y → AnswersTo answers items i y
+IsItemAt-answers answers items i x y is one d = subst (λ z. answers i z y) (sym (is.1 d)) one
+
+-- ---- TakesTasks
+
+-- what a seat whose view is known takes: one task with the item of its number, which joins those that it has taken
+pub TakesTasks-one : {X : Type 0} (v u w : SeatView X) (p : ℕ × X) → v ≡ u → TakesTasks v (p ∷ []) w
+    → IsItemAt u.dealt p.0 p.1 × (w ≡ seat_view u.parts u.dealt (u.taken ++ p.0 ∷ []))
+TakesTasks-one v u w p e t = let s = subst (λ (y : SeatView _). TakesTasks y (p ∷ []) w) e t in (s.0.0, s.1)
+
+-- the view after a thief's seat was taken back
+pub seat_view-merged : {X Y : Type 0} (parts : ℕ) (items : List X) (v u w : SeatView X) (ps qs rs : List (ℕ × Y))
+    → v ≡ seat_view parts items (numbers ps) → u ≡ seat_view 1 items (numbers qs) → rs ≡ ps ++ qs
+    → w ≡ seat_view (v.parts + u.parts) v.dealt (v.taken ++ u.taken)
+    → w ≡ seat_view (parts + 1) items (numbers rs)
+seat_view-merged {X} parts items v u w ps qs rs e f more is =
+    is
+    ∙ (ap (λ (y : SeatView X). seat_view (y.parts + u.parts) y.dealt (y.taken ++ u.taken)) e
+    ∙ (ap (λ (y : SeatView X). seat_view (parts + y.parts) items (numbers ps ++ y.taken)) f
+    ∙ ap (λ l. seat_view (parts + 1) items l) (sym (numbers-append ps qs) ∙ ap numbers (sym more))))

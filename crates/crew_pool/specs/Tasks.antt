@@ -1,4 +1,4 @@
--- What a crew is given, and what it answers.
+-- What a crew is given, and what it returns.
 use Rattle.std.specs.Prelude.{◌≡◌, ℕ, ◌+◌, ◌<◌, ◌≤◌, List, length, slice_index_or, sum_by}
 use Rattle.crew_pool.specs.declared.crew.TheConstants.{MOST_TASKS}
 
@@ -6,7 +6,7 @@ use Rattle.crew_pool.specs.declared.crew.TheConstants.{MOST_TASKS}
 abbrev pub EachAt : {X : Type 0} → (ℕ → X → Type 0) → List X → Type 0
 EachAt {X} asks xs = (i : ℕ) (d : X) → i < length xs → asks i (slice_index_or xs i d)
 
--- an answer of a task to the item that stood at its place
+-- an answer of a task to the item at its place
 abbrev pub AnswersTo : {X Y : Type 0} → (ℕ → X → Y → Type 0) → List X → ℕ → Y → Type 0
 AnswersTo {X} answers items i out = (d : X) → answers i (slice_index_or items i d) out
 
@@ -15,7 +15,7 @@ pub record MayRunAll {X : Type 0} (takes : ℕ → X → Type 0) (items : List X
   pub few : length items ≤ MOST_TASKS
   pub ready : EachAt takes items
 
--- all tasks have run on these items: an answer for each, at its place, and the counter is on by what the answers cost
+-- all tasks have run on these items: an answer for each, at its place, and the counter has grown by what the answers cost
 pub record HaveRunAll {X Y : Type 0} (gives : ℕ → X → Y → Type 0) (cost_of : Y → ℕ) (items : List X) (before after : ℕ)
     (outs : List Y) : Type 0 where
   pub count : length outs ≡ length items

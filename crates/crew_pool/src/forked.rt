@@ -1,10 +1,10 @@
-//! The crew whose workers each run neighbouring tasks (fork-join).
+//! A crew for one call: each worker runs neighbouring tasks (fork-join).
 ghost use Rattle.std.specs.Prelude.{◌≡◌, ◌<◌, ◌≤◌, Some, map, length, IfOk, IfSome};
 ghost use Rattle.crew_pool.specs.Tasks.{MayRunAll, HaveRunAll};
 ghost use Rattle.crew_pool.specs.Slots.{slot_with, answer_in, EachSlotReady, SlotAnswers, EachSlotAnswers};
 ghost use Rattle.crew_pool.specs.declared.crew.TheConstants.{MOST_TASKS};
 
-use crate::crew::{Crew, Kind};
+use crate::crew::MOST_TASKS;
 use crate::gate::Gate;
 use crate::lists::add;
 use crate::own_counter::{run_with_own_counter, tick_costs};
@@ -18,17 +18,12 @@ use std::sync::ledger::{Blank, Ledger};
 use std::thread;
 use std::thread::Threads;
 
-/// Several workers, each with a run of neighbouring tasks of about the same length.
+/// Several workers, each with a run of neighbouring tasks of about the same length. A library call: `cloner` does not
+/// use it.
 #[derive(Clone, Copy, Debug)]
 pub struct Forked {
-    /// How many there are.
+    /// The number of workers.
     pub workers: Workers,
-}
-
-impl Crew for Forked {
-    fn kind(&self) -> Kind {
-        Kind::Forked(self.workers)
-    }
 }
 
 /// Holds a task's item until a worker takes it, and then the answer. A worker that is out of memory leaves it empty.
@@ -121,23 +116,37 @@ fn run_slots<W: Work, G: Gate, R: Threads + Wait + Sync>(
     );
 }
 
-/// Runs the tasks, each worker a run of neighbouring ones, each task on a counter of its own.
-pub(crate) fn run_forked<W: Work, G: Gate, L: Ledger, R: Threads + Wait + Sync>(
-    rt: &R,
-    alloc: Global,
-    work: &W,
-    items: Vec<W::In>,
-    gate: &G,
-    workers: Workers,
-    steps: &mut Steps<L>,
-) -> Result<Vec<W::Out>, NoMemory>
-    requires may_run { MayRunAll (W.ready work.now) items.items }
-    ensures have_run { IfOk result (λ outs. HaveRunAll (W.answers work.now) W.cost items.items steps.old steps.new
-        outs.items) }
-{
-    let mut slots: Vec<Slot<W::In, W::Out>> = fill_slots(alloc, items)?;
-    run_slots(rt, alloc, work, gate, workers, slots.as_mut_slice());
-    let outs = take_answers(alloc, slots)?;
-    tick_costs(work, outs.as_slice(), steps);
-    Ok(outs)
+impl Forked {
+    /// Runs one task for each item, each worker a run of neighbouring tasks, each task once and after the gate's
+    /// `before`. Each answer is returned at its item's place, and the steps grow by what the answers cost. Small work
+    /// runs in the caller's thread.
+    ///
+    /// # Errors
+    ///
+    /// [`NoMemory`], after every worker has ended: the items are lost, and nothing is said about the steps.
+    pub fn all<W: Work, G: Gate, L: Ledger, R: Threads + Wait + Sync>(
+        &self,
+        rt: &R,
+        alloc: Global,
+        work: &W,
+        items: Vec<W::In>,
+        gate: &G,
+        steps: &mut Steps<L>,
+    ) -> Result<Vec<W::Out>, NoMemory>
+        requires may_run { MayRunAll (W.ready work.now) items.items }
+        // an answer for each item, at the item's place, and the steps that the answers took are counted
+        ensures have_run { IfOk result (λ outs. HaveRunAll (W.answers work.now) W.cost items.items steps.old steps.new
+            outs.items) }
+    {
+        let workers = if work.is_small() {
+            Workers { count: 1 }
+        } else {
+            self.workers
+        };
+        let mut slots: Vec<Slot<W::In, W::Out>> = fill_slots(alloc, items)?;
+        run_slots(rt, alloc, work, gate, workers, slots.as_mut_slice());
+        let outs = take_answers(alloc, slots)?;
+        tick_costs(work, outs.as_slice(), steps);
+        Ok(outs)
+    }
 }

@@ -1,5 +1,5 @@
-//! Steps of tasks that run in several threads: one counter can't be lent to them all, so each task counts on a counter
-//! of its own, and the caller's is ticked by what the answers cost.
+//! Steps of tasks that run in several threads. One counter cannot be lent to all of them, so each task has a counter of
+//! its own, and the caller's counter is ticked by what the answers cost.
 ghost use Rattle.std.specs.Prelude.{◌≡◌, ◌+◌, ◌<◌, sum_by, IfOk};
 
 use crate::work::Work;
@@ -34,7 +34,7 @@ pub fn tick_costs<W: Work, L: Ledger>(work: &W, outs: &[W::Out], steps: &mut Ste
     }
 }
 
-/// Ticks the counter so many times.
+/// Ticks the counter `many` times.
 fn tick_many<L: Ledger>(many: u64, steps: &mut Steps<L>)
     ensures value { steps.new ≡ steps.old + many }
 {

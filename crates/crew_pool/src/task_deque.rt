@@ -1,65 +1,56 @@
-//! The deque of the stealing crew: it holds each task that waits, its number beside its item. What is proved of it is
-//! one rule that every push, pop and steal keeps: a task that was dealt is in the deque, or one seat has taken it.
-ghost use Rattle.std.specs.Prelude.{◌≡◌, ◌≤◌, [], List, OnOk, length};
-ghost use Rattle.crossbeam_deque.specs.Handles.{worker_view};
-ghost use Rattle.crew_pool.specs.Deque.{SameDeque, seat_view};
+//! The deque of a crew, and the rule that every push, pop and steal keeps: each task of the call is in the deque, or
+//! exactly one seat has taken it.
+//!
+//! A task is a number and an item. Whoever works at the deque has a seat, and the seat's view says what it knows. The
+//! owner begins with all parts of the deque. It cuts one part off for each thief and joins it again afterwards, so an
+//! owner with all parts knows that no thief is left. Between two calls, when all tasks were taken, the owner forgets
+//! them, and numbers begin at 0 again.
+ghost use Rattle.std.specs.Prelude.{◌≡◌, ◌≤◌, [], OnOk, IfOk, length};
+ghost use Rattle.crossbeam_deque.specs.Handles.{worker_view, worker_flavor};
+ghost use Rattle.crew_pool.specs.Deque.{SameDeque, seat_view, IsComplete};
 ghost use Rattle.crew_pool.specs.declared.crew.TheConstants.{MOST_TASKS};
 ghost use Rattle.crew_pool.specs.declared.task_deque.TheConstants.{ALL_PARTS};
 
+use crate::crew::MOST_TASKS;
 use crossbeam_deque::protocol::{Join, Outcome, Protocol, Split};
 use crossbeam_deque::{Pass, Stealer, Worker};
 use sim_base::NoMemory;
 use std::alloc::Global;
 use std::collections::LinkedList;
-use std::marker::{Brand, PhantomData};
 
-/// The parts of a deque, with all of which the owner begins.
+/// The number of parts of a deque. The owner begins with all of them.
 pub const ALL_PARTS: u64 = 1_024;
 
-/// What a worker's seat knows: its parts of the deque, how many tasks were dealt, and the numbers of those that it has
-/// taken. Only clauses speak of it; no value is made.
-pub struct SeatView {
-    /// Its parts of the deque.
+/// What a seat knows: its parts of the deque, the items of this call's tasks in order, and the numbers of the tasks
+/// that it has taken. Only clauses use it; the program never makes a value.
+pub struct SeatView<X> {
+    /// The number of its parts.
     pub parts: u64,
-    /// How many tasks were dealt.
-    pub dealt: u64,
-    /// The numbers of the tasks that it has taken, with those of the seats that it took back.
+    /// The items of the tasks that were dealt.
+    pub dealt: LinkedList<X>,
+    /// The numbers of the tasks that it has taken, and of those that seats joined to it have taken.
     pub taken: LinkedList<u32>,
 }
 
-/// The items of a call, in order. A rule is a property of a type, so a type parameter has a call's items. No
-/// program reads them.
-pub trait Batch<X>: Sync {
-    ghost items: { List X };
-}
+/// The rule: each task that was dealt is in the deque together with its item, or exactly one seat has taken it.
+pub struct EachOnce;
 
-impl<X> Batch<X> for Brand {
-    ghost use Rattle.std.specs.Prelude.{[]};
-
-    ghost items = { [] };
-}
-
-/// The rule: each task of the batch that was dealt is in the deque beside its item, or one seat has taken it.
-pub struct EachOnce<B> {
-    marker: PhantomData<B>,
-}
-
-impl<X, B: Batch<X>> Protocol<(u32, X), SeatView> for EachOnce<B> {
+impl<X> Protocol<(u32, X), SeatView<X>> for EachOnce {
     ghost use Rattle.std.specs.Prelude.{[]};
     ghost use Rattle.crew_pool.specs.Deque.{seat_view, TasksOnce};
     ghost use Rattle.crew_pool.specs.declared.task_deque.TheConstants.{ALL_PARTS};
 
-    ghost holds = { TasksOnce B.items };
+    ghost holds = { TasksOnce };
 
-    ghost first = { seat_view ALL_PARTS 0 [] };
+    ghost first = { seat_view ALL_PARTS [] [] };
 
-    ghost guest = { seat_view 0 0 [] };
+    ghost guest = { seat_view 0 [] [] };
 }
 
-/// One part is cut off for a thief, and comes back with what the thief has taken.
+/// Cuts one part off for a thief, and joins it again with what the thief has taken.
 pub struct OnePart;
 
-impl Split<SeatView> for OnePart {
+impl<X> Split<SeatView<X>> for OnePart {
     ghost use Rattle.std.specs.Prelude.{[], ◌-◌};
     ghost use Rattle.crew_pool.specs.Deque.{seat_view};
 
@@ -68,68 +59,93 @@ impl Split<SeatView> for OnePart {
     ghost right = { λ v. seat_view 1 v.dealt [] };
 }
 
-impl Join<SeatView> for OnePart {
+impl<X> Join<SeatView<X>> for OnePart {
     ghost use Rattle.std.specs.Prelude.{[], ◌+◌, ◌++◌};
     ghost use Rattle.crew_pool.specs.Deque.{seat_view};
 
     ghost both = { λ v w. seat_view (v.parts + w.parts) v.dealt (v.taken ++ w.taken) };
 
-    ghost spent = { seat_view 0 0 [] };
+    ghost spent = { seat_view 0 [] [] };
+}
+
+/// Forgets the tasks of a call, all of which were taken. The seat that is cut off has no part.
+pub struct ForgetTasks;
+
+impl<X> Split<SeatView<X>> for ForgetTasks {
+    ghost use Rattle.std.specs.Prelude.{[]};
+    ghost use Rattle.crew_pool.specs.Deque.{seat_view};
+
+    ghost left = { λ v. seat_view v.parts [] [] };
+
+    ghost right = { λ _. seat_view 0 [] [] };
 }
 
 /// A push deals the next task.
 pub struct DealTask;
 
-impl<X> Outcome<(u32, X), SeatView> for DealTask {
-    ghost use Rattle.std.specs.Prelude.{◌≡◌, ◌+◌};
-    ghost use Rattle.crew_pool.specs.Deque.{seat_view};
+impl<X> Outcome<(u32, X), SeatView<X>> for DealTask {
+    ghost use Rattle.crew_pool.specs.Deque.{DealsTask};
 
-    ghost then = { λ v xs w. w ≡ seat_view v.parts (v.dealt + 1) v.taken };
+    ghost then = { DealsTask };
 }
 
-/// A pop of the owner takes a task, or finds that all are taken.
-pub struct PopTask<B> {
-    marker: PhantomData<B>,
-}
+/// A pop takes a task. If it finds none and the owner has every part, all tasks were taken.
+pub struct PopTask;
 
-impl<X, B: Batch<X>> Outcome<(u32, X), SeatView> for PopTask<B> {
+impl<X> Outcome<(u32, X), SeatView<X>> for PopTask {
     ghost use Rattle.crew_pool.specs.Deque.{TakesTasks, IsComplete};
 
-    ghost then = { TakesTasks B.items };
+    ghost then = { TakesTasks };
 
     ghost empty = { IsComplete };
 }
 
 /// A steal takes a task.
-pub struct StealTask<B> {
-    marker: PhantomData<B>,
-}
+pub struct StealTask;
 
-impl<X, B: Batch<X>> Outcome<(u32, X), SeatView> for StealTask<B> {
+impl<X> Outcome<(u32, X), SeatView<X>> for StealTask {
     ghost use Rattle.crew_pool.specs.Deque.{TakesTasks};
 
-    ghost then = { TakesTasks B.items };
+    ghost then = { TakesTasks };
 }
 
-/// The owner's handle of the deque. It deals at the tail and pops at the head, since it is made with `fifo_as`.
-pub type Owner<X, B> = Worker<(u32, X), Global, SeatView, EachOnce<B>>;
+/// The owner's handle on the deque. It deals at the tail and pops at the head, since it is made by `fifo_as`.
+pub type Owner<X> = Worker<(u32, X), Global, SeatView<X>, EachOnce>;
 
-/// The handle of the deque that all thieves share. They steal at the head.
-pub type Thief<X, B> = Stealer<(u32, X), Global, SeatView, EachOnce<B>>;
+/// A thief's handle on the deque. It steals at the head.
+pub type Thief<X> = Stealer<(u32, X), Global, SeatView<X>, EachOnce>;
 
-/// The seat of a thief.
-pub type Seat<X> = Pass<(u32, X), SeatView>;
+/// A seat at the deque, which a thief has.
+pub type Seat<X> = Pass<(u32, X), SeatView<X>>;
 
-/// Deals the items, each with its number.
-pub(crate) fn deal<X: Send + Drop, B: Batch<X>>(
-    owner: &mut Owner<X, B>,
-    items: Vec<X>,
-) -> Result<(), NoMemory>
-    requires batch { B.items ≡ items.items }
-    requires few { length items.items ≤ MOST_TASKS }
-    requires fresh { worker_view owner.old ≡ seat_view ALL_PARTS 0 [] }
+/// An empty deque.
+pub(crate) fn open_deque<X: Send + Drop>(alloc: Global) -> Result<Owner<X>, NoMemory>
+    ensures fifo { IfOk result (λ owner. worker_flavor owner ≡ 0) }
+    ensures fresh { IfOk result (λ owner. worker_view owner ≡ seat_view ALL_PARTS [] []) }
+{
+    match Owner::<X>::fifo_as(alloc, MOST_TASKS) {
+        Ok(owner) => Ok(owner),
+        Err(_) => Err(NoMemory),
+    }
+}
+
+/// Forgets the tasks of the call before.
+pub(crate) fn forget<X: Send + Drop>(owner: &mut Owner<X>)
+    requires every { (worker_view owner.old).parts ≡ ALL_PARTS }
+    requires complete { IsComplete (worker_view owner.old) }
     ensures same { SameDeque owner.old owner.new }
-    ensures dealt { OnOk result (worker_view owner.new ≡ seat_view ALL_PARTS (length items.items) []) }
+    ensures fresh { worker_view owner.new ≡ seat_view ALL_PARTS [] [] }
+{
+    let none = owner.another::<ForgetTasks>();
+    drop(none);
+}
+
+/// Deals a task for each item. Tasks are numbered from 0.
+pub(crate) fn deal<X: Send + Drop>(owner: &mut Owner<X>, items: Vec<X>) -> Result<(), NoMemory>
+    requires few { length items.items ≤ MOST_TASKS }
+    requires fresh { worker_view owner.old ≡ seat_view ALL_PARTS [] [] }
+    ensures same { SameDeque owner.old owner.new }
+    ensures dealt { OnOk result (worker_view owner.new ≡ seat_view ALL_PARTS items.items []) }
 {
     let mut i: u32 = 0;
     for item in items {

@@ -15,7 +15,7 @@ pub struct Workers {
 }
 
 impl Workers {
-    /// So many workers, if a crew may have so many.
+    /// This number of workers, if a crew may have that many.
     pub fn new(count: u32) -> Option<Workers>
         ensures value { MatchOption result (¬ ((1 ≤ count) × (count ≤ MOST_WORKERS))) (λ w. w.count ≡ count) }
     {

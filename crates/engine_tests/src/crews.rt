@@ -1,36 +1,56 @@
-//! Crews: calls that find memory, which worker runs what, and when the gate is called.
-ghost use Rattle.std.specs.Prelude.{◌≡◌, ◌<◌, ◌≤◌, length, IfOk};
+//! The crew: calls that find memory, tasks that members steal, and calls that end when nobody helps.
+ghost use Rattle.std.specs.Prelude.{◌≡◌, ◌+◌, ◌<◌, ◌≤◌, length, IfOk};
 ghost use Rattle.crew_pool.specs.declared.crew.TheConstants.{MOST_TASKS};
 
-use crew_pool::{Crew, Forked, Gate, NoGate, Serial, Stealing, Work, Workers};
+use crew_pool::{Bell, Crew, Forked, Gate, Member, Work, Workers, serve_all};
 use sim_base::{NoMemory, Steps};
 use std::alloc::Global;
 use std::marker::Brand;
-use std::sync::Wait;
 use std::sync::atomic::{AtomicU64, Ordering};
 use std::sync::ledger::{Blank, Ledger};
+use std::sync::{Arc, Wait};
 use std::thread;
 use std::thread::Threads;
 
-/// Each task puts its number behind its item, in place, but that one task is out of memory.
-#[derive(Drop)]
-pub(crate) struct Appends {
-    /// The task that is out of memory, if there is one.
-    pub refused: Option<u32>,
-    /// Whether the work says that it is small.
-    pub small: bool,
+/// How often a thread looks whether another one has come so far, before it gives up.
+const TURNS: u32 = 1_000_000;
+
+/// Waits until a count is at least `least`. `false`: it gave up.
+fn comes(count: &AtomicU64, least: u64) -> bool {
+    for _ in 0..TURNS {
+        if count.load(Ordering::SeqCst) >= least {
+            return true;
+        }
+        thread::yield_now();
+    }
+    false
 }
 
-impl Work for Appends {
-    ghost use Rattle.std.specs.Prelude.{◌≡◌, ◌++◌, ◌∷◌, [], ⊤};
+/// Gives the others time to end what they do.
+fn pause() -> bool {
+    for _ in 0..1_000u32 {
+        thread::yield_now();
+    }
+    true
+}
 
-    type In = Vec<u64>;
+/// Each task multiplies its item by its number, in one step.
+#[derive(Drop)]
+struct Products {
+    /// The task that is out of memory, if there is one.
+    refused: Option<u32>,
+}
 
-    type Out = Vec<u64>;
+impl Work for Products {
+    ghost use Rattle.std.specs.Prelude.{◌≡◌, ⊤};
+
+    type In = u64;
+
+    type Out = u64;
 
     ghost ready = { λ s i x. ⊤ };
 
-    ghost answers = { λ s i x out. out.items ≡ x.items ++ i ∷ [] };
+    ghost answers = { λ s i x out. ⊤ };
 
     ghost cost = { λ out. 1 };
 
@@ -38,274 +58,375 @@ impl Work for Appends {
         &self,
         _alloc: Global,
         i: u32,
-        mut item: Vec<u64>,
+        item: u64,
         steps: &mut Steps<L>,
-    ) -> Result<Vec<u64>, NoMemory> {
+    ) -> Result<u64, NoMemory> {
         if self.refused == Some(i) {
             return Err(NoMemory);
         }
-        item.push(u64::from(i))?;
         steps.tick();
-        Ok(item)
+        Ok(item.wrapping_mul(u64::from(i)))
     }
 
-    fn spent(&self, _out: &Vec<u64>) -> u64 {
+    fn spent(&self, _out: &u64) -> u64 {
         1
     }
 
     fn is_small(&self) -> bool {
-        self.small
+        false
     }
 }
 
-/// So many items, each a list of one number.
-pub(crate) fn items(alloc: Global, tasks: u32) -> Result<Vec<Vec<u64>>, NoMemory>
+/// Which tasks a gate holds.
+#[derive(Clone, Copy)]
+pub(crate) enum Held {
+    /// None.
+    Nothing,
+    /// The task of this number, until five tasks have begun.
+    Task(u32),
+    /// The caller's tasks, except the first ones of all workers together, until a member has begun a task.
+    Caller { except: u64 },
+    /// The caller's tasks, until a member has begun one, and the member's, until five tasks have begun.
+    Both,
+}
+
+/// A gate that counts the tasks, and notes which workers began one and whether a held task gave up.
+#[derive(Drop)]
+pub(crate) struct Notes {
+    held: Held,
+    shares_small_work: bool,
+    begun: AtomicU64,
+    // a bit for each worker
+    workers: AtomicU64,
+    missed: AtomicU64,
+}
+
+impl Notes {
+    pub(crate) fn new(held: Held, shares_small_work: bool) -> Notes {
+        Notes {
+            held,
+            shares_small_work,
+            begun: AtomicU64::new(0),
+            workers: AtomicU64::new(0),
+            missed: AtomicU64::new(0),
+        }
+    }
+
+    /// How many tasks have begun.
+    pub(crate) fn begun(&self) -> u64 {
+        self.begun.load(Ordering::SeqCst)
+    }
+
+    /// Whether these workers have begun a task, and no held task gave up.
+    pub(crate) fn have_begun(&self, workers: u64) -> bool {
+        self.workers.load(Ordering::SeqCst) == workers && self.missed.load(Ordering::SeqCst) == 0
+    }
+}
+
+impl Gate for Notes {
+    fn before<R: Wait>(&self, _rt: &R, worker: u32, task: u32) {
+        self.workers.fetch_or(1 << (worker % 64), Ordering::SeqCst);
+        let before = self.begun.fetch_add(1, Ordering::SeqCst);
+        let came = match self.held {
+            Held::Nothing => true,
+            Held::Task(held) => task != held || comes(&self.begun, 5),
+            Held::Caller { except } => worker != 0 || before < except || comes(&self.workers, 0b11),
+            Held::Both if worker == 0 => comes(&self.workers, 0b11),
+            Held::Both => comes(&self.begun, 5) && pause(),
+        };
+        if !came {
+            self.missed.store(1, Ordering::SeqCst);
+        }
+    }
+
+    fn before_call<R: Wait>(&self, _rt: &R, _analyst: u32, _k: u32) {}
+
+    fn shares_small_work(&self) -> bool {
+        self.shares_small_work
+    }
+}
+
+/// The items 0, 1, 2 and so on.
+fn items(alloc: Global, tasks: u32) -> Result<Vec<u64>, NoMemory>
     ensures count { IfOk result (λ items. length items.items ≡ tasks) }
 {
     let mut items = Vec::new(alloc);
     for i in 0..tasks {
-        let mut one = Vec::new(alloc);
-        one.push(10 * u64::from(i))?;
-        items.push(one)?;
+        items.push(u64::from(i))?;
     }
     Ok(items)
 }
 
-/// Runs the tasks of these items on the counter that the blank makes.
-fn run_counted<C: Crew, G: Gate, L: Ledger, R: Threads + Wait + Sync>(
+/// A call of the crew. Each task takes one step.
+fn call<L: Ledger, R: Wait>(
     rt: &R,
     alloc: Global,
-    crew: &C,
-    gate: &G,
-    work: &Appends,
-    items: Vec<Vec<u64>>,
+    crew: &mut Crew<'_, Products, Notes>,
+    refused: Option<u32>,
+    tasks: u32,
+    steps: &mut Steps<L>,
+) -> Result<Vec<u64>, NoMemory>
+    requires few { tasks ≤ MOST_TASKS }
+    ensures steps { IfOk result (λ _. steps.new ≡ steps.old + tasks) }
+{
+    let items = items(alloc, tasks)?;
+    let work = Arc::new(alloc, Products { refused })?;
+    crew.all(rt, alloc, work, items, steps)
+}
+
+/// The same call by the workers of one call.
+fn call_forked<L: Ledger, R: Threads + Wait + Sync>(
+    rt: &R,
+    alloc: Global,
+    workers: Workers,
+    gate: &Notes,
+    refused: Option<u32>,
+    tasks: u32,
+    steps: &mut Steps<L>,
+) -> Result<Vec<u64>, NoMemory>
+    requires few { tasks ≤ MOST_TASKS }
+    ensures steps { IfOk result (λ _. steps.new ≡ steps.old + tasks) }
+{
+    let items = items(alloc, tasks)?;
+    Forked { workers }.all(rt, alloc, &Products { refused }, items, gate, steps)
+}
+
+/// Whether these are the first square numbers.
+fn are_squares(outs: &[u64], tasks: u32) -> bool {
+    for i in 0..outs.len() {
+        let root = i as u64;
+        if outs[i] != root.wrapping_mul(root) {
+            return false;
+        }
+    }
+    outs.len() == tasks as usize
+}
+
+/// Whether this many tasks have their answers, by the crew and by the workers of one call.
+fn have_answers<L: Ledger, R: Threads + Wait + Sync>(
+    rt: &R,
+    alloc: Global,
+    crew: &mut Crew<'_, Products, Notes>,
+    workers: Workers,
+    tasks: u32,
+    steps: &mut Steps<L>,
+) -> bool
+    requires few { tasks ≤ MOST_TASKS }
+{
+    let gate = crew.gate();
+    let Ok(outs) = call(rt, alloc, crew, None, tasks, steps) else {
+        return false;
+    };
+    let Ok(forked) = call_forked(rt, alloc, workers, gate, None, tasks, steps) else {
+        return false;
+    };
+    are_squares(outs.as_slice(), tasks) && are_squares(forked.as_slice(), tasks)
+}
+
+/// Whether no task, one, five and 64 have their answers, one call after the other, and each task began once.
+fn all_sizes<L: Ledger, R: Threads + Wait + Sync>(
+    rt: &R,
+    alloc: Global,
+    crew: &mut Crew<'_, Products, Notes>,
+    workers: Workers,
+    steps: &mut Steps<L>,
+) -> bool {
+    have_answers(rt, alloc, crew, workers, 0, steps)
+        && have_answers(rt, alloc, crew, workers, 1, steps)
+        && have_answers(rt, alloc, crew, workers, 5, steps)
+        && have_answers(rt, alloc, crew, workers, 64, steps)
+        && crew.gate().begun() == 140
+}
+
+/// Whether five tasks, the third of which is out of memory, have no answers, and the crew runs nothing after them.
+fn is_refused<L: Ledger, R: Threads + Wait + Sync>(
+    rt: &R,
+    alloc: Global,
+    crew: &mut Crew<'_, Products, Notes>,
+    workers: Workers,
+    steps: &mut Steps<L>,
+) -> bool {
+    let gate = crew.gate();
+    call_forked(rt, alloc, workers, gate, Some(2), 5, steps).is_err()
+        && call(rt, alloc, crew, Some(2), 5, steps).is_err()
+        && crew.is_single()
+        && call(rt, alloc, crew, None, 5, steps).is_err()
+}
+
+/// Whether a member runs a call of five tasks that is started and finished later.
+fn finish_later<L: Ledger, R: Wait>(
+    rt: &R,
+    alloc: Global,
+    crew: Crew<'_, Products, Notes>,
+    steps: &mut Steps<L>,
+) -> Result<bool, NoMemory> {
+    let gate = crew.gate();
+    let items = items(alloc, 5)?;
+    let work = Arc::new(alloc, Products { refused: None })?;
+    let started = crew.start(alloc, work, items)?;
+    let by_members = comes(&gate.begun, 5) && gate.have_begun(0b10);
+    let (mut crew, outs) = started.finish(rt, alloc, steps)?;
+    let more = call(rt, alloc, &mut crew, None, 1, steps)?;
+    Ok(by_members && are_squares(outs.as_slice(), 5) && are_squares(more.as_slice(), 1))
+}
+
+/// What the caller does with its crew.
+#[derive(Clone, Copy)]
+enum Plan {
+    /// Calls of all sizes, and then one that is out of memory.
+    AllSizes(Workers),
+    /// One call of five tasks.
+    Five,
+    /// One call of five tasks that is started and finished later.
+    FiveLater,
+}
+
+/// Whether the plan's calls have their answers.
+fn follow<L: Ledger, R: Threads + Wait + Sync>(
+    rt: &R,
+    alloc: Global,
+    crew: Crew<'_, Products, Notes>,
+    plan: Plan,
+    steps: &mut Steps<L>,
+) -> bool {
+    let mut crew = crew;
+    match plan {
+        Plan::AllSizes(workers) => {
+            all_sizes(rt, alloc, &mut crew, workers, steps)
+                && is_refused(rt, alloc, &mut crew, workers, steps)
+        }
+        Plan::Five => match call(rt, alloc, &mut crew, None, 5, steps) {
+            Ok(outs) => are_squares(outs.as_slice(), 5),
+            Err(NoMemory) => false,
+        },
+        Plan::FiveLater => finish_later(rt, alloc, crew, steps) == Ok(true),
+    }
+}
+
+/// The same on the counter that the blank makes. Then the bell ends the members, whatever the result.
+fn lead_counted<L: Ledger, R: Threads + Wait + Sync>(
+    rt: &R,
+    alloc: Global,
+    crew: Crew<'_, Products, Notes>,
+    plan: Plan,
+    bell: &Bell,
     blank: Blank,
-) -> Result<Vec<Vec<u64>>, NoMemory>
-    requires few { length items.items ≤ MOST_TASKS }
+) -> bool
     requires name { blank.name ≡ L.name }
     requires parts { blank.parts ≡ L.parts }
     requires some { 0 < L.parts }
 {
     let mut steps = Steps::<L>::new(blank);
-    crew.all(rt, alloc, work, items, gate, &mut steps)
+    let right = follow(rt, alloc, crew, plan, &mut steps);
+    bell.end();
+    right
 }
 
-/// Runs so many tasks.
-fn run<C: Crew, G: Gate, R: Threads + Wait + Sync>(
+/// The same on a counter of its own.
+fn lead<R: Threads + Wait + Sync>(
     rt: &R,
     alloc: Global,
-    crew: &C,
-    gate: &G,
-    work: &Appends,
-    tasks: u32,
-) -> Result<Vec<Vec<u64>>, NoMemory>
-    requires few { tasks ≤ MOST_TASKS }
-{
-    let items = items(alloc, tasks)?;
-    run_counted::<C, G, Brand, R>(rt, alloc, crew, gate, work, items, Blank::new(1))
-}
-
-/// Whether these are the answers of so many tasks.
-pub(crate) fn are_answers(outs: &[Vec<u64>], tasks: u32) -> bool {
-    if outs.len() != tasks as usize {
-        return false;
-    }
-    for i in 0..outs.len() {
-        let number = i as u64;
-        if outs[i].as_slice() != [number.wrapping_mul(10), number].as_slice() {
-            return false;
-        }
-    }
-    true
-}
-
-/// Whether so many tasks behind a gate have the answers that they should.
-fn has_answers<C: Crew, G: Gate, R: Threads + Wait + Sync>(
-    rt: &R,
-    alloc: Global,
-    crew: &C,
-    gate: &G,
-    small: bool,
-    tasks: u32,
-) -> bool
-    requires few { tasks ≤ MOST_TASKS }
-{
-    let work = Appends {
-        refused: None,
-        small,
-    };
-    match run(rt, alloc, crew, gate, &work, tasks) {
-        Ok(outs) => are_answers(outs.as_slice(), tasks),
-        Err(NoMemory) => false,
-    }
-}
-
-/// Whether five tasks of which the third is out of memory have no answers.
-fn is_refused<C: Crew, R: Threads + Wait + Sync>(rt: &R, alloc: Global, crew: &C) -> bool {
-    let work = Appends {
-        refused: Some(2),
-        small: false,
-    };
-    run(rt, alloc, crew, &NoGate, &work, 5).is_err()
-}
-
-/// Whether no task, one, and the most have their answers, and five of which the third is out of memory have none.
-fn all_sizes<C: Crew, R: Threads + Wait + Sync>(rt: &R, alloc: Global, crew: &C) -> bool {
-    has_answers(rt, alloc, crew, &NoGate, false, 0)
-        && has_answers(rt, alloc, crew, &NoGate, false, 1)
-        && has_answers(rt, alloc, crew, &NoGate, false, 64)
-        && is_refused(rt, alloc, crew)
-}
-
-/// Counts its calls, those out of order or of another worker than the first by a thousand.
-#[derive(Drop)]
-struct InOrder {
-    calls: AtomicU64,
-}
-
-impl Gate for InOrder {
-    fn before<R: Wait>(&self, _rt: &R, worker: u32, task: u32) {
-        let in_order = self.calls.load(Ordering::SeqCst) == u64::from(task) && worker == 0;
-        self.calls
-            .fetch_add(if in_order { 1 } else { 1000 }, Ordering::SeqCst);
-    }
-
-    fn before_call<R: Wait>(&self, _rt: &R, _analyst: u32, _k: u32) {}
-}
-
-/// Whether five tasks run all in the caller's thread and in order.
-fn in_order<C: Crew, R: Threads + Wait + Sync>(
-    rt: &R,
-    alloc: Global,
-    crew: &C,
-    small: bool,
+    crew: Crew<'_, Products, Notes>,
+    plan: Plan,
+    bell: &Bell,
 ) -> bool {
-    let gate = InOrder {
-        calls: AtomicU64::new(0),
-    };
-    let right = has_answers(rt, alloc, crew, &gate, small, 5);
-    right && gate.calls.load(Ordering::SeqCst) == 5
+    lead_counted::<Brand, R>(rt, alloc, crew, plan, bell, Blank::new(1))
 }
 
-/// Holds the first task begun until a second worker has begun one, and then counts their meeting.
-#[derive(Drop)]
-struct Meeting {
-    first: AtomicU64,
-    meetings: AtomicU64,
+/// The same while these members serve.
+fn lead_beside<R: Threads + Wait + Sync>(
+    rt: &R,
+    alloc: Global,
+    crew: Crew<'_, Products, Notes>,
+    members: Vec<Member<'_, Products, Notes>>,
+    plan: Plan,
+    bell: &Bell,
+) -> bool {
+    let (_, right) = thread::join(
+        rt,
+        move || serve_all(rt, alloc, bell, members),
+        move || lead(rt, alloc, crew, plan, bell),
+    );
+    right
 }
 
-impl Gate for Meeting {
-    fn before<R: Wait>(&self, _rt: &R, worker: u32, _task: u32) {
-        let me = u64::from(worker) + 1;
-        if self
-            .first
-            .compare_exchange(0, me, Ordering::SeqCst, Ordering::SeqCst)
-            .is_ok()
-        {
-            for _ in 0..1_000_000u32 {
-                if self.meetings.load(Ordering::SeqCst) != 0 {
-                    return;
-                }
-                thread::yield_now();
-            }
-        } else if self.first.load(Ordering::SeqCst) != me {
-            self.meetings.store(1, Ordering::SeqCst);
-        }
-    }
-
-    fn before_call<R: Wait>(&self, _rt: &R, _analyst: u32, _k: u32) {}
+/// The same by a crew of this number of workers.
+fn lead_crew<R: Threads + Wait + Sync>(
+    rt: &R,
+    alloc: Global,
+    gate: &Notes,
+    workers: Workers,
+    plan: Plan,
+) -> Option<bool> {
+    let (crew, members) = Crew::begin(alloc, gate, workers).ok()?;
+    let bell = crew.bell().ok()?;
+    Some(lead_beside(rt, alloc, crew, members, plan, &bell))
 }
 
-/// Whether of five tasks the first begun, which is held, is met by one that another worker has begun.
-fn meet<C: Crew, R: Threads + Wait + Sync>(rt: &R, alloc: Global, crew: &C) -> bool {
-    let gate = Meeting {
-        first: AtomicU64::new(0),
-        meetings: AtomicU64::new(0),
-    };
-    let right = has_answers(rt, alloc, crew, &gate, false, 5);
-    right && gate.meetings.load(Ordering::SeqCst) == 1
+/// Whether five tasks by two workers come to their end under a gate that holds these.
+fn five_held<R: Threads + Wait + Sync>(rt: &R, alloc: Global, held: Held) -> bool {
+    let gate = Notes::new(held, false);
+    let right = lead_crew(rt, alloc, &gate, Workers { count: 2 }, Plan::Five);
+    right == Some(true) && gate.begun() == 5 && gate.have_begun(0b11)
 }
 
-/// Holds one task until the other four have begun, and notes where it gave up.
-#[derive(Drop)]
-struct HoldOne {
-    held: u32,
-    begun: AtomicU64,
-    gave_up: AtomicU64,
+/// All sizes by a crew of this number of workers.
+fn all_sizes_by<R: Threads + Wait + Sync>(rt: &R, alloc: Global, count: u32) -> Option<bool> {
+    let workers = Workers::new(count)?;
+    let gate = Notes::new(Held::Nothing, false);
+    lead_crew(rt, alloc, &gate, workers, Plan::AllSizes(workers))
 }
 
-impl Gate for HoldOne {
-    fn before<R: Wait>(&self, _rt: &R, _worker: u32, task: u32) {
-        if task != self.held {
-            self.begun.fetch_add(1, Ordering::SeqCst);
-            return;
-        }
-        for _ in 0..1_000_000u32 {
-            if self.begun.load(Ordering::SeqCst) >= 4 {
-                return;
-            }
-            thread::yield_now();
-        }
-        self.gave_up.store(1, Ordering::SeqCst);
-    }
-
-    fn before_call<R: Wait>(&self, _rt: &R, _analyst: u32, _k: u32) {}
-}
-
-/// Whether the other four tasks are stolen while this one is held.
-fn are_stolen<R: Threads + Wait + Sync>(rt: &R, alloc: Global, held: u32) -> bool {
-    let workers = Workers { count: 2 };
-    let gate = HoldOne {
-        held,
-        begun: AtomicU64::new(0),
-        gave_up: AtomicU64::new(0),
-    };
-    let right = has_answers(rt, alloc, &Stealing { workers }, &gate, false, 5);
-    right && gate.gave_up.load(Ordering::SeqCst) == 0 && gate.begun.load(Ordering::SeqCst) == 4
-}
-
-/// Whether so many workers answer all sizes, in both crews.
-fn both_crews_answer<R: Threads + Wait + Sync>(rt: &R, alloc: Global, count: u32) -> bool {
-    match Workers::new(count) {
-        Some(workers) => {
-            workers.count == count
-                && all_sizes(rt, alloc, &Forked { workers })
-                && all_sizes(rt, alloc, &Stealing { workers })
-        }
-        None => false,
-    }
-}
-
-#[test]
-fn one_worker_runs_in_order(rt: HostRuntime) {
-    assert!(rt; in_order(&rt, rt.alloc(), &Serial, false));
-    assert!(rt; all_sizes(&rt, rt.alloc(), &Serial));
-}
-
-#[test]
-fn small_work_stays_in_the_callers_thread(rt: HostRuntime) {
+/// All sizes by a crew whose members nobody starts: the caller takes back what it has given them.
+fn all_sizes_alone<R: Threads + Wait + Sync>(rt: &R, alloc: Global) -> Option<bool> {
     let workers = Workers { count: 4 };
-    assert!(rt; in_order(&rt, rt.alloc(), &Forked { workers }, true));
-    assert!(rt; in_order(&rt, rt.alloc(), &Stealing { workers }, true));
-}
-
-#[test]
-fn workers_meet(rt: HostRuntime) {
-    let workers = Workers { count: 2 };
-    assert!(rt; meet(&rt, rt.alloc(), &Forked { workers }));
-    assert!(rt; meet(&rt, rt.alloc(), &Stealing { workers }));
-}
-
-/// Where the tasks were dealt to the workers beforehand, one of the two runs would give up.
-#[test]
-fn tasks_stolen(rt: HostRuntime) {
-    assert!(rt; are_stolen(&rt, rt.alloc(), 0) && are_stolen(&rt, rt.alloc(), 1));
+    let gate = Notes::new(Held::Nothing, false);
+    let (crew, _members) = Crew::begin(alloc, &gate, workers).ok()?;
+    let bell = crew.bell().ok()?;
+    Some(lead(rt, alloc, crew, Plan::AllSizes(workers), &bell))
 }
 
 #[test]
 fn one_to_sixteen_workers(rt: HostRuntime) {
     assert!(rt; Workers::new(0).is_none() && Workers::new(17).is_none());
     for count in 1..17u32 {
-        assert!(rt; both_crews_answer(&rt, rt.alloc(), count));
+        assert!(rt;
+            all_sizes_by(&rt, rt.alloc(), count) == Some(true),
+            "{}",
+            count
+        );
     }
+}
+
+#[test]
+fn alone_the_caller_runs_all(rt: HostRuntime) {
+    assert!(rt; all_sizes_alone(&rt, rt.alloc()) == Some(true));
+}
+
+/// If the tasks were dealt to the workers beforehand, one of the two calls would give up.
+#[test]
+fn tasks_stolen(rt: HostRuntime) {
+    assert!(rt; five_held(&rt, rt.alloc(), Held::Task(0)));
+    assert!(rt; five_held(&rt, rt.alloc(), Held::Task(1)));
+}
+
+/// The caller is held until the member has begun a task, and the member until the caller has begun the others: so the
+/// caller is at its end first, and waits for the member.
+#[test]
+fn workers_meet(rt: HostRuntime) {
+    assert!(rt; five_held(&rt, rt.alloc(), Held::Both));
+}
+
+/// A member runs what the caller has started while the caller does something else.
+#[test]
+fn a_call_is_finished_later(rt: HostRuntime) {
+    let gate = Notes::new(Held::Nothing, false);
+    let right = lead_crew(
+        &rt,
+        rt.alloc(),
+        &gate,
+        Workers { count: 2 },
+        Plan::FiveLater,
+    );
+    assert!(rt; right == Some(true) && gate.begun() == 6 && gate.have_begun(0b11));
 }

@@ -1,17 +1,16 @@
 //! The tests of the engine and of what runs beside it. The library is empty.
 //!
 //! A crate's tests are proved together with the crate, so a crate with tests is proved twice. Those of these crates
-//! stand here, where they are proved once, and so are their crates. Each module tests one crate by its public items:
+//! are here, where they are proved once, and so are their crates. Each module tests one crate by its public items:
 //!
 //! ```text
 //! crews     crew_pool         desks           decision_desk
 //! copies    phys_proc         shelves         shelf
 //! worlds    world_core        live_studies    live_study
-//! teams     standing_crew
 //! ```
 //!
-//! They show what no clause says: that calls find memory, and that clauses mean what they should, by values from
-//! outside. Where threads run side by side, the answer must be the same under every schedule.
+//! They show what is not proved: that calls find memory, and that clauses mean what they should, by values from
+//! outside. If threads run side by side, the answer must be the same under every schedule.
 #![tactic(auto)]
 
 #[cfg(test)]
@@ -24,7 +23,5 @@ mod desks;
 mod live_studies;
 #[cfg(test)]
 mod shelves;
-#[cfg(test)]
-mod teams;
 #[cfg(test)]
 mod worlds;

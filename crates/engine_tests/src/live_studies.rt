@@ -1,7 +1,7 @@
 //! Two analysts beside the engine, whatever the schedule: what the journal and the looks of a run with looks alone are.
 ghost use Rattle.std.specs.Prelude.{◌≡◌, ◌<◌};
 
-use crew_pool::{Crew, NoGate, Serial};
+use crew_pool::{NoGate, Workers};
 use decision_script::read_script;
 use live_study::{LiveRun, live_study};
 use net_model::read_model;
@@ -22,10 +22,9 @@ look base gate
 ";
 
 /// A run with these looks.
-fn run_counted<C: Crew + Sync, L: Ledger, R: Threads + Wait + Sync>(
+fn run_counted<L: Ledger, R: Threads + Wait + Sync>(
     rt: &R,
     alloc: Global,
-    crew: &C,
     blank: Blank,
 ) -> Option<LiveRun>
     requires name { blank.name ≡ L.name }
@@ -36,7 +35,8 @@ fn run_counted<C: Crew + Sync, L: Ledger, R: Threads + Wait + Sync>(
     let model = read_model(alloc, ONE_DESK.as_bytes()).ok()?;
     let model = Arc::new(alloc, model).ok()?;
     let script = read_script(alloc, LOOKS.as_bytes()).ok()?;
-    live_study(rt, alloc, crew, &NoGate, &model, &script, &mut steps).ok()
+    let workers = Workers { count: 1 };
+    live_study(rt, alloc, workers, &NoGate, &model, &script, &mut steps).ok()
 }
 
 /// The place behind an analyst's looks, which begin at this place, where each saw a station or none, as it should.
@@ -66,7 +66,7 @@ fn have_seen(live: &LiveRun, stations: &[bool]) -> bool {
 
 /// Whether the run came to its end, how many fronts there are, and what each look saw.
 fn looks_are_right<R: Threads + Wait + Sync>(rt: &R, alloc: Global) -> Option<bool> {
-    let live = run_counted::<Serial, Brand, R>(rt, alloc, &Serial, Blank::new(1))?;
+    let live = run_counted::<Brand, R>(rt, alloc, Blank::new(1))?;
     Some(
         live.run.is_ok()
             && live.book.book().fronts().len() == 7

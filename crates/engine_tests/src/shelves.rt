@@ -5,7 +5,6 @@ ghost use Rattle.shelf.specs.Racks.{HasRack, MayOpen};
 ghost use Rattle.engine_tests.specs.Seen.{AreSeenUpTo};
 
 use crate::worlds::window;
-use crew_pool::{NoGate, Serial};
 use net_model::read_model;
 use phys_proc::Rack;
 use shelf::{Naming, NewHistory, Seat, Stocker, Told, begin};
@@ -108,17 +107,13 @@ fn two_of<J: Naming>(seats: Vec<Seat<J>>) -> Result<(Seat<J>, Seat<J>), NoMemory
 }
 
 /// A window, and a rack of the gate after it.
-fn step_window<R: Threads + Wait + Sync>(
-    rt: &R,
-    alloc: Global,
-    world: World,
-) -> Option<(World, Rack)>
+fn step_window(alloc: Global, world: World) -> Option<(World, Rack)>
     ensures net { IfSome result (λ p. (p.0.net ≡ world.net) × (p.1.net ≡ world.net)) }
     ensures later { IfSome result (λ p. (world.front < p.1.front) × (p.0.front ≡ p.1.front)) }
     ensures gate { IfSome result (λ p. p.1.station ≡ 1) }
 {
     let before = world.front();
-    let Ok(mut world) = window(rt, alloc, &Serial, &NoGate, world, HORIZON) else {
+    let Ok(mut world) = window(alloc, world, HORIZON) else {
         return None;
     };
     if world.front() <= before || world.model().len() < GATE {
@@ -132,8 +127,7 @@ fn step_window<R: Threads + Wait + Sync>(
 
 /// A window, and the gate's rack after it is published.
 #[tactic(auto, using(crate::proofs::Seen::seen_follows, crate::proofs::Seen::seen_with))]
-fn publish_window<J: Naming, W: Wait + Drop, R: Threads + Wait + Sync>(
-    rt: &R,
+fn publish_window<J: Naming, W: Wait + Drop>(
     alloc: Global,
     world: World,
     stocker: &mut Stocker<J, W>,
@@ -143,7 +137,7 @@ fn publish_window<J: Naming, W: Wait + Drop, R: Threads + Wait + Sync>(
     ensures seen { IfOk result (λ w. AreSeenUpTo w.net w.front stocker.new.published) }
     ensures there { IfOk result (λ w. HasRack 1 stocker.new.published) }
 {
-    let Some((world, rack)) = step_window(rt, alloc, world) else {
+    let Some((world, rack)) = step_window(alloc, world) else {
         return Err(NoMemory);
     };
     stocker.publish(alloc, rack)?;
@@ -151,8 +145,7 @@ fn publish_window<J: Naming, W: Wait + Drop, R: Threads + Wait + Sync>(
 }
 
 /// All windows up to the horizon, each published.
-fn publish_all<J: Naming, W: Wait + Drop, R: Threads + Wait + Sync>(
-    rt: &R,
+fn publish_all<J: Naming, W: Wait + Drop>(
     alloc: Global,
     world: World,
     stocker: &mut Stocker<J, W>,
@@ -165,7 +158,7 @@ fn publish_all<J: Naming, W: Wait + Drop, R: Threads + Wait + Sync>(
         if world.front() == HORIZON {
             break;
         }
-        world = publish_window(rt, alloc, world, stocker)?;
+        world = publish_window(alloc, world, stocker)?;
     }
     Ok(())
 }
@@ -263,7 +256,7 @@ fn run_beside<J: Naming + Send + Sync, W: Wait + Drop + Send, R: Threads + Wait 
             requires { AreSeenUpTo world.net world.front stocker.published × HasRack 1 stocker.published }
         {
             // a run that ends early has published too few
-            let _ = publish_all(rt, alloc, world, &mut stocker);
+            let _ = publish_all(alloc, world, &mut stocker);
             stocker
         },
         move || -> (Reader<J>, Reader<J>)
@@ -343,8 +336,7 @@ fn beside<J: Naming + Send + Sync, W: Wait + Drop + Send, R: Threads + Wait + Sy
 
 /// Whether a look before any publish gives the opening rack, one after it the rack that was published, each seat can
 /// be told of it once, and the stocker goes on when its readers are gone.
-fn looks_are_right<J: Naming, W: Wait + Drop, R: Threads + Wait + Sync>(
-    rt: &R,
+fn looks_are_right<J: Naming, W: Wait + Drop>(
     alloc: Global,
     world: World,
     stocker: Stocker<J, W>,
@@ -361,17 +353,16 @@ fn looks_are_right<J: Naming, W: Wait + Drop, R: Threads + Wait + Sync>(
     let mut one = one;
     let mut two = two;
     let opens = look_once(&mut one, who) == 0;
-    let world = publish_window(rt, alloc, world, &mut stocker)?;
+    let world = publish_window(alloc, world, &mut stocker)?;
     let front = world.front();
     let shown = look_once(&mut two, who) == front;
     let told = tells_each(&mut stocker, one, two, who, front);
-    let goes_on = publish_window(rt, alloc, world, &mut stocker).is_ok();
+    let goes_on = publish_window(alloc, world, &mut stocker).is_ok();
     Ok(opens && 0 < front && shown && told && goes_on)
 }
 
 /// The same of a run that begins.
-fn one_by_one<J: Naming, W: Wait + Drop, R: Threads + Wait + Sync>(
-    rt: &R,
+fn one_by_one<J: Naming, W: Wait + Drop>(
     waits: W,
     alloc: Global,
     opened: NewHistory,
@@ -381,7 +372,7 @@ fn one_by_one<J: Naming, W: Wait + Drop, R: Threads + Wait + Sync>(
 {
     let (world, stocker, seats) = begin_shelf::<J, W>(waits, alloc, opened)?;
     let (one, two) = two_of(seats)?;
-    looks_are_right(rt, alloc, world, stocker, one, two, who)
+    looks_are_right(alloc, world, stocker, one, two, who)
 }
 
 /// The clone that every model has.
@@ -405,12 +396,6 @@ fn readers_beside_a_run(rt: HostRuntime) {
 #[test]
 fn looks_one_by_one(rt: HostRuntime) {
     let who = base(&rt);
-    let saw = one_by_one::<Brand, &HostRuntime, HostRuntime>(
-        &rt,
-        &rt,
-        rt.alloc(),
-        NewHistory::new(),
-        &who,
-    );
+    let saw = one_by_one::<Brand, &HostRuntime>(&rt, rt.alloc(), NewHistory::new(), &who);
     assert!(rt; saw == Ok(true));
 }

@@ -5,16 +5,15 @@ ghost use Rattle.sim_base.specs.Clones.{base};
 ghost use Rattle.decision_book.specs.Journal.{after};
 ghost use Rattle.engine_tests.specs.Abreast.{AreAbreast};
 
-use crew_pool::{Crew, Forked, Gate, NoGate, Serial, Stealing, Workers};
+use crate::crews::{Held, Notes};
+use crew_pool::{Bell, Crew, Member, Workers, serve_all};
 use decision_book::{Book, Call, Reply};
 use net_model::{Model, read_model};
 use phys_proc::{Found, Glance};
 use sample_models::{BUSY, ONE_DESK};
-use sim_base::{Change, Decision, Entry, Figures, Name, Param, Steps};
-use standing_crew::{Bell, Member, Team, serve_all};
+use sim_base::{Change, Decision, Entry, Figures, Name, Param, Planned, Steps};
 use std::alloc::Global;
 use std::marker::Brand;
-use std::sync::atomic::{AtomicU64, Ordering};
 use std::sync::ledger::{Blank, Ledger};
 use std::sync::{Arc, Wait};
 use std::thread;
@@ -69,25 +68,20 @@ fn model_of(alloc: Global, text: &str) -> Option<Arc<Model>> {
 fn begin_world(alloc: Global, model: &Arc<Model>) -> Option<World>
     ensures net { IfSome result (λ w. w.net ≡ model.now.value) }
     ensures alone { IfSome result (λ w. w.clones ≡ base ∷ []) }
+    ensures front { IfSome result (λ w. w.front ≡ 0) }
 {
     let model = Arc::try_clone(model).ok()?;
     World::new(alloc, model).ok()
 }
 
-/// A book of a model at a front, with no call.
-fn book_at(alloc: Global, model: &Arc<Model>, front: u64) -> Option<Book>
-    requires within { front ≤ model.now.value.horizon }
+/// A book of a model, with no call.
+fn begin_book(alloc: Global, model: &Arc<Model>) -> Option<Book>
     ensures net { IfSome result (λ b. b.net ≡ model.now.value) }
     ensures alone { IfSome result (λ b. (after b.net b.events).clones ≡ base ∷ []) }
-    ensures front { IfSome result (λ b. (after b.net b.events).front ≡ front) }
+    ensures front { IfSome result (λ b. (after b.net b.events).front ≡ 0) }
 {
     let model = Arc::try_clone(model).ok()?;
-    let mut book = Book::begin(alloc, model).ok()?;
-    if front == 0 {
-        return Some(book);
-    }
-    book.advance(front).ok()?;
-    Some(book)
+    Book::begin(alloc, model).ok()
 }
 
 /// The world with a decision more, where the book accepts it.
@@ -107,24 +101,6 @@ fn take_decision(alloc: Global, book: &mut Book, world: World, decision: &Decisi
     let Ok(world) = world.take(alloc, &[call]) else {
         return None;
     };
-    Some(world)
-}
-
-/// The world with these decisions, where a book accepts each of them at its front.
-fn take_decisions(
-    alloc: Global,
-    model: &Arc<Model>,
-    world: World,
-    decisions: &[Decision],
-) -> Option<World>
-    requires net { world.net ≡ model.now.value }
-    requires alone { world.clones ≡ base ∷ [] }
-{
-    let mut book = book_at(alloc, model, world.front())?;
-    let mut world = world;
-    for i in 0..decisions.len() {
-        world = take_decision(alloc, &mut book, world, &decisions[i])?;
-    }
     Some(world)
 }
 
@@ -157,11 +133,15 @@ fn end(at: u64) -> Option<Decision> {
     Some(Decision::End { who, at })
 }
 
-/// The world of a model's text with these decisions, before anything is handled.
+/// The world of a model's text with these decisions, if a book accepts each of them, before anything is handled.
 fn begin_with(alloc: Global, text: &str, decisions: &[Decision]) -> Option<World> {
     let model = model_of(alloc, text)?;
-    let world = begin_world(alloc, &model)?;
-    take_decisions(alloc, &model, world, decisions)
+    let mut world = begin_world(alloc, &model)?;
+    let mut book = begin_book(alloc, &model)?;
+    for i in 0..decisions.len() {
+        world = take_decision(alloc, &mut book, world, &decisions[i])?;
+    }
+    Some(world)
 }
 
 /// The two clones of the worked example.
@@ -169,12 +149,9 @@ fn two_clones(alloc: Global, text: &str) -> Option<World> {
     begin_with(alloc, text, &[fork("fast")?, faster(8)?])
 }
 
-/// A window to the bound, or to the next front where that is less, on the counter that the blank makes.
-fn window_counted<C: Crew, G: Gate, L: Ledger, R: Threads + Wait + Sync>(
-    rt: &R,
+/// A window to the bound, or to the next front if that is less, on the counter that the blank makes.
+fn window_counted<L: Ledger>(
     alloc: Global,
-    crew: &C,
-    gate: &G,
     world: World,
     bound: u64,
     blank: Blank,
@@ -183,29 +160,50 @@ fn window_counted<C: Crew, G: Gate, L: Ledger, R: Threads + Wait + Sync>(
     requires parts { blank.parts ≡ L.parts }
     requires some { 0 < L.parts }
     ensures net { IfOk result (λ w. w.net ≡ world.net) }
-    ensures clones { IfOk result (λ w. w.clones ≡ world.clones) }
 {
     let bound = bound.min(world.bound());
     if world.front() >= bound {
         return Ok(world);
     }
     let mut steps = Steps::<L>::new(blank);
-    world.window(rt, alloc, crew, gate, bound, &mut steps)
+    world.window_in_place(alloc, bound, &mut steps)
 }
 
 /// The same, on a counter of its own.
-pub(crate) fn window<C: Crew, G: Gate, R: Threads + Wait + Sync>(
+pub(crate) fn window(alloc: Global, world: World, bound: u64) -> Result<World, WorldFault>
+    ensures net { IfOk result (λ w. w.net ≡ world.net) }
+{
+    window_counted::<Brand>(alloc, world, bound, Blank::new(1))
+}
+
+/// A window of a crew to the next front, on the counter that the blank makes.
+fn crew_window_counted<L: Ledger, R: Wait>(
     rt: &R,
     alloc: Global,
-    crew: &C,
-    gate: &G,
+    crew: &mut Crew<'_, Window, Notes>,
     world: World,
-    bound: u64,
+    blank: Blank,
 ) -> Result<World, WorldFault>
-    ensures net { IfOk result (λ w. w.net ≡ world.net) }
-    ensures clones { IfOk result (λ w. w.clones ≡ world.clones) }
+    requires name { blank.name ≡ L.name }
+    requires parts { blank.parts ≡ L.parts }
+    requires some { 0 < L.parts }
 {
-    window_counted::<C, G, Brand, R>(rt, alloc, crew, gate, world, bound, Blank::new(1))
+    let bound = world.bound();
+    if world.front() >= bound {
+        return Ok(world);
+    }
+    let mut steps = Steps::<L>::new(blank);
+    world.window(rt, alloc, crew, bound, &mut steps)
+}
+
+/// The same, on a counter of its own.
+fn crew_window<R: Wait>(
+    rt: &R,
+    alloc: Global,
+    crew: &mut Crew<'_, Window, Notes>,
+    world: World,
+) -> Result<World, WorldFault> {
+    crew_window_counted::<Brand, R>(rt, alloc, crew, world, Blank::new(1))
 }
 
 /// Whether the station's figures are these.
@@ -294,16 +292,15 @@ fn has_row(world: &World, row: Row) -> bool {
         && has_figures(world, 3, at_exit)
 }
 
-/// The world after a window, where it comes to what stands in the row.
-fn come_to_row<C: Crew, G: Gate, R: Threads + Wait + Sync>(
+/// The world after a window of a crew, if it comes to the row.
+fn come_to_row<R: Wait>(
     rt: &R,
     alloc: Global,
-    crew: &C,
-    gate: &G,
+    crew: &mut Crew<'_, Window, Notes>,
     world: World,
     row: Row,
 ) -> Option<World> {
-    let world = window(rt, alloc, crew, gate, world, 20).ok()?;
+    let world = crew_window(rt, alloc, crew, world).ok()?;
     if has_row(&world, row) {
         Some(world)
     } else {
@@ -311,46 +308,13 @@ fn come_to_row<C: Crew, G: Gate, R: Threads + Wait + Sync>(
     }
 }
 
-/// Whether each window of the two clones comes to what stands in the table, and the run to the two traces.
-fn windows_are<C: Crew, G: Gate, R: Threads + Wait + Sync>(
-    rt: &R,
-    alloc: Global,
-    crew: &C,
-    gate: &G,
-) -> Option<bool> {
+/// Whether a crew's windows of the two clones come to the rows of the table, and the run to the two traces.
+fn has_rows<R: Wait>(rt: &R, alloc: Global, crew: &mut Crew<'_, Window, Notes>) -> Option<bool> {
     let mut world = two_clones(alloc, ONE_DESK)?;
     for i in 0..WINDOWS.len() {
-        world = come_to_row(rt, alloc, crew, gate, world, WINDOWS[i])?;
+        world = come_to_row(rt, alloc, crew, world, WINDOWS[i])?;
     }
     Some(has_traces(alloc, &world, &BASE, &FAST))
-}
-
-/// Counts its calls.
-#[derive(Drop)]
-struct Counts {
-    calls: AtomicU64,
-}
-
-impl Gate for Counts {
-    fn before<R: Wait>(&self, _rt: &R, _worker: u32, _task: u32) {
-        self.calls.fetch_add(1, Ordering::SeqCst);
-    }
-
-    fn before_call<R: Wait>(&self, _rt: &R, _analyst: u32, _k: u32) {}
-}
-
-/// Which workers ran a task, a bit for each.
-#[derive(Drop)]
-struct Ran {
-    workers: AtomicU64,
-}
-
-impl Gate for Ran {
-    fn before<R: Wait>(&self, _rt: &R, worker: u32, _task: u32) {
-        self.workers.fetch_or(1 << (worker % 64), Ordering::SeqCst);
-    }
-
-    fn before_call<R: Wait>(&self, _rt: &R, _analyst: u32, _k: u32) {}
 }
 
 /// The world of a busy model of 36,000 jobs, before anything is handled.
@@ -360,134 +324,116 @@ fn busy(alloc: Global) -> Option<World> {
     begin_world(alloc, &model)
 }
 
-/// Three windows of a world by two workers, each with some of the tasks.
-fn three_windows<G: Gate, R: Threads + Wait + Sync>(
+/// Whether three windows of a crew come to this. The first is small, since no window came before it.
+fn has_busy_windows<R: Wait>(
     rt: &R,
     alloc: Global,
-    gate: &G,
-    world: World,
-) -> Option<World> {
-    let crew = Forked {
-        workers: Workers { count: 2 },
-    };
-    let mut world = world;
+    crew: &mut Crew<'_, Window, Notes>,
+) -> Option<bool> {
+    let mut world = busy(alloc)?;
     for _ in 0..3 {
-        world = window(rt, alloc, &crew, gate, world, 36000).ok()?;
+        world = crew_window(rt, alloc, crew, world).ok()?;
     }
-    Some(world)
+    Some(
+        world.front() == 27001
+            && has_figures(&world, 1, [1, 27000, 27000])
+            && has_figures(&world, 2, [1, 18000, 18000])
+            && world.wants_crew(),
+    )
 }
 
-/// Whether the three windows came to what they should, whoever ran them.
-fn have_come(world: Option<World>) -> bool {
-    match world {
-        Some(world) => {
-            world.front() == 27001
-                && has_figures(&world, 1, [1, 27000, 27000])
-                && has_figures(&world, 2, [1, 18000, 18000])
-        }
-        None => false,
-    }
+/// What a crew steps.
+#[derive(Clone, Copy)]
+enum Study {
+    /// The two clones of the worked example.
+    Worked,
+    /// A busy model.
+    Busy,
 }
 
-/// Which workers ran a task. The caller's task is held until the other worker has begun one, but for the first two
-/// tasks, those of the first window, which is always small.
-#[derive(Drop)]
-struct HoldsBusyWindows {
-    calls: AtomicU64,
-    ran: Ran,
-}
-
-impl Gate for HoldsBusyWindows {
-    fn before<R: Wait>(&self, rt: &R, worker: u32, task: u32) {
-        self.ran.before(rt, worker, task);
-        let early = self.calls.fetch_add(1, Ordering::SeqCst) < 2;
-        if early || worker != 0 {
-            return;
-        }
-        for _ in 0..1_000_000u32 {
-            if self.ran.workers.load(Ordering::SeqCst) == 0b11 {
-                return;
-            }
-            thread::yield_now();
-        }
-    }
-
-    fn before_call<R: Wait>(&self, _rt: &R, _analyst: u32, _k: u32) {}
-}
-
-/// The three windows, and then the bell rings, whatever the result.
-fn three_windows_led<G: Gate, R: Threads + Wait + Sync>(
+/// Whether the study's windows are right. Then the bell ends the members, whatever the result.
+fn lead<R: Wait>(
     rt: &R,
     alloc: Global,
-    gate: &G,
-    world: World,
+    crew: Crew<'_, Window, Notes>,
+    study: Study,
     bell: &Bell,
-) -> Option<World> {
-    let world = three_windows(rt, alloc, gate, world);
+) -> Option<bool> {
+    let mut crew = crew;
+    let right = match study {
+        Study::Worked => has_rows(rt, alloc, &mut crew),
+        Study::Busy => has_busy_windows(rt, alloc, &mut crew),
+    };
     bell.end();
-    world
+    right
 }
 
-/// The same beside the other worker of the world's team.
-fn three_windows_beside<G: Gate, R: Threads + Wait + Sync>(
+/// The same while these members serve.
+fn lead_beside<R: Threads + Wait + Sync>(
     rt: &R,
     alloc: Global,
-    gate: &G,
-    world: World,
-    members: Vec<Member<Window>>,
+    crew: Crew<'_, Window, Notes>,
+    members: Vec<Member<'_, Window, Notes>>,
+    study: Study,
     bell: &Bell,
-) -> Option<World> {
-    let (_, world) = thread::join(
+) -> Option<bool> {
+    let (_, right) = thread::join(
         rt,
-        move || serve_all(rt, alloc, gate, bell, members),
-        move || three_windows_led(rt, alloc, gate, world, bell),
+        move || serve_all(rt, alloc, bell, members),
+        move || lead(rt, alloc, crew, study, bell),
     );
-    world
+    right
 }
 
-/// The three windows by a team.
-fn three_windows_by_team<G: Gate, R: Threads + Wait + Sync>(
+/// The same by a crew of this number of workers.
+fn lead_crew<R: Threads + Wait + Sync>(
     rt: &R,
     alloc: Global,
-    gate: &G,
-) -> Option<World> {
-    let world = busy(alloc)?;
-    let (team, members) = Team::<Window>::begin(alloc, Workers { count: 2 }).ok()?;
-    let bell = team.bell().ok()?;
-    three_windows_beside(rt, alloc, gate, world.with_team(team), members, &bell)
+    gate: &Notes,
+    workers: Workers,
+    study: Study,
+) -> Option<bool> {
+    let (crew, members) = Crew::begin(alloc, gate, workers).ok()?;
+    let bell = crew.bell().ok()?;
+    lead_beside(rt, alloc, crew, members, study, &bell)
 }
 
-/// Twenty windows, each so long at the most.
-fn run_all<R: Threads + Wait + Sync>(
-    rt: &R,
-    alloc: Global,
-    world: World,
-    unit: u64,
-) -> Option<World> {
+/// Twenty windows, each at most this long.
+fn run_all(alloc: Global, world: World, length: u64) -> Option<World> {
     let mut world = world;
     for _ in 0..20 {
-        let bound = world.front().saturating_add(unit);
-        world = window(rt, alloc, &Serial, &NoGate, world, bound).ok()?;
+        let bound = world.front().saturating_add(length);
+        world = window(alloc, world, bound).ok()?;
     }
     Some(world)
 }
 
 /// The world of a model's text with these decisions, at its end.
-fn run_of<R: Threads + Wait + Sync>(
-    rt: &R,
-    alloc: Global,
-    text: &str,
-    decisions: &[Decision],
-) -> Option<World> {
+fn run_of(alloc: Global, text: &str, decisions: &[Decision]) -> Option<World> {
     let world = begin_with(alloc, text, decisions)?;
-    run_all(rt, alloc, world, 20)
+    run_all(alloc, world, 20)
+}
+
+/// Whether `fast` has these at the desk: five entries, of which the last is at 11, in a copy of its own. At the gate
+/// both clones share the copy.
+fn has_own_desk(world: &World) -> bool {
+    if world.lists().len() != 2 || world.model().len() != 3 || world.log_len(1, 2) != 5 {
+        return false;
+    }
+    world.entry(1, 2, 4).msg.key.time == 11
+        && world.first_with(1, 2) == 1
+        && world.first_with(1, 1) == 0
 }
 
 /// Whether short windows come to the same traces and figures.
-fn short_windows_are<R: Threads + Wait + Sync>(rt: &R, alloc: Global) -> Option<bool> {
+fn short_windows_are(alloc: Global) -> Option<bool> {
     let world = two_clones(alloc, ONE_DESK)?;
-    let world = run_all(rt, alloc, world, 1)?;
-    Some(has_row(&world, WINDOWS[6]) && has_traces(alloc, &world, &BASE, &FAST))
+    let world = run_all(alloc, world, 1)?;
+    Some(
+        has_row(&world, WINDOWS[6])
+            && has_traces(alloc, &world, &BASE, &FAST)
+            && has_own_desk(&world),
+    )
 }
 
 /// Forks off the base clone, for so many clones in all.
@@ -516,16 +462,16 @@ fn share_all(alloc: Global, world: &World) -> bool {
 }
 
 /// Whether 256 clones that are alike share every message.
-fn all_is_shared<R: Threads + Wait + Sync>(rt: &R, alloc: Global) -> Option<bool> {
+fn all_is_shared(alloc: Global) -> Option<bool> {
     let forks = forks(alloc, 256)?;
-    let world = run_of(rt, alloc, ONE_DESK, forks.as_slice())?;
+    let world = run_of(alloc, ONE_DESK, forks.as_slice())?;
     Some(share_all(alloc, &world))
 }
 
 /// Whether a clone that ends at 13 handles nothing from then on.
-fn ended_clone_rests<R: Threads + Wait + Sync>(rt: &R, alloc: Global) -> Option<bool> {
+fn ended_clone_rests(alloc: Global) -> Option<bool> {
     let decisions = [fork("fast")?, faster(8)?, end(13)?];
-    let world = run_of(rt, alloc, ONE_DESK, &decisions)?;
+    let world = run_of(alloc, ONE_DESK, &decisions)?;
     Some(has_traces(alloc, &world, &BASE, &FAST[..8]) && has_figures(&world, 3, [2, 2, 3]))
 }
 
@@ -578,60 +524,64 @@ fn has_glances(alloc: Global, world: &mut World) -> bool {
 }
 
 /// Whether looks find the three clones and no fourth, with what each has handled and how many share it.
-fn looks_find_three<R: Threads + Wait + Sync>(rt: &R, alloc: Global) -> Option<bool> {
+fn looks_find_three(alloc: Global) -> Option<bool> {
     let decisions = [fork("fast")?, fork("like_base")?, faster(8)?];
-    let mut world = run_of(rt, alloc, ONE_DESK, &decisions)?;
+    let mut world = run_of(alloc, ONE_DESK, &decisions)?;
     Some(has_glances(alloc, &mut world))
 }
 
-/// The world of `base` alone at front 10.
-fn at_ten<R: Threads + Wait + Sync>(rt: &R, alloc: Global, model: &Arc<Model>) -> Option<World>
-    ensures net { IfSome result (λ w. w.net ≡ model.now.value) }
-    ensures alone { IfSome result (λ w. w.clones ≡ base ∷ []) }
-{
-    let mut world = begin_world(alloc, model)?;
-    for _ in 0..3 {
-        world = window(rt, alloc, &Serial, &NoGate, world, 20).ok()?;
+/// The world with `fast`, forked from `base` and served faster from its front on.
+fn fork_now(alloc: Global, world: World) -> Option<World> {
+    let new = Name::read(b"fast")?;
+    let lists = world.lists();
+    if lists.find(&new).is_some() || lists.end_of(0).is_some() || lists.len() != 1 {
+        return None;
     }
-    if world.front() == 10 {
-        Some(world)
-    } else {
-        None
+    let world = world.with_fork(alloc, new, 0).ok()?;
+    let plan = Planned {
+        at: world.front(),
+        station: 2,
+        change: Change {
+            param: Param::Service,
+            a: 2,
+            b: 2,
+        },
+    };
+    if world.lists().len() != 2 || world.model().len() < plan.station {
+        return None;
     }
+    world.with_set(1, plan).ok()
 }
 
-/// The same, with `fast`, which is forked there and served faster from then on.
-fn fork_at_ten<R: Threads + Wait + Sync>(rt: &R, alloc: Global) -> Option<World> {
-    let decisions = [fork("fast")?, faster(10)?];
+/// Whether after such a fork at 10 the next front is 12, and what the desks have handled there.
+fn forks_late(alloc: Global) -> Option<bool> {
     let model = model_of(alloc, ONE_DESK)?;
-    let world = at_ten(rt, alloc, &model)?;
-    take_decisions(alloc, &model, world, &decisions)
-}
-
-/// Whether the front after such a fork is 12, and what the desks have handled there.
-fn forks_late<R: Threads + Wait + Sync>(rt: &R, alloc: Global) -> Option<bool> {
-    let world = fork_at_ten(rt, alloc)?;
-    let next = world.bound();
-    let world = window(rt, alloc, &Serial, &NoGate, world, 20).ok()?;
-    Some(next == 12 && has_figures(&world, 2, [2, 4, 7]))
+    let mut world = begin_world(alloc, &model)?;
+    for _ in 0..3 {
+        world = window(alloc, world, 20).ok()?;
+    }
+    let at = world.front();
+    let world = fork_now(alloc, world)?;
+    let world = window(alloc, world, 20).ok()?;
+    Some(at == 10 && world.front() == 12 && has_figures(&world, 2, [2, 4, 7]))
 }
 
 /// The two clones at 7, where a station may handle three messages.
-fn limited_clones<R: Threads + Wait + Sync>(rt: &R, alloc: Global) -> Option<World> {
+fn limited_clones(alloc: Global) -> Option<World> {
     let text = ONE_DESK
         .replacen(alloc, "horizon = 20", "horizon = 20\nlimit = 3", 1)
         .ok()?;
     let mut world = two_clones(alloc, &text)?;
     for _ in 0..2 {
-        world = window(rt, alloc, &Serial, &NoGate, world, 20).ok()?;
+        world = window(alloc, world, 20).ok()?;
     }
     Some(world)
 }
 
 /// Whether `fast` is over the limit at the desk then, in the window to 10.
-fn limit_is_met<R: Threads + Wait + Sync>(rt: &R, alloc: Global) -> Option<bool> {
-    let world = limited_clones(rt, alloc)?;
-    match window(rt, alloc, &Serial, &NoGate, world, 20) {
+fn limit_is_met(alloc: Global) -> Option<bool> {
+    let world = limited_clones(alloc)?;
+    match window(alloc, world, 20) {
         Err(WorldFault::EventLimit { station, who, kept }) => Some(
             station == 2 && who == 1 && kept == 3,
         ),
@@ -639,74 +589,46 @@ fn limit_is_met<R: Threads + Wait + Sync>(rt: &R, alloc: Global) -> Option<bool>
     }
 }
 
+/// The gate is called for each of three stations in each of seven windows.
 #[test]
 fn worked_example_by_any_number_of_workers(rt: HostRuntime) {
     for count in 1..=16 {
-        let workers = Workers { count };
-        assert!(rt;
-            windows_are(&rt, rt.alloc(), &Stealing { workers }, &NoGate) == Some(true),
-            "{}",
-            count
-        );
+        let gate = Notes::new(Held::Nothing, true);
+        let right = lead_crew(&rt, rt.alloc(), &gate, Workers { count }, Study::Worked);
+        assert!(rt; right == Some(true) && gate.begun() == 21, "{}", count);
     }
 }
 
+/// The caller is held at its first task of the second window until the member has begun one.
 #[test]
-fn windows_counted(rt: HostRuntime) {
-    let gate = Counts {
-        calls: AtomicU64::new(0),
-    };
-    let right = windows_are(&rt, rt.alloc(), &Serial, &gate) == Some(true);
-    assert!(rt; right && gate.calls.load(Ordering::SeqCst) == 21);
+fn busy_windows_run_by_a_crew(rt: HostRuntime) {
+    let gate = Notes::new(Held::Caller { except: 2 }, false);
+    let right = lead_crew(&rt, rt.alloc(), &gate, Workers { count: 2 }, Study::Busy);
+    assert!(rt; right == Some(true) && gate.have_begun(0b11));
 }
 
 #[test]
 fn clones_that_are_alike(rt: HostRuntime) {
-    assert!(rt; all_is_shared(&rt, rt.alloc()) == Some(true));
+    assert!(rt; all_is_shared(rt.alloc()) == Some(true));
 }
 
 #[test]
 fn looks_at_three_clones(rt: HostRuntime) {
-    assert!(rt; looks_find_three(&rt, rt.alloc()) == Some(true));
-}
-
-#[test]
-fn busy_windows_run_on_two_threads(rt: HostRuntime) {
-    let gate = Ran {
-        workers: AtomicU64::new(0),
-    };
-    let world = match busy(rt.alloc()) {
-        Some(world) => three_windows(&rt, rt.alloc(), &gate, world),
-        None => None,
-    };
-    let right = have_come(world);
-    assert!(rt; right && gate.workers.load(Ordering::SeqCst) == 0b11);
-}
-
-#[test]
-fn busy_windows_run_by_a_team(rt: HostRuntime) {
-    let gate = HoldsBusyWindows {
-        calls: AtomicU64::new(0),
-        ran: Ran {
-            workers: AtomicU64::new(0),
-        },
-    };
-    let right = have_come(three_windows_by_team(&rt, rt.alloc(), &gate));
-    assert!(rt; right && gate.ran.workers.load(Ordering::SeqCst) == 0b11);
+    assert!(rt; looks_find_three(rt.alloc()) == Some(true));
 }
 
 #[test]
 fn other_cuttings_and_ends(rt: HostRuntime) {
-    assert!(rt; short_windows_are(&rt, rt.alloc()) == Some(true));
-    assert!(rt; ended_clone_rests(&rt, rt.alloc()) == Some(true));
+    assert!(rt; short_windows_are(rt.alloc()) == Some(true));
+    assert!(rt; ended_clone_rests(rt.alloc()) == Some(true));
 }
 
 #[test]
 fn fork_in_the_middle(rt: HostRuntime) {
-    assert!(rt; forks_late(&rt, rt.alloc()) == Some(true));
+    assert!(rt; forks_late(rt.alloc()) == Some(true));
 }
 
 #[test]
 fn limit_names_least_station_and_clone(rt: HostRuntime) {
-    assert!(rt; limit_is_met(&rt, rt.alloc()) == Some(true));
+    assert!(rt; limit_is_met(rt.alloc()) == Some(true));
 }

@@ -11,6 +11,7 @@ pub mod Told
 pub mod Closing
 pub mod Ending
 pub mod Working
+pub mod Handled
 pub mod Looking
 pub mod Preparing
 pub mod Staying

@@ -1,10 +1,13 @@
 -- The engine's way to the horizon: what it begins with, and what it comes to.
-use Rattle.std.specs.Prelude.{◌≡◌, ◌<◌, ℕ, List, Result, IfOk, IfErr}
+use Rattle.std.specs.Prelude.{◌≡◌, ◌+◌, ◌<◌, ◌≤◌, ℕ, List, length, Result, IfOk, IfErr}
 use Rattle.atomic_table.specs.Seated.{TableId}
 use Rattle.decision_desk.specs.Passes.{HelmView}
 use Rattle.phys_proc.specs.Racks.{RackView}
-use Rattle.world_core.specs.Worlds.{WorldView}
+use Rattle.decision_book.specs.Journal.{after}
+use Rattle.world_core.specs.Overs.{most_handled}
+use Rattle.world_core.specs.Worlds.{WorldView, total_handled}
 use Rattle.study_run.specs.declared.fault.StudyFault.{StudyFault}
+use Rattle.study_run.specs.declared.fault.StudyFault.TheVariants.{NoMemory, LimitMet}
 use Rattle.live_study.specs.Engines.{InStep, Steers, StopsEngine}
 use Rattle.live_study.specs.Looks.{AreAtFront}
 use Rattle.live_study.specs.Showing.{AreShownOf, AreShownTo}
@@ -41,3 +44,15 @@ pub record HasDriven (old new : HelmView) (published : List RackView) (run : Res
   pub shown : IfOk run (λ w. AreShownOf new w published)
   -- or it stopped, out of memory or at the limit
   pub stops : IfErr run (λ e. StopsEngine new.net new.helm e)
+
+-- from the first world to the second each message was counted once for all clones that share it
+abbrev pub CountsOnce : WorldView → WorldView → ℕ → ℕ → Type 0
+CountsOnce old new old_steps new_steps =
+    new_steps + total_handled old.net old.clones old.front ≡ old_steps + total_handled new.net new.clones new.front
+
+-- where the limit is met, no more were counted than it allows the clones that the helm's journal leaves
+abbrev pub CountsFew : HelmView → WorldView → ℕ → ℕ → StudyFault → Type 0
+CountsFew h old old_steps new_steps NoMemory = Unit {0}
+CountsFew h old old_steps new_steps (LimitMet station who) =
+    new_steps + total_handled old.net old.clones old.front
+    ≤ old_steps + most_handled h.net (length (after h.net h.helm).clones)

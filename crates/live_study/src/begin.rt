@@ -45,6 +45,7 @@ pub(crate) fn analysts_of<J: Naming>(
     seats: Vec<Seat<J>>,
 ) -> Result<Vec<(Analyst, Seat<J>)>, NoMemory>
     requires few { length passes.items ≤ MOST_ANALYSTS }
+    requires seats { length seats.items ≡ length passes.items }
     ensures passes { IfOk result (λ v. map (λ a. a.0.pass) v.items ≡ passes.items) }
     ensures numbers { IfOk result (λ v. map (λ a. a.0.number) v.items ≡ numbers_to (length passes.items)) }
     ensures todo { IfOk result (λ v.
@@ -56,9 +57,8 @@ pub(crate) fn analysts_of<J: Naming>(
     let mut seated = Vec::with_capacity(alloc, passes.len())?;
     let mut number = 0;
     for pass in passes {
-        // never: `take_seats` gives as many seats as passes
         let Some(seat) = seats.pop() else {
-            return Err(NoMemory);
+            unreachable!()
         };
         number += 1;
         let todo = acts_of(alloc, script, number)?;

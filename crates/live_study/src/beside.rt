@@ -1,26 +1,23 @@
-//! The engine beside the workers of a team, which step the stations (logical processes) of its larger windows.
+//! The engine beside the other members of its crew, which step the stations (logical processes) of larger windows.
 ghost use Rattle.decision_desk.specs.Desks.{desk_id};
 ghost use Rattle.live_study.specs.Driving.{HasDriven, MayDrive};
 
 use crate::engine::drive_alone;
-use crew_pool::{Crew, Gate};
+use crew_pool::{Bell, Crew, Gate, Member, Workers, serve_all};
 use decision_desk::{Desk, Helm};
 use shelf::{Naming, Stocker};
-use standing_crew::{Bell, Member, serve_all};
 use std::alloc::Global;
 use std::sync::Wait;
 use std::thread;
 use std::thread::Threads;
-use study_run::StudyFault;
-use study_run::crew::begin_team;
+use study_run::{NewCrew, StudyFault, begin_crew};
 use world_core::{Window, World};
 
-// The engine runs to the horizon, and then tells the workers that no more windows come.
-fn drive_and_end<C: Crew, G: Gate, J: Naming, W: Wait + Drop, R: Threads + Wait + Sync>(
+// The engine runs to the horizon, and then tells the members that no more windows come.
+fn drive_and_end<G: Gate, J: Naming, W: Wait + Drop, R: Wait>(
     rt: &R,
     alloc: Global,
-    crew: &C,
-    gate: &G,
+    crew: Crew<'_, Window, G>,
     desk: &Desk,
     helm: Helm,
     world: World,
@@ -31,56 +28,45 @@ fn drive_and_end<C: Crew, G: Gate, J: Naming, W: Wait + Drop, R: Threads + Wait 
     requires may_drive { MayDrive (desk_id desk.now) helm world stocker.published }
     ensures driven { HasDriven helm result.0 result.1.published result.2 }
 {
-    let done = drive_alone(rt, alloc, crew, gate, desk, helm, world, stocker, watched);
+    let done = drive_alone(rt, alloc, Some(crew), desk, helm, world, stocker, watched);
     bell.end();
     done
 }
 
-// The engine beside the workers of the world's team.
-fn drive_beside<C: Crew, G: Gate, J: Naming, W: Wait + Drop, R: Threads + Wait + Sync>(
+// The engine beside the other members of its crew.
+fn drive_beside<G: Gate, J: Naming, W: Wait + Drop, R: Threads + Wait + Sync>(
     rt: &R,
     alloc: Global,
-    crew: &C,
-    gate: &G,
+    crew: Crew<'_, Window, G>,
+    members: Vec<Member<'_, Window, G>>,
+    bell: &Bell,
     desk: &Desk,
     helm: Helm,
     world: World,
     stocker: Stocker<J, W>,
     watched: &[bool],
-    members: Vec<Member<Window>>,
-    bell: &Bell,
 ) -> (Helm, Stocker<J, W>, Result<World, StudyFault>)
     requires may_drive { MayDrive (desk_id desk.now) helm world stocker.published }
     ensures driven { HasDriven helm result.0 result.1.published result.2 }
 {
     let (_, done) = thread::join(
         rt,
-        move || serve_all(rt, alloc, gate, bell, members),
+        move || serve_all(rt, alloc, bell, members),
         move || -> (Helm, Stocker<J, W>, Result<World, StudyFault>)
             requires { MayDrive (desk_id desk.now) helm world stocker.published }
             ensures { HasDriven helm result.0 result.1.published result.2 }
-        {
-            drive_and_end(
-                rt, alloc, crew, gate, desk, helm, world, stocker, watched, bell,
-            )
-        },
+        { drive_and_end(rt, alloc, crew, desk, helm, world, stocker, watched, bell) },
     );
     done
 }
 
-/// The engine runs to the horizon, publishes on its way, and hands helm and stocker back in any case. Where the crew
-/// has several workers it has a team of as many; where there is no memory for one, it has none.
-pub(crate) fn drive_with_team<
-    C: Crew,
-    G: Gate,
-    J: Naming,
-    W: Wait + Drop,
-    R: Threads + Wait + Sync,
->(
+/// The engine runs to the horizon, publishes on its way, and hands helm and stocker back in any case. If there is no
+/// memory for its crew, it has none.
+pub(crate) fn drive_with_crew<'g, G: Gate, J: Naming, W: Wait + Drop, R: Threads + Wait + Sync>(
     rt: &R,
     alloc: Global,
-    crew: &C,
-    gate: &G,
+    workers: Workers,
+    gate: &'g G,
     desk: &Desk,
     helm: Helm,
     world: World,
@@ -90,11 +76,21 @@ pub(crate) fn drive_with_team<
     requires may_drive { MayDrive (desk_id desk.now) helm world stocker.published }
     ensures driven { HasDriven helm result.0 result.1.published result.2 }
 {
-    if let Some((team, members, bell)) = begin_team(alloc, crew.kind()) {
-        let world = world.with_team(team);
-        return drive_beside(
-            rt, alloc, crew, gate, desk, helm, world, stocker, watched, members, &bell,
-        );
+    let Some(
+        NewCrew {
+            crew,
+            members,
+            bell,
+        },
+    ) = begin_crew(alloc, gate, workers)
+    else {
+        let none: Option<Crew<'g, Window, G>> = None;
+        return drive_alone(rt, alloc, none, desk, helm, world, stocker, watched);
+    };
+    if members.is_empty() {
+        return drive_alone(rt, alloc, Some(crew), desk, helm, world, stocker, watched);
     }
-    drive_alone(rt, alloc, crew, gate, desk, helm, world, stocker, watched)
+    drive_beside(
+        rt, alloc, crew, members, &bell, desk, helm, world, stocker, watched,
+    )
 }

@@ -1,9 +1,12 @@
 //! The engine's part: conservative time windows up to the fronts that the desk gives, until the horizon.
-ghost use Rattle.std.specs.Prelude.{◌≡◌, ◌-◌, ◌<◌, IfOk, IfErr, OnOk};
+ghost use Rattle.std.specs.Prelude.{◌≡◌, ◌+◌, ◌-◌, ◌<◌, ◌≤◌, IfOk, IfErr, OnOk};
 ghost use Rattle.net_model.specs.Net.{HasStation};
+ghost use Rattle.stations.specs.Runs.{next_front};
+ghost use Rattle.world_core.specs.Overs.{IsFault, NoneBeyond};
+ghost use Rattle.world_core.specs.Worlds.{total_handled};
 ghost use Rattle.decision_desk.specs.Desks.{desk_id};
 ghost use Rattle.decision_desk.specs.Leasts.{leasts_of};
-ghost use Rattle.live_study.specs.Driving.{HasDriven, MayDrive, MayShow, MayTurn};
+ghost use Rattle.live_study.specs.Driving.{CountsFew, CountsOnce, HasDriven, MayDrive, MayShow, MayTurn};
 ghost use Rattle.live_study.specs.Engines.{InStep, IsAhead, Steers, StopsEngine};
 ghost use Rattle.live_study.specs.Showing.{AreShownOf, AreShownTo, Raises};
 
@@ -15,9 +18,8 @@ use std::alloc::Global;
 use std::marker::Brand;
 use std::sync::Wait;
 use std::sync::ledger::{Blank, Ledger};
-use std::thread::Threads;
 use study_run::{StudyFault, fault_of_window};
-use world_core::World;
+use world_core::{Window, World, WorldFault};
 
 // The least time that is due in each clone.
 fn least_due_times(alloc: Global, world: &World) -> Result<Vec<Option<u64>>, NoMemory>
@@ -44,6 +46,8 @@ fn take_turn<R: Wait>(
     ensures ahead { IfOk result (λ r. IsAhead helm.new r.0 r.1) }
     ensures raises { IfOk result (λ r. Raises helm.old helm.new r.1) }
     ensures same { IfOk result (λ r. r.0.front ≡ world.front) }
+    ensures handled { IfOk result (λ r. total_handled r.0.net r.0.clones r.0.front
+        ≡ total_handled world.net world.clones world.front) }
 {
     let leasts = least_due_times(alloc, &world)?;
     let turn = helm.next(rt, alloc, desk, leasts.as_slice())?;
@@ -100,12 +104,34 @@ fn show<J: Naming, W: Wait + Drop>(
     Ok(())
 }
 
-// A turn of the helm, and its window.
-fn take_window<C: Crew, G: Gate, L: Ledger, R: Threads + Wait + Sync>(
+// The window to a bound: by the crew, or in this thread if there is none.
+fn run_window<G: Gate, L: Ledger, R: Wait>(
     rt: &R,
     alloc: Global,
-    crew: &C,
-    gate: &G,
+    crew: &mut Option<Crew<'_, Window, G>>,
+    world: World,
+    bound: u64,
+    steps: &mut Steps<L>,
+) -> Result<World, WorldFault>
+    requires above { world.front < bound }
+    requires within { bound ≤ next_front world.net world.clones world.front }
+    ensures value { IfOk result (λ w. w ≡ record world { front = bound }) }
+    ensures steps { IfOk result (λ w. steps.new + total_handled world.net world.clones world.front
+        ≡ steps.old + total_handled world.net world.clones bound) }
+    ensures short { IfOk result (λ w. NoneBeyond world.net world.clones bound) }
+    ensures fault { IfErr result (λ e. IsFault world.net world.clones world.front bound steps.old steps.new e) }
+{
+    match crew {
+        Some(crew) => world.window(rt, alloc, crew, bound, steps),
+        None => world.window_in_place(alloc, bound, steps),
+    }
+}
+
+// A turn of the helm, and its window.
+fn take_window<G: Gate, L: Ledger, R: Wait>(
+    rt: &R,
+    alloc: Global,
+    crew: &mut Option<Crew<'_, Window, G>>,
     desk: &Desk,
     helm: &mut Helm,
     world: World,
@@ -117,29 +143,24 @@ fn take_window<C: Crew, G: Gate, L: Ledger, R: Threads + Wait + Sync>(
     ensures raises { IfOk result (λ w. Raises helm.old helm.new w.front) }
     ensures rises { IfOk result (λ w. world.front < w.front) }
     ensures stops { IfErr result (λ e. StopsEngine helm.new.net helm.new.helm e) }
+    // what is counted: each message that is handled, once for all clones that share it
+    ensures steps { IfOk result (λ w. CountsOnce world w steps.old steps.new) }
+    ensures few { IfErr result (λ e. CountsFew helm.new world steps.old steps.new e) }
 {
     let Ok((world, bound)) = take_turn(rt, alloc, desk, helm, world) else {
         return Err(StudyFault::NoMemory);
     };
-    match world.window(rt, alloc, crew, gate, bound, steps) {
+    match run_window(rt, alloc, crew, world, bound, steps) {
         Ok(world) => Ok(world),
         Err(fault) => Err(fault_of_window(fault)),
     }
 }
 
 // A turn of the helm and its window, and then readers are shown its result.
-fn take_window_and_show<
-    C: Crew,
-    G: Gate,
-    J: Naming,
-    L: Ledger,
-    W: Wait + Drop,
-    R: Threads + Wait + Sync,
->(
+fn take_window_and_show<G: Gate, J: Naming, L: Ledger, W: Wait + Drop, R: Wait>(
     rt: &R,
     alloc: Global,
-    crew: &C,
-    gate: &G,
+    crew: &mut Option<Crew<'_, Window, G>>,
     desk: &Desk,
     helm: &mut Helm,
     world: World,
@@ -157,8 +178,11 @@ fn take_window_and_show<
     ensures shown { IfOk result (λ w. AreShownOf helm.new w stocker.new.published) }
     // or why the engine stops, over the journal of the helm
     ensures stops { IfErr result (λ e. StopsEngine helm.new.net helm.new.helm e) }
+    // what is counted
+    ensures steps { IfOk result (λ w. CountsOnce world w steps.old steps.new) }
+    ensures few { IfErr result (λ e. CountsFew helm.new world steps.old steps.new e) }
 {
-    let mut world = take_window(rt, alloc, crew, gate, desk, helm, world, steps)?;
+    let mut world = take_window(rt, alloc, crew, desk, helm, world, steps)?;
     match show(alloc, helm, &mut world, stocker, watched) {
         Ok(()) => Ok(world),
         Err(NoMemory) => Err(StudyFault::NoMemory),
@@ -166,11 +190,10 @@ fn take_window_and_show<
 }
 
 // The engine runs to the horizon, and hands its helm back in any case.
-fn drive<C: Crew, G: Gate, J: Naming, L: Ledger, W: Wait + Drop, R: Threads + Wait + Sync>(
+fn drive<G: Gate, J: Naming, L: Ledger, W: Wait + Drop, R: Wait>(
     rt: &R,
     alloc: Global,
-    crew: &C,
-    gate: &G,
+    crew: &mut Option<Crew<'_, Window, G>>,
     desk: &Desk,
     mut helm: Helm,
     mut world: World,
@@ -180,10 +203,12 @@ fn drive<C: Crew, G: Gate, J: Naming, L: Ledger, W: Wait + Drop, R: Threads + Wa
 ) -> (Helm, Result<World, StudyFault>)
     requires may_drive { MayDrive (desk_id desk.now) helm world stocker.old.published }
     ensures driven { HasDriven helm result.0 stocker.new.published result.1 }
+    ensures steps { IfOk result.1 (λ w. CountsOnce world w steps.old steps.new) }
+    ensures few { IfErr result.1 (λ e. CountsFew result.0 world steps.old steps.new e) }
 {
     'turns: while world.front() < world.model().horizon() {
         world = match take_window_and_show(
-            rt, alloc, crew, gate, desk, &mut helm, world, stocker, watched, steps,
+            rt, alloc, crew, desk, &mut helm, world, stocker, watched, steps,
         ) {
             Ok(world) => world,
             Err(fault) => return (helm, Err(fault)),
@@ -193,11 +218,10 @@ fn drive<C: Crew, G: Gate, J: Naming, L: Ledger, W: Wait + Drop, R: Threads + Wa
 }
 
 // The same on the counter that the blank makes.
-fn drive_counted<C: Crew, G: Gate, J: Naming, L: Ledger, W: Wait + Drop, R: Threads + Wait + Sync>(
+fn drive_counted<G: Gate, J: Naming, L: Ledger, W: Wait + Drop, R: Wait>(
     rt: &R,
     alloc: Global,
-    crew: &C,
-    gate: &G,
+    crew: &mut Option<Crew<'_, Window, G>>,
     desk: &Desk,
     helm: Helm,
     world: World,
@@ -213,17 +237,16 @@ fn drive_counted<C: Crew, G: Gate, J: Naming, L: Ledger, W: Wait + Drop, R: Thre
 {
     let mut steps = Steps::<L>::new(blank);
     drive(
-        rt, alloc, crew, gate, desk, helm, world, stocker, watched, &mut steps,
+        rt, alloc, crew, desk, helm, world, stocker, watched, &mut steps,
     )
 }
 
 /// The engine runs to the horizon, publishes on its way, and hands helm and stocker back in any case. Nobody else sees
 /// its counter.
-pub(crate) fn drive_alone<C: Crew, G: Gate, J: Naming, W: Wait + Drop, R: Threads + Wait + Sync>(
+pub(crate) fn drive_alone<G: Gate, J: Naming, W: Wait + Drop, R: Wait>(
     rt: &R,
     alloc: Global,
-    crew: &C,
-    gate: &G,
+    mut crew: Option<Crew<'_, Window, G>>,
     desk: &Desk,
     helm: Helm,
     world: World,
@@ -233,11 +256,10 @@ pub(crate) fn drive_alone<C: Crew, G: Gate, J: Naming, W: Wait + Drop, R: Thread
     requires may_drive { MayDrive (desk_id desk.now) helm world stocker.published }
     ensures driven { HasDriven helm result.0 result.1.published result.2 }
 {
-    let (helm, world) = drive_counted::<C, G, J, Brand, W, R>(
+    let (helm, world) = drive_counted::<G, J, Brand, W, R>(
         rt,
         alloc,
-        crew,
-        gate,
+        &mut crew,
         desk,
         helm,
         world,

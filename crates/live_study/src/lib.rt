@@ -18,7 +18,7 @@
 //! rack at its seat, and waits for nobody.
 //!
 //! ```text
-//! let live = live_study(&rt, alloc, &crew, &gate, &model, &script, &mut steps)?;
+//! let live = live_study(&rt, alloc, workers, &gate, &model, &script, &mut steps)?;
 //! let text = live_journal_text(alloc, &script, &live)?;
 //! ```
 //!

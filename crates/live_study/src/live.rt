@@ -17,10 +17,10 @@ ghost use Rattle.live_study.specs.Showing.{AllCaughtUp, HaveActed, looks_to_make
 
 use crate::analyst::Analyst;
 use crate::asking::act_everyone;
-use crate::beside::drive_with_team;
+use crate::beside::drive_with_crew;
 use crate::reserve::Reserve;
 use crate::run::LiveRun;
-use crew_pool::{Crew, Gate};
+use crew_pool::{Gate, Workers};
 use decision_desk::{Desk, Helm};
 use net_model::Model;
 use shelf::{Naming, Seat, Stocker, Told};
@@ -32,16 +32,10 @@ use study_run::StudyFault;
 use world_core::World;
 
 // The engine beside all analysts. All threads are joined.
-fn side_by_side<
-    C: Crew + Sync,
-    G: Gate,
-    J: Naming + Send + Sync,
-    W: Wait + Drop + Send,
-    R: Threads + Wait + Sync,
->(
+fn side_by_side<G: Gate, J: Naming + Send + Sync, W: Wait + Drop + Send, R: Threads + Wait + Sync>(
     rt: &R,
     alloc: Global,
-    crew: &C,
+    workers: Workers,
     gate: &G,
     model: &Model,
     desk: &Desk,
@@ -64,7 +58,11 @@ fn side_by_side<
         move || -> (Helm, Stocker<J, W>, Result<World, StudyFault>)
             requires { MayDrive (desk_id desk.now) helm world stocker.published }
             ensures { HasDriven helm result.0 result.1.published result.2 }
-        { drive_with_team(rt, alloc, crew, gate, desk, helm, world, stocker, watched) },
+        {
+            drive_with_crew(
+                rt, alloc, workers, gate, desk, helm, world, stocker, watched,
+            )
+        },
         move || -> Vec<(Analyst, Seat<J>)>
             requires { AreReadyAll (desk_id desk.now) model.now seated.items }
             ensures { HaveActed (desk_id desk.entry.now) model.entry.now seated.items result.items }
@@ -170,7 +168,6 @@ fn if_caught_up(caught_up: bool, run: Result<World, StudyFault>) -> Result<World
 /// Runs the engine beside all analysts, and closes the desk. All threads are joined, however it ends; nothing is
 /// reserved behind that, so the book and the looks are there in any case.
 pub(crate) fn run_live<
-    C: Crew + Sync,
     G: Gate,
     J: Naming + Send + Sync,
     W: Wait + Drop + Send,
@@ -178,7 +175,7 @@ pub(crate) fn run_live<
 >(
     rt: &R,
     alloc: Global,
-    crew: &C,
+    workers: Workers,
     gate: &G,
     model: &Model,
     desk: Desk,
@@ -208,7 +205,7 @@ pub(crate) fn run_live<
     ensures stopped { IfErr result.run (λ e. StopsEngine helm.net result.book.events e) }
 {
     let ((helm, mut stocker, run), seated) = side_by_side(
-        rt, alloc, crew, gate, model, &desk, helm, world, stocker, watched, seated,
+        rt, alloc, workers, gate, model, &desk, helm, world, stocker, watched, seated,
     );
     let (reserve, caught_up) = close_looks(model, &mut stocker, seated, reserve);
     let Reserve { passes, looks } = reserve;

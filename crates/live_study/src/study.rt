@@ -17,7 +17,7 @@ use crate::prepared::Prepared;
 use crate::reserve::Reserve;
 use crate::run::LiveRun;
 use crate::work::count_run;
-use crew_pool::{Crew, Gate};
+use crew_pool::{Gate, Workers};
 use decision_desk::{Desk, Helm, Pass};
 use decision_script::Script;
 use net_model::Model;
@@ -112,17 +112,11 @@ fn take_seats<J: Naming, W: Wait + Drop>(
 }
 
 // The study, over a history of racks that gets its name here.
-fn run_prepared<
-    C: Crew + Sync,
-    G: Gate,
-    J: Naming + Send + Sync,
-    W: Wait + Drop + Send,
-    R: Threads + Wait + Sync,
->(
+fn run_prepared<G: Gate, J: Naming + Send + Sync, W: Wait + Drop + Send, R: Threads + Wait + Sync>(
     rt: &R,
     waits: W,
     alloc: Global,
-    crew: &C,
+    workers: Workers,
     gate: &G,
     model: &Model,
     script: &Script,
@@ -148,7 +142,7 @@ fn run_prepared<
     Ok(run_live(
         rt,
         alloc,
-        crew,
+        workers,
         gate,
         model,
         desk,
@@ -163,10 +157,10 @@ fn run_prepared<
 
 /// Runs a live study: each analyst of the script decides and looks in a thread of its own, beside the engine. Out of
 /// memory before the threads start, there is no journal; from then on there is one.
-pub fn live_study<C: Crew + Sync, G: Gate, L: Ledger, R: Threads + Wait + Sync>(
+pub fn live_study<G: Gate, L: Ledger, R: Threads + Wait + Sync>(
     rt: &R,
     alloc: Global,
-    crew: &C,
+    workers: Workers,
     gate: &G,
     model: &Arc<Model>,
     script: &Script,
@@ -183,8 +177,8 @@ pub fn live_study<C: Crew + Sync, G: Gate, L: Ledger, R: Threads + Wait + Sync>(
 {
     let prepared = prepare(alloc, model, script)?;
     let opened = NewHistory::new();
-    let live = run_prepared::<C, G, Brand, &R, R>(
-        rt, rt, alloc, crew, gate, model, script, prepared, opened,
+    let live = run_prepared::<G, Brand, &R, R>(
+        rt, rt, alloc, workers, gate, model, script, prepared, opened,
     )?;
     count_run(&live.run, steps);
     Ok(live)

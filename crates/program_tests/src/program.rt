@@ -19,8 +19,24 @@ use sim_outer::{MemInputs, MemSink, Word};
 use std::alloc::Global;
 use std::marker::Brand;
 use std::sync::Wait;
+use std::sync::atomic::{AtomicU64, Ordering};
 use std::sync::ledger::{Blank, Ledger};
+use std::thread;
 use std::thread::Threads;
+
+/// How often a gate looks whether the other side has come so far, before it gives up.
+const TURNS: u32 = 1_000_000;
+
+/// Waits until a count is at least `least`. `false`: it gave up.
+fn comes(count: &AtomicU64, least: u64) -> bool {
+    for _turn in 0..TURNS {
+        if count.load(Ordering::SeqCst) >= least {
+            return true;
+        }
+        thread::yield_now();
+    }
+    false
+}
 
 /// How the outside behaves: the calls that fail, with the bytes that they take, and how many bytes the output takes.
 #[derive(Clone, Copy)]

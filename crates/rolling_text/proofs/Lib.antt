@@ -1,3 +1,4 @@
+pub mod TextOrders
 pub mod SamePlans
 pub mod Joined
 pub mod Heads
@@ -6,7 +7,8 @@ pub mod Puts
 pub mod Partings
 pub mod LogLaws
 pub mod Spans
-pub mod InOrder
+pub mod SpanPuts
+pub mod Batching
 pub mod ShortLists
 pub mod Keeping
 pub mod ShortLines

@@ -356,16 +356,23 @@ lengths_more net c t n =
 
 -- ---- the same of what contracts see of a world's traces
 
-module _ (world : WorldView) (over : IsOver world) (view : WorldTracesView)
-    (seen : record { net = world.net; clones = world.clones } ≡ view) (c : ℕ) (there : c < length view.clones) where
-  -- the clone is there in the world too
-  pub there_too : c < length world.clones
-  there_too = subst (λ (v : WorldTracesView). c < length v.clones) (sym seen) there
+module _ (world : WorldView) (over : IsOver world) (view : WorldTracesView) (cs : List Clone)
+    (seen : record { net = world.net; clones = cs } ≡ view) (c k : ℕ) (there : k < length world.clones)
+    (same : clone_at cs c ≡ clone_at world.clones k) where
+  -- what holds of the clone in the world holds of the one that is seen
+  pub as_seen : (P : Net → Clone → Type 0) → P world.net (clone_at world.clones k) →
+      P view.net (clone_at view.clones c)
+  as_seen P h = subst (λ (v : WorldTracesView). P v.net (clone_at v.clones c)) seen (subst (P world.net) (sym same) h)
+
+  -- and the other way round
+  pub in_world : (P : Net → Clone → Type 0) → P view.net (clone_at view.clones c) →
+      P world.net (clone_at world.clones k)
+  in_world P h =
+      subst (P world.net) same (subst (λ (v : WorldTracesView). P v.net (clone_at v.clones c)) (sym seen) h)
 
   -- nothing is left at the horizon
   pub no_rest_seen : (t : ℕ) → world.net.horizon ≤ t → length (rest view.net (clone_at view.clones c) t) ≡ 0
-  no_rest_seen t late = subst (λ (v : WorldTracesView). length (rest v.net (clone_at v.clones c) t) ≡ 0) seen
-      (no_rest world over c there_too t late)
+  no_rest_seen t late = as_seen (λ n d. length (rest n d t) ≡ 0) (no_rest world over k there t late)
 
 -- ---- rest
 

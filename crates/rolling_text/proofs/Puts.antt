@@ -138,6 +138,11 @@ module _ (head rest text : List ℕ) (is : head ++ rest ≡ text) (v0 v1 v2 : Si
 
 -- ---- IsPutTo, with a page and then without one
 
+-- what is kept is put with a page
+pub put_kept : (keeps : Bool) (all left : List ℕ) (p q : PageView) (old new : SinkView) → keeps ≡ true →
+    IsPutTo keeps all left p q old new → IsPutTo true all left p q old new
+put_kept keeps all left p q old new is h = subst (λ k. IsPutTo k all left p q old new) is h
+
 -- some of it is kept, and what comes then is put alone
 pub both_taken : (all left less : List ℕ) (p q r : PageView) (old mid new : SinkView) → less ≡ []
     → IsPutTo true all left p q old mid → IsPutTo false left less q r mid new → IsPartPut all old new

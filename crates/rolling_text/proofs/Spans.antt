@@ -1,5 +1,5 @@
 -- The lines of a span of time.
-use Rattle.std.proofs.Common.{◌≡◌, ℕ, ◌-◌, ◌<◌, ◌≤◌, sym, subst, ap, ◌∙◌, arith, Bool, List, [], ◌++◌}
+use Rattle.std.proofs.Common.{◌≡◌, ℕ, ◌-◌, ◌<◌, ◌≤◌, refl, sym, subst, ap, ◌∙◌, arith, Bool, List, [], ◌++◌}
 use Rattle.std.proofs.Common.{length, drop, Result, Ok, Err, OnOk}
 use Rattle.std.proofs.lemmas.List.{nil_from_length}
 use Rattle.std.specs.List.{flat_map}
@@ -17,7 +17,7 @@ use Rattle.rolling_text.specs.Pages.{PageView}
 use Rattle.rolling_text.specs.Puts.{IsPutTo}
 use Rattle.rolling_text.specs.Texts.{rest}
 use Rattle.rolling_text.specs.WorldTraces.{IsOver, WorldTracesView}
-use Rattle.rolling_text.proofs.LogLaws.{fewer_later, left_later, lines_are, none_over, no_rest_seen, there_too}
+use Rattle.rolling_text.proofs.LogLaws.{as_seen, fewer_later, left_later, lines_are, none_over, no_rest_seen}
 
 -- ---- OnOk
 
@@ -54,41 +54,43 @@ module _ (net model : Net) (c : Clone) (from until count : ℕ) (left others : L
 
 -- ---- a span out of a world's logs
 
-module _ (world : WorldView) (over : IsOver world) (view : WorldTracesView)
-    (seen : record { net = world.net; clones = world.clones } ≡ view) (c : ℕ) (there : c < length view.clones) where
+module _ (world : WorldView) (over : IsOver world) (view : WorldTracesView) (cs : List Clone)
+    (seen : record { net = world.net; clones = cs } ≡ view) (c k : ℕ) (there : k < length world.clones)
+    (same : clone_at cs c ≡ clone_at world.clones k) where
   -- the entries of the clone from a time on
   abbrev trace_from : ℕ → List (Entry Msg Line)
-  trace_from t = entries_from (simulation world.net) t (trace_of world.net (clone_at world.clones c))
+  trace_from t = entries_from (simulation world.net) t (trace_of world.net (clone_at world.clones k))
+
+  -- those that are seen
+  abbrev seen_from : ℕ → List (Entry Msg Line)
+  seen_from t = entries_from (simulation view.net) t (trace_of view.net (clone_at view.clones c))
+
+  -- they are the same
+  from_seen : (t : ℕ) → trace_from t ≡ seen_from t
+  from_seen t = as_seen world over view cs seen c k there same
+      (λ n d. trace_from t ≡ entries_from (simulation n) t (trace_of n d)) refl
 
   -- as many entries of what a cursor was given as come before another time, and then what comes from there on
   pub span_seen : (from until all some : ℕ) (left : List (Entry Msg Line)) → from ≤ until → left ≡ trace_from from
       → all ≡ length left → some ≡ length (trace_from until)
-      → (some ≤ all) × (left ≡ entries_from (simulation view.net) from (trace_of view.net (clone_at view.clones c)))
-      × (drop (all - some) left ≡ entries_from (simulation view.net) until (trace_of view.net (clone_at view.clones c)))
+      → (some ≤ all) × (left ≡ seen_from from) × (drop (all - some) left ≡ seen_from until)
   span_seen from until all some left order given count few =
-      let here = there_too world over view seen c there in
-      let entries = count ∙ ap length given in
-      let as_seen : (t : ℕ) → trace_from t
-      ≡ entries_from (simulation view.net) t (trace_of view.net (clone_at view.clones c)) =
-      λ t. ap (λ (v : WorldTracesView). entries_from (simulation v.net) t
-      (trace_of v.net (clone_at v.clones c))) seen in (
-        fewer_later world over c here from until all some order entries few,
-        given ∙ as_seen from,
-        ap (drop (all - some)) given ∙ left_later world over c here from until all some order entries few
-            ∙ as_seen until,
+      let entries = count ∙ ap length given in (
+        fewer_later world over k there from until all some order entries few,
+        given ∙ from_seen from,
+        ap (drop (all - some)) given ∙ left_later world over k there from until all some order entries few
+            ∙ from_seen until,
       )
 
   -- at the horizon those are all
   pub span_over : (from until all : ℕ) (left : List (Entry Msg Line)) → from ≤ until → world.net.horizon ≤ until
       → left ≡ trace_from from → all ≡ length left
-      → (left ≡ entries_from (simulation view.net) from (trace_of view.net (clone_at view.clones c)))
-      × (drop all left ≡ entries_from (simulation view.net) until (trace_of view.net (clone_at view.clones c)))
+      → (left ≡ seen_from from) × (drop all left ≡ seen_from until)
   span_over from until all left order beyond given count =
-      let span = span_seen from until all 0 left order given count
-      (sym (none_over world over c (there_too world over view seen c there) until beyond)) in
+      let span = span_seen from until all 0 left order given count (sym (none_over world over k there until beyond)) in
       let whole : all ≡ all - 0 = omega arith in (span.1, ap (λ n. drop n left) whole ∙ span.2)
 
   -- from there on no line comes
   pub no_rest : (end : ℕ) → world.net.horizon ≤ end → rest view.net (clone_at view.clones c) end ≡ []
   no_rest end beyond = nil_from_length (rest view.net (clone_at view.clones c) end)
-      (no_rest_seen world over view seen c there end beyond)
+      (no_rest_seen world over view cs seen c k there same end beyond)

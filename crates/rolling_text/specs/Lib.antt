@@ -4,5 +4,6 @@ pub mod WorldTraces
 pub mod Texts
 pub mod Puts
 pub mod Orders
-pub mod GivenSpans
 pub mod TextSpans
+pub mod Batches
+pub mod ReadyLines

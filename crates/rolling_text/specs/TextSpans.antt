@@ -14,20 +14,25 @@ use Rattle.rolling_text.specs.declared.texts.Texts.{Texts}
 abbrev pub span_of : WorldTracesView → TextSpan → Span
 span_of traces span = span_between traces span.c span.from span.until
 
--- it may be put: its clone is there, and a page that keeps it has free bytes for it and for all lines behind it
+-- a span of the same clone comes just before this one
+pub record IsUpTo (span before : TextSpan) : Type 0 where
+  pub same : before ≡ record span { from = before.from; until = span.from }
+  pub order : before.from ≤ span.from
+
+-- it may be put: its clone is there, and a page that keeps it has free bytes for it and for all lines after it
 pub record MayPut (traces : WorldTracesView) (span : TextSpan) (texts : Texts) : Type 0 where
   pub has_span : HasSpan traces span.c span.from span.until
   pub can : CanPut traces.net texts
   pub fits : span.keeps ≡ true → length texts.page.text
       + length (rest traces.net (clone_at traces.clones span.c) span.from) ≤ texts.page.reserved
 
--- it is put, and the lines behind it are left
+-- it is put, and the lines after it are left
 abbrev pub IsSpanPut : WorldTracesView → TextSpan → PageView → PageView → SinkView → SinkView → Type 0
 IsSpanPut traces span page page_now old new = IsPutTo span.keeps
     (rest traces.net (clone_at traces.clones span.c) span.from)
     (rest traces.net (clone_at traces.clones span.c) span.until) page page_now old new
 
--- it is cut off, or the lines behind it are
+-- it is cut off, or the lines after it are
 abbrev pub IsSpanCutOff : WorldTracesView → TextSpan → SinkView → SinkView → Type 0
 IsSpanCutOff traces span old new = IsCutOff (rest traces.net (clone_at traces.clones span.c) span.from) old new
 

@@ -1,5 +1,6 @@
 -- The texts of clones, each made of the one before it.
-use Rattle.std.specs.Prelude.{◌≡◌, ℕ, zero, suc, ◌+◌, ◌-◌, ◌<◌, ◌≤◌, List, [], ◌++◌, length}
+use Rattle.std.specs.Prelude.{◌≡◌, ℕ, zero, suc, ◌+◌, ◌-◌, ◌<◌, ◌≤◌, List, [], ◌++◌, length, codes}
+use Rattle.std.specs.Prelude.{map, Result, OnOk, OnErr}
 use Rattle.std.specs.List.{flat_map}
 use Rattle.sim_base.specs.Clones.{Clone, clone_at}
 use Rattle.sim_base.specs.Decisions.{same_plan}
@@ -12,9 +13,19 @@ use Rattle.run_laws.specs.SharedTexts.{entries_from, parting_of}
 use Rattle.stations.specs.Runs.{simulation, trace_of}
 use Rattle.trace_report.specs.declared.line.TheConstants.{MOST_LINE}
 use Rattle.trace_report.specs.TraceText.{entry_line}
-use Rattle.rolling_text.specs.WorldTraces.{IsWalk}
+use Rattle.trace_report.specs.Outputs.{clone_text, clone_texts}
+use Rattle.sim_outer.specs.Bytes.{IsAppended}
+use Rattle.sim_outer.specs.Counts.{AreCounted}
+use Rattle.sim_outer.specs.Views.{SinkView}
+use Rattle.rolling_text.specs.Puts.{AreCut}
+use Rattle.rolling_text.specs.WorldTraces.{IsWalk, WorldTracesView}
 use Rattle.rolling_text.specs.declared.texts.TheConstants.{MARGIN}
 use Rattle.rolling_text.specs.declared.texts.Texts.{Texts}
+
+-- the text of a clone of this name: its name line, these bytes, and the lines of these entries
+abbrev pub text_after : Net → List ℕ → List ℕ → List (Entry Msg Line) → List ℕ
+text_after net name before entries =
+    codes "clone " ++ name ++ codes "\n" ++ (before ++ flat_map (entry_line net) entries)
 
 -- the lines of a clone
 unfoldable pub body : Net → Clone → List ℕ
@@ -67,3 +78,11 @@ pub record AreTextsReady (net : Net) (cs : List Clone) (texts : Texts) : Type 0 
   pub fits : AllFit net cs texts.page.reserved
   pub margin : length texts.page.text ≡ MARGIN
   pub can : CanPut net texts
+
+-- what the put of all texts leaves: each is put, in one call, or those before one, and a prefix of it in the last call
+pub record PutsAll {E : Type 0} (traces : WorldTracesView) (old new : SinkView) (result : Result (Unit {0}) E) :
+    Type 0 where
+  pub ok : OnOk result (IsAppended old.bytes (clone_texts traces.net traces.clones) new.bytes)
+  pub each : OnOk result (AreCounted (length traces.clones) old.calls new.calls)
+  pub cut : OnErr result (AreCut (map (clone_text traces.net) traces.clones) old new)
+  pub later : old.faults ≤ new.faults

@@ -8,10 +8,23 @@ use Rattle.net_model.specs.Rules.{IsNet}
 use Rattle.trace_cursor.specs.Cursors.{CursorView}
 use Rattle.trace_report.specs.Slots.{AreNames}
 use Rattle.trace_report.specs.declared.names.Slot.{Slot}
+use Rattle.watch_laws.specs.Orders.{IsPlaceOrder, in_order}
 use Rattle.world_core.specs.Overs.{NoneBeyond}
 use Rattle.world_core.specs.Worlds.{AreInNet, WorldView}
+use Rattle.rolling_text.specs.declared.text_order.TextOrder.{TextOrder}
+use Rattle.rolling_text.specs.declared.text_order.TextOrder.TheVariants.{AsMade, By}
 
--- what contracts see of them: the network, and the clones with their decisions and ends
+-- the clones in the order of their texts
+abbrev pub clones_by : TextOrder → List Clone → List Clone
+clones_by AsMade cs = cs
+clones_by (By places) cs = in_order cs places.items
+
+-- an order has the place of each clone once
+abbrev pub IsOrderOf : TextOrder → List Clone → Type 0
+IsOrderOf AsMade cs = Unit {0}
+IsOrderOf (By places) cs = IsPlaceOrder (length cs) places.items
+
+-- what contracts see of the traces: the network, and the clones with their decisions and ends, in the order of texts
 pub record WorldTracesView : Type 0 where
   pub net : Net
   pub clones : List Clone
@@ -38,6 +51,11 @@ pub record IsOverWith (world : WorldView) (c : ℕ) : Type 0 where
 pub record MayTrace (world : WorldView) (names : List Slot) : Type 0 where
   pub over : IsOver world
   pub names_are : AreNames world.net names
+
+-- the same, with an order of its clones
+pub record MayTraceBy (order : TextOrder) (world : WorldView) (names : List Slot) : Type 0 where
+  pub may_trace : MayTrace world names
+  pub order_is : IsOrderOf order world.clones
 
 -- a cursor has free places for the logs of all stations
 abbrev pub IsWalk : Net → CursorView → Type 0

@@ -3,8 +3,9 @@ ghost use Rattle.std.specs.Prelude.{◌≡◌, ◌<◌, ◌≤◌, ◌++◌, len
 ghost use Rattle.std.specs.List.{flat_map};
 ghost use Rattle.trace_report.specs.Slots.{AreNames};
 ghost use Rattle.trace_report.specs.declared.line.TheConstants.{MOST_LINE};
-ghost use Rattle.trace_report.specs.TraceText.{entry_line, trace_text};
+ghost use Rattle.trace_report.specs.TraceText.{entry_line};
 ghost use Rattle.rolling_text.specs.Puts.{IsPartPut, IsPut, IsCutOff};
+ghost use Rattle.rolling_text.specs.Texts.{text_after};
 
 use crate::texts::PIECE;
 use log_chain::{Log, Walk};
@@ -82,22 +83,44 @@ fn put_log<O: Sink>(model: &Model, log: &Log, out: &mut O) -> Result<(), PutFail
     Ok(())
 }
 
-/// Puts the text of a clone of this name that handled what a log has, in one call whose parts are put as they are made.
-/// It takes no memory.
+// Puts these bytes and then the lines of a log as parts of a text.
+fn put_body<O: Sink>(model: &Model, before: &[u8], log: &Log, out: &mut O) -> Result<(), PutFailed>
+    ensures ok { OnOk result (IsPartPut (before.now ++ flat_map (entry_line model.now) log.now)
+        (O.view out.old) (O.view out.new)) }
+    ensures err { OnErr result (IsCutOff (before.now ++ flat_map (entry_line model.now) log.now)
+        (O.view out.old) (O.view out.new)) }
+{
+    match out.put_part(before) {
+        Ok(()) => {}
+        Err(failed) => return Err(failed),
+    }
+    match put_log(model, log, out) {
+        Ok(()) => Ok(()),
+        Err(failed) => Err(failed),
+    }
+}
+
+/// Puts the text of a clone of this name: its name line, the bytes `before`, and the lines of what a log has, in one
+/// call whose parts are put as they are made. It takes no memory.
+///
+/// With no bytes `before`, it is the trace text of a clone that handled what the log has.
 pub fn put_alone<O: Sink>(
     model: &Model,
     name: &Name,
+    before: &[u8],
     log: &Log,
     out: &mut O,
 ) -> Result<(), PutFailed>
-    ensures ok { OnOk result (IsPut (trace_text model.now name.now log.now) (O.view out.old) (O.view out.new)) }
-    ensures err { OnErr result (IsCutOff (trace_text model.now name.now log.now) (O.view out.old) (O.view out.new)) }
+    ensures ok { OnOk result (IsPut (text_after model.now name.now before.now log.now)
+        (O.view out.old) (O.view out.new)) }
+    ensures err { OnErr result (IsCutOff (text_after model.now name.now before.now log.now)
+        (O.view out.old) (O.view out.new)) }
 {
     match put_name_line(name, out) {
         Ok(()) => {}
         Err(failed) => return Err(failed),
     }
-    match put_log(model, log, out) {
+    match put_body(model, before, log, out) {
         Ok(()) => {}
         Err(failed) => return Err(failed),
     }

@@ -1,12 +1,14 @@
-//! The lines of a clone in a span of time, put by one worker or beside makers.
-ghost use Rattle.std.specs.Prelude.{◌≡◌, ◌<◌, length};
-ghost use Rattle.rolling_text.specs.GivenSpans.{IsNextSpan};
-ghost use Rattle.rolling_text.specs.Orders.{IsMade};
-ghost use Rattle.rolling_text.specs.TextSpans.{MayPut, PutsSpan, span_of};
+//! The lines of a clone in a span of time, put by the caller alone or together with the members of a crew.
+ghost use Rattle.std.specs.Prelude.{◌<◌, ◌≤◌, length, IfSome};
+ghost use Rattle.rolling_text.specs.Batches.{IsBatchOf, MakeFor, bytes_of};
+ghost use Rattle.rolling_text.specs.Orders.{HasSpan, IsMade};
+ghost use Rattle.rolling_text.specs.ReadyLines.{IsReady};
+ghost use Rattle.rolling_text.specs.TextSpans.{IsUpTo, MayPut, PutsSpan, span_of};
 
-use crate::given_spans::{GivenSpans, NextSpan};
+use crate::batches::{Batch, Makers};
+use crate::cuts::Cuts;
 use crate::logs::count_from;
-use crate::making::{Maker, serve_once};
+use crate::text_order::place_in;
 use crate::text_span::TextSpan;
 use crate::texts::Texts;
 use crate::world_traces::WorldTraces;
@@ -14,140 +16,178 @@ use crate::writing::put_span;
 use sim_outer::{PutFailed, Sink};
 use std::alloc::Global;
 use std::sync::Wait;
-use std::sync::atomic::{AtomicBool, Ordering};
-use std::thread::{Threads, join_mut};
 
-// One worker puts what has fewer lines, since a thread costs more.
-const LONG: u64 = 32_768;
+// The caller alone puts a span with fewer lines than this: with members it would take as long.
+const LONG_SPAN: u64 = 8_192;
 
-// Puts the lines of a span that a maker has made. The traces are read by the contract alone.
-fn put_made<O: Sink>(
+/// The crew that makes the lines of long texts, if there is one, and the memory that it takes.
+#[derive(Drop)]
+pub(crate) struct Help<'t> {
+    /// The memory.
+    pub alloc: Global,
+    /// Its caller: `None` if there is no crew, or once an allocation failed.
+    pub makers: Option<Makers<'t>>,
+}
+
+/// Lines of a span that are made and not put yet.
+#[derive(Drop)]
+pub(crate) struct ReadyLines {
+    /// The span.
+    pub span: TextSpan,
+    /// Its lines, in one buffer after the other.
+    pub lines: Vec<Vec<u8>>,
+}
+
+// Puts lines that are ready. Only the contract reads the traces.
+fn put_ready<O: Sink>(
     _traces: &WorldTraces<'_>,
     texts: &mut Texts<'_>,
-    lines: &[u8],
-    span: TextSpan,
+    ready: &ReadyLines,
     out: &mut O,
 ) -> Result<(), PutFailed>
-    requires made { IsMade (span_of _traces.now span) lines.now }
-    requires may { MayPut _traces.now span texts.old }
-    ensures put { PutsSpan _traces.now span texts.old texts.new (O.view out.old) (O.view out.new) result }
+    requires made { IsMade (span_of _traces.now ready.now.span) (bytes_of ready.now.lines.items) }
+    requires may { MayPut _traces.now ready.now.span texts.old }
+    ensures put { PutsSpan _traces.now ready.now.span texts.old texts.new (O.view out.old) (O.view out.new) result }
 {
-    texts.page.put_part(lines, span.keeps, out)
-}
-
-// Puts the next span: the lines that a maker has made, or else those that this worker makes itself.
-fn put_next<'a, O: Sink>(
-    traces: &WorldTraces<'a>,
-    next: NextSpan,
-    texts: &mut Texts<'a>,
-    span: TextSpan,
-    out: &mut O,
-) -> Result<(), PutFailed>
-    requires next { IsNextSpan (span_of traces.now span) next }
-    requires may { MayPut traces.now span texts.old }
-    ensures put { PutsSpan traces.now span texts.old texts.new (O.view out.old) (O.view out.new) result }
-{
-    match next {
-        NextSpan::Made(lines) => put_made(traces, texts, &lines, span, out),
-        NextSpan::Own => put_span(traces, texts, span, out),
-    }
-}
-
-// Puts a span that is given to makers piece by piece, and every so often to this worker: while it puts its own piece,
-// they make the next ones. Where one is out of memory, it puts what is left, and takes none.
-fn put_given<'a, O: Sink, R: Wait>(
-    rt: &R,
-    alloc: Global,
-    traces: &WorldTraces<'a>,
-    given: &mut GivenSpans<'_>,
-    texts: &mut Texts<'a>,
-    span: TextSpan,
-    out: &mut O,
-) -> Result<(), PutFailed>
-    requires given { given.old ≡ span_of traces.now span }
-    requires may { MayPut traces.now span texts.old }
-    ensures put { PutsSpan traces.now span texts.old texts.new (O.view out.old) (O.view out.new) result }
-{
-    let mut made = span.from;
-    for _ in 0..given.count() {
-        let Some(next) = given.next(rt, alloc) else {
-            break;
-        };
-        let until = given.made();
-        let first = TextSpan {
-            from: made,
-            until,
-            ..span
-        };
-        match put_next(traces, next, texts, first, out) {
+    for buffer in &ready.lines {
+        match texts.page.put_part(buffer, ready.span.keeps, out) {
             Ok(()) => {}
             Err(failed) => return Err(failed),
         }
-        made = until;
     }
-    let left = TextSpan { from: made, ..span };
-    put_span(traces, texts, left, out)
+    Ok(())
 }
 
-// The same beside the makers, which end then.
-fn put_beside<'a, O: Sink, R: Threads + Wait + Sync>(
+// Starts the next batch: spans from the beginning of this one. `None` if there is no crew, or an allocation fails. The
+// batch has the makers until it is finished.
+fn start_batch<'t>(
+    traces: &WorldTraces<'t>,
+    help: &mut Help<'t>,
+    cuts: &mut Cuts<'t>,
+    span: TextSpan,
+) -> Option<Batch<'t>>
+    requires makers { MakeFor traces.now help.old.makers }
+    requires span { HasSpan traces.now span.c span.from span.until }
+    requires some { span.from < span.until }
+    ensures batch { IfSome result (λ batch. IsBatchOf traces.now span batch) }
+    ensures makers { MakeFor traces.now help.new.makers }
+{
+    let makers = help.makers.take()?;
+    makers.start(help.alloc, cuts, span).ok()
+}
+
+// Finishes a batch and returns its lines. `None` if an allocation fails: then there is no crew any more.
+fn finish_batch<'t, R: Wait>(
     rt: &R,
-    alloc: Global,
-    traces: &WorldTraces<'a>,
-    given: &mut GivenSpans<'_>,
-    makers: Vec<Maker<'_>>,
-    texts: &mut Texts<'a>,
+    traces: &WorldTraces<'t>,
+    help: &mut Help<'t>,
+    batch: Batch<'t>,
+    span: TextSpan,
+) -> Option<ReadyLines>
+    requires makers { MakeFor traces.now help.old.makers }
+    requires batch { IsBatchOf traces.now span batch }
+    ensures ready { IfSome result (λ ready. IsReady traces.now span ready) }
+    ensures makers { MakeFor traces.now help.new.makers }
+{
+    let span = TextSpan {
+        until: batch.until(),
+        ..span
+    };
+    let (makers, lines) = batch.finish(rt, help.alloc).ok()?;
+    help.makers = Some(makers);
+    Some(ReadyLines { span, lines })
+}
+
+// Puts lines that are ready, and then what is left, which the caller makes.
+fn put_last<'t, O: Sink>(
+    traces: &WorldTraces<'t>,
+    texts: &mut Texts<'t>,
+    ready: &ReadyLines,
+    left: TextSpan,
+    out: &mut O,
+) -> Result<(), PutFailed>
+    requires made { IsMade (span_of traces.now ready.now.span) (bytes_of ready.now.lines.items) }
+    requires joined { IsUpTo left ready.now.span }
+    requires order { left.from ≤ left.until }
+    requires may { MayPut traces.now (record left { from = ready.now.span.from }) texts.old }
+    ensures put { PutsSpan traces.now (record left { from = ready.now.span.from }) texts.old texts.new
+        (O.view out.old) (O.view out.new) result }
+{
+    match put_ready(traces, texts, ready, out) {
+        Ok(()) => put_span(traces, texts, left, out),
+        Err(failed) => Err(failed),
+    }
+}
+
+// Puts a span batch by batch: members make the lines of a batch while the caller puts those of the batch before. Once
+// an allocation fails, the caller puts what is left alone, and takes no memory.
+fn put_by_makers<'t, O: Sink, R: Wait>(
+    rt: &R,
+    traces: &WorldTraces<'t>,
+    help: &mut Help<'t>,
+    texts: &mut Texts<'t>,
     span: TextSpan,
     out: &mut O,
 ) -> Result<(), PutFailed>
-    requires given { given.old ≡ span_of traces.now span }
+    requires makers { MakeFor traces.now help.old.makers }
     requires may { MayPut traces.now span texts.old }
     ensures put { PutsSpan traces.now span texts.old texts.new (O.view out.old) (O.view out.new) result }
+    ensures makers { MakeFor traces.now help.new.makers }
 {
-    let ended = AtomicBool::new(false);
-    let mut makers = Some(makers);
-    let mut make = || serve_once(rt, alloc, &ended, &mut makers);
-    let mut put = || -> Result<(), PutFailed>
-        requires { (given.now ≡ span_of traces.now span) × MayPut traces.now span texts.now }
-        ensures { PutsSpan traces.entry.now span texts.entry.now texts.exit.now
-            (O.view out.entry.now) (O.view out.exit.now) result }
-    {
-        let done = put_given(rt, alloc, traces, given, texts, span, out);
-        ended.store(true, Ordering::SeqCst);
-        done
+    let mut cuts = Cuts::new(traces, span.c, span.from, span.until);
+    let mut ready = ReadyLines {
+        span: TextSpan {
+            until: span.from,
+            ..span
+        },
+        lines: Vec::new(help.alloc),
     };
-    let (_, done) = join_mut(rt, &mut make, &mut put);
-    done
+    let mut left = span;
+    'batch: while left.from < span.until {
+        let Some(batch) = start_batch(traces, help, &mut cuts, left) else {
+            return put_last(traces, texts, &ready, left, out);
+        };
+        match put_ready(traces, texts, &ready, out) {
+            Ok(()) => {}
+            Err(failed) => return Err(failed),
+        }
+        let Some(next) = finish_batch(rt, traces, help, batch, left) else {
+            return put_span(traces, texts, left, out);
+        };
+        ready = next;
+        left = TextSpan {
+            from: ready.span.until,
+            ..span
+        };
+    }
+    put_last(traces, texts, &ready, left, out)
 }
 
 // Whether a span has few lines.
 fn is_short(traces: &WorldTraces<'_>, span: TextSpan) -> bool
     requires there { span.c < length traces.now.clones }
 {
-    let all = count_from(traces.world, span.c, span.from);
-    all.saturating_sub(count_from(traces.world, span.c, span.until)) < LONG
+    let place = place_in(traces.world, &traces.order, span.c);
+    let all = count_from(traces.world, place, span.from);
+    all.saturating_sub(count_from(traces.world, place, span.until)) < LONG_SPAN
 }
 
-/// Puts a span: by one worker, where it has few lines, and else beside makers.
-pub(crate) fn put_lines<'a, O: Sink, R: Threads + Wait + Sync>(
+/// Puts a span: with the crew if there is one and the span is long, else by the caller alone.
+pub(crate) fn put_lines<'t, O: Sink, R: Wait>(
     rt: &R,
-    alloc: Global,
-    traces: &WorldTraces<'a>,
-    workers: u32,
-    texts: &mut Texts<'a>,
+    traces: &WorldTraces<'t>,
+    help: &mut Help<'t>,
+    texts: &mut Texts<'t>,
     span: TextSpan,
     out: &mut O,
 ) -> Result<(), PutFailed>
+    requires makers { MakeFor traces.now help.old.makers }
     requires may { MayPut traces.now span texts.old }
     ensures put { PutsSpan traces.now span texts.old texts.new (O.view out.old) (O.view out.new) result }
+    ensures makers { MakeFor traces.now help.new.makers }
 {
-    if workers <= 1 || is_short(traces, span) {
+    if help.makers.is_none() || is_short(traces, span) {
         return put_span(traces, texts, span, out);
     }
-    // lent again, since the spans live shorter than what the traces lend
-    let mut given = GivenSpans::new(alloc, &*traces, span.c, span.from, span.until);
-    match given.begin(alloc, u64::from(workers - 1)) {
-        Ok(makers) => put_beside(rt, alloc, traces, &mut given, makers, texts, span, out),
-        Err(_) => put_span(traces, texts, span, out),
-    }
+    put_by_makers(rt, traces, help, texts, span, out)
 }

@@ -13,6 +13,7 @@ ghost use Rattle.rolling_text.specs.Texts.{HaveShortLines, body, parting_at as p
 ghost use Rattle.rolling_text.specs.declared.texts.TheConstants.{MOST_TEXT};
 ghost use Rattle.rolling_text.specs.WorldTraces.{IsOverWith, MayTrace};
 
+use crate::text_order::place_in;
 use crate::world_traces::WorldTraces;
 use log_chain::Log;
 use net_model::Model;
@@ -77,8 +78,10 @@ pub(crate) fn greatest_bound(traces: &WorldTraces<'_>) -> usize
 {
     let mut most = 0usize;
     for c in 0..traces.len() {
-        meet_rest(traces.world, &traces.names, c, parting_at(traces, c));
-        most = most.max(bound_of(traces.world, c));
+        let from = parting_at(traces, c);
+        let place = place_in(traces.world, &traces.order, c);
+        meet_rest(traces.world, &traces.names, place, from);
+        most = most.max(bound_of(traces.world, place));
     }
     most
 }

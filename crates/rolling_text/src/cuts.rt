@@ -1,13 +1,15 @@
 //! Where the spans of a long text end.
-ghost use Rattle.std.specs.Prelude.{◌<◌, length};
+ghost use Rattle.std.specs.Prelude.{◌<◌, ◌≤◌, length};
 
 use crate::logs::{Busiest, busiest_of};
+use crate::text_order::place_in;
 use crate::world_traces::WorldTraces;
 
-// A span has about so many lines: to order it costs little beside them, and its buffer stays near the processor.
-const LINES_OF_A_SPAN: u64 = 8_192;
+// A span has about this number of lines: its task costs little compared to them, and its buffer stays in the cache.
+const LINES_OF_A_SPAN: u64 = 2_048;
 
-/// What is left of a text, cut into pieces by the log of the station that handles most of it. All times are hints.
+/// What is left of a text, cut into pieces by the log of the station that handles most of it. Where a piece ends is a
+/// hint: no text depends on it.
 #[derive(Drop)]
 pub(crate) struct Cuts<'a> {
     busiest: Busiest<'a>,
@@ -21,7 +23,8 @@ impl<'a> Cuts<'a> {
     pub(crate) fn new(traces: &WorldTraces<'a>, c: u32, from: u64, until: u64) -> Cuts<'a>
         requires there { c < length traces.now.clones }
     {
-        let busiest = busiest_of(traces.world, c, from, until);
+        let place = place_in(traces.world, &traces.order, c);
+        let busiest = busiest_of(traces.world, place, from, until);
         let pieces = busiest.all / LINES_OF_A_SPAN + 1;
         Cuts {
             busiest,
@@ -31,12 +34,7 @@ impl<'a> Cuts<'a> {
         }
     }
 
-    /// How many pieces there are.
-    pub(crate) fn pieces(&self) -> u64 {
-        self.pieces
-    }
-
-    /// When the next piece ends, which begins at a time.
+    /// When the next piece ends, which begins at a time: later than that, and no later than the last one ends.
     pub(crate) fn next_end(
         &mut self,
         traces: &WorldTraces<'a>,
@@ -45,12 +43,16 @@ impl<'a> Cuts<'a> {
         until: u64,
     ) -> u64
         requires there { c < length traces.now.clones }
+        requires some { from < until }
+        ensures later { from < result }
+        ensures within { result ≤ until }
     {
         // the station that handles most may have done so before most of the others
         if self.piece.saturating_add(1) >= self.pieces && self.from < from {
             *self = Cuts::new(traces, c, from, until);
         }
         self.piece = self.piece.saturating_add(1);
-        self.busiest.time_of(self.piece, self.pieces, until)
+        let hint = self.busiest.time_of(self.piece, self.pieces, until);
+        hint.max(from + 1).min(until)
     }
 }

@@ -1,8 +1,8 @@
 //! The texts of all clones, put one after the other, each in parts.
 //!
 //! A clone's text is a name line and a line for each message that the clone handled. Clones that branch off one
-//! another have most lines in common, so each text begins with lines of the one before it, in its bytes: the lines that
-//! both have are kept, and only what comes after the time at which the two decision lists part is made.
+//! another have most lines in common. So each text begins with lines of the text before it, in its bytes: the lines
+//! that both have are kept, and only what comes after the time at which the two decision lists part is made.
 //!
 //! ```text
 //!                      a margin    lines
@@ -12,39 +12,40 @@
 //! ```
 //!
 //! ```text
-//! let traces = WorldTraces::of(&world);                   // a world at the horizon
+//! let traces = WorldTraces::of(&world);                   // a world at the horizon; `in_order` for another order
 //! let texts = prepare(alloc, &traces)?;                   // all memory that the texts need
 //! put_texts(rt, alloc, &traces, workers, texts, out)?;    // one call for each clone
 //! ```
 //!
 //! A text is put in one call, whose parts are put as they are made: the name line and what is kept of the text before
-//! it, and then its own lines, 16 KiB at a time. Of these, the lines that the next text has too are kept, in a buffer
-//! for which `prepare` reserves 256 bytes a line, and no line is longer; memory that nothing kept reaches is never
-//! touched. So the text of a clone that no other follows takes hardly any memory. A line that is not kept costs its
-//! entry from the stations' logs, merged by key, and its bytes. `put_alone` puts the text of one log in the same way.
+//! it, and then its own lines, 16 KiB at a time. The lines that the next text has too are kept, in a buffer for which
+//! `prepare` reserves 256 bytes a line; no line is longer. Memory that nothing kept reaches is never touched, so a
+//! text that no other follows takes hardly any. A line that is not kept costs its entry from the stations' logs, merged
+//! by key, and its bytes. `put_alone` puts the text of one log in the same way.
 //!
-//! Long texts are put by several workers, which stay for a whole text. The text is cut into spans of about 8,192 lines.
-//! The workers beside the caller are makers: each merges what comes in a span and makes its lines in a buffer of its
-//! own, one span after another. The caller puts these in order, and gives each maker its next span before it puts what
-//! that maker has made; every so many spans it makes one itself:
+//! If a run has a long text, a crew of workers makes the lines of long texts. It is begun once for all texts. A text is
+//! cut into spans of about 2,048 lines, and each span is a task of the crew: it merges what comes in the span, and
+//! makes its lines in a buffer of its own. Eight spans for each worker are a batch, at most 64. The members make one
+//! batch while the caller puts the lines of the batch before, and then the caller makes what no member has begun:
 //!
 //! ```text
-//!            put | span of 1 | span of 2 | the caller's | not given yet
-//!   then 1 is done:  | put   | span of 2 | the caller's | span of 1 | not given yet
+//!   caller     start 2 | put the lines of batch 1 | make spans of 2 | start 3 | put the lines of batch 2 | ..
+//!   members              make spans of 2 ........................ |   make spans of 3 ..
 //! ```
 //!
-//! A span that its maker has not begun is made by the caller. The times at which spans end are hints, and no text
-//! depends on them.
+//! Where a span ends is a hint, and no text depends on it. Once memory runs out, the caller puts what is left alone,
+//! and takes none. Only tests show that the threads run at the same time.
 //!
-//! The promise that it carries: **each text is the trace of its clone simulated alone**, byte for byte, and none needs
-//! memory once the first part is put, so out of memory comes before any output.
+//! The promise that it carries: **each text is the trace of its clone simulated alone**, byte for byte, and the texts
+//! come in the order that was asked for. The texts need no memory once the first part is put, so out of memory comes
+//! before any output.
 #![tactic(auto)]
 
 mod alone;
+mod batches;
 mod beside;
 mod bounds;
 mod cuts;
-mod given_spans;
 pub mod laws;
 mod lines;
 mod logs;
@@ -52,6 +53,7 @@ mod making;
 mod page;
 mod parting;
 mod putting;
+mod text_order;
 mod text_span;
 mod texts;
 mod world_traces;

@@ -1,26 +1,32 @@
 //! Texts into a sink, one after the other.
-ghost use Rattle.std.specs.Prelude.{◌≡◌, ◌+◌, ◌<◌, ◌≤◌, ◌++◌, length, drop, map, codes, IfOk, OnOk, OnErr};
+ghost use Rattle.std.specs.Prelude.{◌≡◌, ◌+◌, ◌<◌, ◌≤◌, ◌++◌, true, length, drop, map, codes};
+ghost use Rattle.std.specs.Prelude.{IfOk, IfSome, OnOk, OnErr};
+ghost use Rattle.rolling_text.specs.Batches.{MakeFor};
 ghost use Rattle.sim_base.specs.Clones.{clone_at};
 ghost use Rattle.sim_outer.specs.Bytes.{IsAppended};
 ghost use Rattle.sim_outer.specs.Counts.{AreCounted};
 ghost use Rattle.rolling_text.specs.declared.texts.TheConstants.{MARGIN};
 ghost use Rattle.rolling_text.specs.Puts.{AreCut, IsPartPut, IsPut, IsCutOff};
-ghost use Rattle.rolling_text.specs.Texts.{AllFit, AreLeft, AreTextsReady, CanPut, body, rest};
+ghost use Rattle.rolling_text.specs.Texts.{AllFit, AreLeft, AreTextsReady, CanPut, PutsAll, body, rest};
 ghost use Rattle.rolling_text.specs.Texts.{parting_at as parting_at'};
+ghost use Rattle.rolling_text.specs.TextSpans.{MayPut};
 ghost use Rattle.trace_report.specs.Outputs.{clone_text, clone_texts};
 
-use crate::beside::put_lines;
+use crate::batches::{LineMembers, Makers, Others, begin_if_long, serve_once};
+use crate::beside::{Help, put_lines};
 use crate::bounds::parting_at;
 use crate::logs::len_between;
 use crate::page::Page;
+use crate::text_order::place_in;
 use crate::text_span::TextSpan;
 use crate::texts::{FEED, Texts};
 use crate::world_traces::WorldTraces;
+use crew_pool::Bell;
 use sim_base::Name;
 use sim_outer::{PutFailed, Sink};
 use std::alloc::Global;
 use std::sync::Wait;
-use std::thread::Threads;
+use std::thread::{Threads, join_mut};
 
 // Puts a clone's name line before its lines, at the end of the margin there, and returns where it begins.
 fn put_head(page: &mut Page, name: &Name) -> usize
@@ -64,73 +70,72 @@ fn begin_text(traces: &WorldTraces<'_>, c: u32, time: u64, dropped: usize, page:
     put_head(page, &traces.name(c))
 }
 
-// Puts the lines of a clone from where it parts from the one before it. Those before the time at which the next one
-// parts from it are kept, and what comes then is put alone.
-fn put_rest<'a, O: Sink, R: Threads + Wait + Sync>(
+// Puts the lines of a clone from where it parts from the one before it: a span up to the time at which the next one
+// parts from it, which is kept, and then all others.
+fn put_rest<'t, O: Sink, R: Wait>(
     rt: &R,
-    alloc: Global,
-    traces: &WorldTraces<'a>,
-    workers: u32,
-    texts: &mut Texts<'a>,
-    c: u32,
-    time: u64,
-    late: u64,
+    traces: &WorldTraces<'t>,
+    help: &mut Help<'t>,
+    texts: &mut Texts<'t>,
+    kept: TextSpan,
     out: &mut O,
 ) -> Result<(), PutFailed>
-    requires there { c < length traces.now.clones }
-    requires order { time ≤ late }
-    requires can { CanPut traces.now.net texts.old }
-    requires fits { length texts.old.page.text + length (rest traces.now.net (clone_at traces.now.clones c) time)
-        ≤ texts.old.page.reserved }
+    requires makers { MakeFor traces.now help.old.makers }
+    requires keeps { kept.keeps ≡ true }
+    requires may { MayPut traces.now kept texts.old }
     // all of these lines are put
-    ensures ok { OnOk result (IsPartPut (rest traces.now.net (clone_at traces.now.clones c) time)
+    ensures ok { OnOk result (IsPartPut (rest traces.now.net (clone_at traces.now.clones kept.c) kept.from)
         (O.view out.old) (O.view out.new)) }
     // and the page keeps those before the next one parts
-    ensures page { OnOk result (texts.new.page.text ++ rest traces.now.net (clone_at traces.now.clones c) late
-        ≡ texts.old.page.text ++ rest traces.now.net (clone_at traces.now.clones c) time) }
+    ensures page { OnOk result (texts.new.page.text ++ rest traces.now.net (clone_at traces.now.clones kept.c) kept.until
+        ≡ texts.old.page.text ++ rest traces.now.net (clone_at traces.now.clones kept.c) kept.from) }
     ensures longer { OnOk result (length texts.old.page.text ≤ length texts.new.page.text) }
     ensures reserved { OnOk result (texts.old.page.reserved ≤ texts.new.page.reserved) }
     // or they are cut off
-    ensures err { OnErr result (IsCutOff (rest traces.now.net (clone_at traces.now.clones c) time)
+    ensures err { OnErr result (IsCutOff (rest traces.now.net (clone_at traces.now.clones kept.c) kept.from)
         (O.view out.old) (O.view out.new)) }
     ensures can { CanPut traces.now.net texts.new }
+    ensures makers { MakeFor traces.now help.new.makers }
 {
-    let end = late.max(traces.world.model().horizon());
-    let first = TextSpan {
-        c,
-        from: time,
-        until: late,
-        keeps: true,
-    };
-    match put_lines(rt, alloc, traces, workers, texts, first, out) {
+    match put_lines(rt, traces, help, texts, kept, out) {
         Ok(()) => {}
         Err(failed) => return Err(failed),
     }
     let others = TextSpan {
-        c,
-        from: late,
-        until: end,
+        from: kept.until,
+        until: kept.until.max(traces.world.model().horizon()),
         keeps: false,
+        ..kept
     };
-    match put_lines(rt, alloc, traces, workers, texts, others, out) {
+    match put_lines(rt, traces, help, texts, others, out) {
         Ok(()) => Ok(()),
         Err(failed) => Err(failed),
     }
 }
 
-// Puts the text of a clone. The page has lines of the clone before it, of which so many bytes are dropped. Returns how
-// many bytes of what is kept the next one drops, which parts from it at a time.
-fn put_text<'a, O: Sink, R: Threads + Wait + Sync>(
+// How long the lines of a clone are from a time on and before another.
+fn bytes_between(traces: &WorldTraces<'_>, c: u32, from: u64, until: u64) -> usize
+    requires there { c < length traces.now.clones }
+    requires order { from ≤ until }
+    ensures value { result + length (rest traces.now.net (clone_at traces.now.clones c) until)
+        ≡ length (rest traces.now.net (clone_at traces.now.clones c) from) }
+{
+    let place = place_in(traces.world, &traces.order, c);
+    len_between(traces.world, &traces.names, place, from, until)
+}
+
+// Puts the text of a clone. The page has lines of the clone before it, whose last `dropped` bytes are dropped. Returns
+// how many bytes of what is kept the next one drops.
+fn put_text<'t, O: Sink, R: Wait>(
     rt: &R,
-    alloc: Global,
-    traces: &WorldTraces<'a>,
-    workers: u32,
-    texts: &mut Texts<'a>,
+    traces: &WorldTraces<'t>,
+    help: &mut Help<'t>,
+    texts: &mut Texts<'t>,
     c: u32,
     dropped: usize,
-    next: u64,
     out: &mut O,
 ) -> Result<usize, PutFailed>
+    requires makers { MakeFor traces.now help.old.makers }
     requires there { c < length traces.now.clones }
     requires can { CanPut traces.now.net texts.old }
     requires fits { AllFit traces.now.net traces.now.clones texts.old.page.reserved }
@@ -141,40 +146,145 @@ fn put_text<'a, O: Sink, R: Threads + Wait + Sync>(
         (O.view out.old) (O.view out.new)) }
     ensures err { OnErr result (IsCutOff (clone_text traces.now.net (clone_at traces.now.clones c))
         (O.view out.old) (O.view out.new)) }
-    // what the page has of it for the next one
-    ensures left { IfOk result (λ n. next ≡ parting_at' traces.now.net traces.now.clones (c + 1) →
+    // what the page has of it for the next one, if there is one
+    ensures left { IfOk result (λ n. c + 1 < length traces.now.clones →
         AreLeft traces.now.net traces.now.clones (c + 1) n (drop MARGIN texts.new.page.text)) }
     ensures margin { OnOk result (MARGIN ≤ length texts.new.page.text) }
     ensures reserved { OnOk result (texts.old.page.reserved ≤ texts.new.page.reserved) }
     ensures can { CanPut traces.now.net texts.new }
+    ensures makers { MakeFor traces.now help.new.makers }
 {
+    let clones = traces.len();
     let time = parting_at(traces, c);
+    // if there is no next clone, nobody asks what it drops
+    let next = parting_at(traces, (c + 1).min(clones - 1));
     let late = time.max(next);
     let start = begin_text(traces, c, time, dropped, &mut texts.page);
     match texts.page.put_from(start, out) {
         Ok(()) => {}
         Err(failed) => return Err(failed),
     }
-    match put_rest(rt, alloc, traces, workers, texts, c, time, late, out) {
+    let kept = TextSpan {
+        c,
+        from: time,
+        until: late,
+        keeps: true,
+    };
+    match put_rest(rt, traces, help, texts, kept, out) {
         Ok(()) => {}
         Err(failed) => return Err(failed),
     }
     match out.put(b"") {
-        Ok(()) => Ok(len_between(traces.world, &traces.names, c, next, late)),
+        Ok(()) => Ok(bytes_between(traces, c, next, late)),
         Err(failed) => Err(failed),
     }
 }
 
+// Puts the text of each clone.
+fn put_all<'t, O: Sink, R: Wait>(
+    rt: &R,
+    traces: &WorldTraces<'t>,
+    help: &mut Help<'t>,
+    texts: &mut Texts<'t>,
+    out: &mut O,
+) -> Result<(), PutFailed>
+    requires makers { MakeFor traces.now help.old.makers }
+    requires ready { AreTextsReady traces.now.net traces.now.clones texts.old }
+    ensures put { PutsAll traces.now (O.view out.old) (O.view out.new) result }
+{
+    let clones = traces.len();
+    let mut dropped = 0;
+    for c in 0..clones {
+        match put_text(rt, traces, help, texts, c, dropped, out) {
+            Ok(drops) => dropped = drops,
+            Err(failed) => return Err(failed),
+        }
+    }
+    Ok(())
+}
+
+// Puts the text of each clone, and then ends the members of the crew.
+fn put_and_end<'t, O: Sink, R: Wait>(
+    rt: &R,
+    traces: &WorldTraces<'t>,
+    help: &mut Help<'t>,
+    bell: &Bell,
+    texts: &mut Texts<'t>,
+    out: &mut O,
+) -> Result<(), PutFailed>
+    requires makers { MakeFor traces.now help.old.makers }
+    requires ready { AreTextsReady traces.now.net traces.now.clones texts.old }
+    ensures put { PutsAll traces.now (O.view out.old) (O.view out.new) result }
+{
+    let done = put_all(rt, traces, help, texts, out);
+    bell.end();
+    done
+}
+
+// Puts the text of each clone while the members of the crew run in threads. They end after the last text.
+fn put_beside<'t, O: Sink, R: Threads + Wait + Sync>(
+    rt: &R,
+    traces: &WorldTraces<'t>,
+    help: &mut Help<'t>,
+    members: LineMembers<'_, '_>,
+    bell: &Bell,
+    texts: &mut Texts<'t>,
+    out: &mut O,
+) -> Result<(), PutFailed>
+    requires makers { MakeFor traces.now help.old.makers }
+    requires ready { AreTextsReady traces.now.net traces.now.clones texts.old }
+    ensures put { PutsAll traces.now (O.view out.old) (O.view out.new) result }
+{
+    let alloc = help.alloc;
+    let mut members = Some(members);
+    let mut make = || serve_once(rt, alloc, bell, &mut members);
+    let mut put = || -> Result<(), PutFailed>
+        requires { MakeFor traces.now help.now.makers × AreTextsReady traces.now.net traces.now.clones texts.now }
+        ensures { PutsAll traces.entry.now (O.view out.entry.now) (O.view out.exit.now) result }
+    { put_and_end(rt, traces, help, bell, texts, out) };
+    let (_, done) = join_mut(rt, &mut make, &mut put);
+    done
+}
+
+// Puts the text of each clone with the crew that has begun, or by the caller alone.
+fn put_with<'t, O: Sink, R: Threads + Wait + Sync>(
+    rt: &R,
+    alloc: Global,
+    traces: &WorldTraces<'t>,
+    crew: Option<(Makers<'t>, Others<'t>)>,
+    texts: Texts<'t>,
+    out: &mut O,
+) -> Result<(), PutFailed>
+    requires makers { IfSome crew (λ c. c.0 ≡ traces.now) }
+    requires ready { AreTextsReady traces.now.net traces.now.clones texts }
+    ensures put { PutsAll traces.now (O.view out.old) (O.view out.new) result }
+{
+    let mut texts = texts;
+    let Some((makers, others)) = crew else {
+        let mut alone = Help {
+            alloc,
+            makers: None,
+        };
+        return put_all(rt, traces, &mut alone, &mut texts, out);
+    };
+    let Others { members, bell } = others;
+    let mut help = Help {
+        alloc,
+        makers: Some(makers),
+    };
+    put_beside(rt, traces, &mut help, members, &bell, &mut texts, out)
+}
+
 /// Puts the text of each clone, its name line and its lines, in one call whose parts are put as they are made.
 ///
-/// The lines that a clone shares with the one before it are kept, and not made again. Long texts are made by so many
-/// workers, if there is memory for it, and else by one, which takes none.
+/// The lines that a clone shares with the one before it are kept, and not made again. If there is a long text, and
+/// memory for it, a crew of `workers` workers makes the lines of long texts. Without a crew no memory is taken.
 pub fn put_texts<'a, O: Sink, R: Threads + Wait + Sync>(
     rt: &R,
     alloc: Global,
     traces: &WorldTraces<'a>,
     workers: u32,
-    mut texts: Texts<'a>,
+    texts: Texts<'a>,
     out: &mut O,
 ) -> Result<(), PutFailed>
     requires ready { AreTextsReady traces.now.net traces.now.clones texts }
@@ -186,17 +296,7 @@ pub fn put_texts<'a, O: Sink, R: Threads + Wait + Sync>(
         (O.view out.old) (O.view out.new)) }
     ensures later { (O.view out.old).faults ≤ (O.view out.new).faults }
 {
-    let clones = traces.len();
-    let mut dropped = 0;
-    for c in 0..clones {
-        // where there is no next clone, nobody asks what it drops
-        let next = parting_at(traces, (c + 1).min(clones - 1));
-        match put_text(
-            rt, alloc, traces, workers, &mut texts, c, dropped, next, out,
-        ) {
-            Ok(drops) => dropped = drops,
-            Err(failed) => return Err(failed),
-        }
-    }
-    Ok(())
+    // lent again, since the crew lives shorter than what the traces lend
+    let crew = begin_if_long(alloc, &*traces, workers);
+    put_with(rt, alloc, &*traces, crew, texts, out)
 }

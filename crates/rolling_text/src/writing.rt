@@ -9,6 +9,7 @@ ghost use Rattle.rolling_text.specs.WorldTraces.{IsWalk};
 
 use crate::lines::{add_entries, fill_cursor, put_entries};
 use crate::logs::count_from;
+use crate::text_order::place_in;
 use crate::text_span::TextSpan;
 use crate::texts::Texts;
 use crate::world_traces::WorldTraces;
@@ -38,12 +39,13 @@ fn gather_span<'a>(
     // what is kept: how many logs the cursor may have
     ensures walk { IsWalk traces.now.net walk.new }
 {
-    let all = fill_cursor(walk, traces.world, c, from);
+    let place = place_in(traces.world, &traces.order, c);
+    let all = fill_cursor(walk, traces.world, place, from);
     // nothing comes from the horizon on, where the last span of a text ends
     if until >= traces.world.model().horizon() {
         return all;
     }
-    all - count_from(traces.world, c, until)
+    all - count_from(traces.world, place, until)
 }
 
 /// The lines of a clone from a time on and before another, in a buffer of their own and with a cursor of its own.

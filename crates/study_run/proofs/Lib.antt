@@ -6,4 +6,5 @@ pub mod Fulls
 pub mod SoloRuns
 pub mod Reports
 pub mod Accepting
+pub mod Leading
 pub mod Goings

@@ -1,42 +1,47 @@
 -- The run of one clone by itself.
-use Rattle.std.proofs.Common.{◌≡◌, ℕ, ◌+◌, refl, sym, subst, ap}
+use Rattle.std.proofs.Common.{◌≡◌, ℕ, ◌+◌, ◌<◌, ◌≤◌, refl, sym, subst, ap}
 use Rattle.std.proofs.Common.{ap₂, ◌∙◌, arith, min, List, [], length, Option, unwrap_or}
+use Rattle.std.proofs.Math.Nat.{min-eq_right, min-le_left, min-le_right}
 use Rattle.sim_base.specs.Order.{msg_cmp}
 use Rattle.sim_base.specs.Clones.{Clone, clone_at}
 use Rattle.sim_base.specs.declared.decision.Planned.{Planned}
+use Rattle.sim_base.specs.declared.entry.Entry.{Entry}
+use Rattle.sim_base.specs.declared.entry.Line.{Line}
+use Rattle.sim_base.specs.declared.message.Msg.{Msg}
 use Rattle.net_model.specs.Net.{Net}
+use Rattle.run_laws.specs.Handlers.{IsStation}
 use Rattle.run_laws.specs.Machine.{run_to}
-use Rattle.run_laws.specs.Runs.{run}
-use Rattle.run_laws.specs.World.{first_world}
+use Rattle.run_laws.specs.Runs.{end_of, run}
+use Rattle.run_laws.specs.World.{first_world, log_of}
 use Rattle.stations.specs.Runs.{simulation, trace_of}
-use Rattle.solo_run.specs.Limit.{first_beyond}
+use Rattle.solo_run.specs.Limit.{first_beyond, receiver}
 use Rattle.solo_run.specs.SoloView.{IsSolo, SoloView, config_of}
 use Rattle.solo_run.specs.Turns.{Stops, run_from, step_of}
 use Rattle.solo_run.specs.declared.turn.SoloFault.TheVariants.{Limit}
 use Rattle.solo_run.proofs.ToFront.{trace-short}
-use Rattle.study_run.specs.Faults.{StopsAlone}
-use Rattle.study_run.specs.Limits.{IsWithin, MeetsLimitAlone}
+use Rattle.study_run.specs.Faults.{IsFaultAlone, IsFaultUntil, StopsAlone}
+use Rattle.study_run.specs.Limits.{IsFirstFull, IsWithin, MeetsLimitAlone, last_time, until}
 use Rattle.study_run.specs.Work.{IsFew}
+use Rattle.study_run.specs.declared.fault.StudyFault.{StudyFault}
+use Rattle.study_run.specs.declared.fault.StudyFault.TheVariants.{LimitMet, NoMemory}
 use Rattle.study_run.proofs.Fulls.{met_alone, within_alone}
 
 -- ---- trace_of
 
 -- a clone's run goes to its end, or else to the horizon
-module _ (net : Net) (c : Clone) (plans : List Planned) (end : Option ℕ) (front : ℕ) (v : SoloView)
-    (same_plans : plans ≡ c.plans) (same_end : end ≡ c.end)
-    (is_last : front ≡ min net.horizon (unwrap_or end net.horizon))
+module _ (net : Net) (c : Clone) (plans : List Planned) (front : ℕ) (v : SoloView) (same_plans : plans ≡ c.plans)
+    (is_last : front ≡ min net.horizon (end_of (simulation net) c))
     (begins : config_of net v ≡ first_world (simulation net) plans) where
   -- the trace of the run from where it begins
   trace_from : (run_from net v front).at.trace ≡ trace_of net c
   trace_from = ap (λ k. (run_to msg_cmp (step_of net) (λ m. m.key.time) k front).at.trace) begins
-      ∙ ap₂ (λ ps b. (run (simulation net) ps b).at.trace) same_plans
-      (is_last ∙ ap (λ o. min net.horizon (unwrap_or o net.horizon)) same_end)
+      ∙ ap₂ (λ ps b. (run (simulation net) ps b).at.trace) same_plans is_last
 
   -- at first nothing was handled
   none_yet : length v.trace ≡ 0
   none_yet = ap (λ k. length k.at.trace) begins
 
-  -- ---- trace_of, IsWithin, IsFew, at the end
+  -- ---- run, trace_of, IsWithin, IsFew, at the end
 
   module _ (s : SoloView) (old new : ℕ) (ends : config_of net s ≡ run_from net v front) (solo : IsSolo net s)
       (steps : new + length v.trace ≡ old + length s.trace) where
@@ -61,18 +66,86 @@ module _ (net : Net) (c : Clone) (plans : List Planned) (end : Option ℕ) (fron
 
   -- ---- StopsAlone
 
-  -- where the run to the front stops at the limit, the run of the clone at its place ends so
-  pub stops_alone : (cs : List Clone) (place old new station kept : ℕ) → clone_at cs place ≡ c
-      → Stops net v front old new (Limit station kept)
-      → StopsAlone net cs place old new station place
-  stops_alone cs place old new station kept is h =
+  -- where the run to the front stops at the limit, the clone's run ends so
+  pub stops_alone : (place old new station kept : ℕ) → Stops net v front old new (Limit station kept)
+      → StopsAlone net c place old new station place
+  stops_alone place old new station kept h =
       let none = none_yet in
       let steps = h.steps in
       let bounded = h.bounded in
       let some = ap (first_beyond net.limit []) (sym trace_from) ∙ h.first in
       record {
-        meets = subst (λ k. MeetsLimitAlone net k station) (sym is)
-            (met_alone net c station h.is_station some);
+        meets = met_alone net c station h.is_station some;
         is_it = refl;
         few = omega (arith, none, steps, bounded);
       }
+
+-- ---- last_time
+
+-- the state of a run from the first world of these decisions, by other names of them and of the front
+pub ran_to : (net : Net) (plans those : List Planned) (front last : ℕ) (v s : SoloView) → plans ≡ those → front ≡ last
+    → config_of net v ≡ first_world (simulation net) plans → config_of net s ≡ run_from net v front
+    → config_of net s ≡ run (simulation net) those last
+ran_to net plans those front last v s same is begins ends =
+    ends ∙ ap (λ k. run_to msg_cmp (step_of net) (λ m. m.key.time) k front) begins
+    ∙ ap₂ (λ ps b. run (simulation net) ps b) same is
+
+-- the time at which a clone stops, by its end
+pub last_time-is : (net : Net) (time front last : ℕ) (c : Clone) (end : Option ℕ) → front ≡ min time last
+    → last ≡ min net.horizon (unwrap_or end net.horizon) → end ≡ c.end → front ≡ last_time net time c
+last_time-is net time front last c end is last_is same =
+    is ∙ ap (min time) (last_is ∙ ap (λ o. min net.horizon (unwrap_or o net.horizon)) same)
+
+-- it is not after the horizon
+pub last_time-within : (net : Net) (time : ℕ) (c : Clone) → last_time net time c ≤ net.horizon
+last_time-within net time c =
+    let a = min-le_right time (min net.horizon (end_of (simulation net) c)) in
+    let b = min-le_left net.horizon (end_of (simulation net) c) in
+    omega (arith, a, b)
+
+-- so a clone that ends there runs to there
+pub until-last : (net : Net) (time front : ℕ) (c : Clone) → front ≡ last_time net time c
+    → front ≡ min net.horizon (end_of (simulation net) (until net time c))
+until-last net time front c is = is ∙ sym (min-eq_right (last_time-within net time c))
+
+-- ---- until
+
+-- until the horizon it is the clone's whole run
+module _ (net : Net) (c : Clone) where
+  last_is : min net.horizon (last_time net net.horizon c) ≡ min net.horizon (end_of (simulation net) c)
+  last_is =
+      min-eq_right (last_time-within net net.horizon c)
+      ∙ min-eq_right (min-le_left net.horizon (end_of (simulation net) c))
+
+  pub until-trace : trace_of net (until net net.horizon c) ≡ trace_of net c
+  until-trace = ap (λ b. (run (simulation net) c.plans b).at.trace) last_is
+
+  -- no log is longer than the limit
+  pub until-within : IsWithin net (until net net.horizon c) → IsWithin net c
+  until-within h = subst (λ (t : List (Entry Msg Line)). (s : ℕ) → IsStation (simulation net) s
+      → ¬ (net.limit < length (log_of receiver s t))) until-trace h
+
+  -- or the limit is met
+  pub until-meets : (station : ℕ) → MeetsLimitAlone net (until net net.horizon c) station
+      → MeetsLimitAlone net c station
+  until-meets station h = record {
+    is_station = h.is_station;
+    first = subst (λ (t : List (Entry Msg Line)). IsFirstFull net.limit t station) until-trace h.first;
+  }
+
+  pub until-stops : (place old new station who : ℕ)
+      → StopsAlone net (until net net.horizon c) place old new station who
+      → StopsAlone net c place old new station who
+  until-stops place old new station who h = record {
+    meets = until-meets station h.meets;
+    is_it = h.is_it;
+    few = h.few;
+  }
+
+-- why a run until the horizon has no result is why the whole run has none
+pub until-fault : (net : Net) (time : ℕ) (cs : List Clone) (place old new : ℕ) (e : StudyFault) → time ≡ net.horizon
+    → IsFaultUntil net time cs place old new e → IsFaultAlone net cs place old new e
+until-fault net time cs place old new NoMemory is h = tt
+until-fault net time cs place old new (LimitMet station who) is h =
+    until-stops net (clone_at cs place) place old new station who
+    (subst (λ f. StopsAlone net (until net f (clone_at cs place)) place old new station who) is h)

@@ -4,7 +4,7 @@ use Rattle.sim_base.specs.Clones.{Clone, clone_at}
 use Rattle.net_model.specs.Net.{Net}
 use Rattle.world_core.specs.declared.world.WorldFault.{WorldFault}
 use Rattle.world_core.specs.declared.world.WorldFault.TheVariants as window
-use Rattle.study_run.specs.Limits.{MeetsLimit, MeetsLimitAlone}
+use Rattle.study_run.specs.Limits.{MeetsLimit, MeetsLimitAlone, until}
 use Rattle.study_run.specs.Work.{IsFew}
 use Rattle.study_run.specs.declared.fault.StudyFault.{StudyFault}
 use Rattle.study_run.specs.declared.fault.StudyFault.TheVariants.{NoMemory, LimitMet}
@@ -24,14 +24,20 @@ abbrev pub IsFaultOfAll : Net → List Clone → ℕ → ℕ → StudyFault → 
 IsFaultOfAll net clones old_steps new_steps NoMemory = Unit {0}
 IsFaultOfAll net clones old_steps new_steps (LimitMet station who) = StopsAll net clones old_steps new_steps station who
 
--- the run of the clone at a place ends so
-pub record StopsAlone (net : Net) (clones : List Clone) (c old_steps new_steps station who : ℕ) : Type 0 where
-  pub meets : MeetsLimitAlone net (clone_at clones c) station
-  pub is_it : who ≡ c
+-- the run of this clone, which has a place, ends so
+pub record StopsAlone (net : Net) (clone : Clone) (place old_steps new_steps station who : ℕ) : Type 0 where
+  pub meets : MeetsLimitAlone net clone station
+  pub is_it : who ≡ place
   pub few : IsFew net 1 old_steps new_steps
 
 -- the same for one clone: out of memory needs no cause, and at the limit its run ends so
 abbrev pub IsFaultAlone : Net → List Clone → ℕ → ℕ → ℕ → StudyFault → Type 0
 IsFaultAlone net clones c old_steps new_steps NoMemory = Unit {0}
 IsFaultAlone net clones c old_steps new_steps (LimitMet station who) =
-    StopsAlone net clones c old_steps new_steps station who
+    StopsAlone net (clone_at clones c) c old_steps new_steps station who
+
+-- and for the clone until a time
+abbrev pub IsFaultUntil : Net → ℕ → List Clone → ℕ → ℕ → ℕ → StudyFault → Type 0
+IsFaultUntil net time clones c old_steps new_steps NoMemory = Unit {0}
+IsFaultUntil net time clones c old_steps new_steps (LimitMet station who) =
+    StopsAlone net (until net time (clone_at clones c)) c old_steps new_steps station who

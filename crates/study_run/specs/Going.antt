@@ -1,8 +1,10 @@
 -- A run of all clones that goes on from a world.
-use Rattle.std.specs.Prelude.{◌≡◌, ℕ, ◌+◌, Result, IfOk, IfErr}
+use Rattle.std.specs.Prelude.{◌≡◌, ℕ, ◌+◌, List, Result, IfOk, IfErr}
+use Rattle.sim_base.specs.Clones.{Clone}
 use Rattle.net_model.specs.Net.{Net}
 use Rattle.world_core.specs.Worlds.{WorldView, total_handled}
 use Rattle.study_run.specs.Faults.{IsFaultOfAll}
+use Rattle.study_run.specs.Limits.{AreWithin}
 use Rattle.study_run.specs.Overs.{HasCome}
 use Rattle.study_run.specs.declared.fault.StudyFault.{StudyFault}
 
@@ -22,9 +24,13 @@ abbrev pub HasStopped : Net → WorldView → ℕ → ℕ → StudyFault → Typ
 HasStopped net old old_steps new_steps e = (start : ℕ) → old_steps ≡ start + total_handled net old.clones old.front
     → IsFaultOfAll net old.clones start new_steps e
 
--- a run goes on from a world up to the horizon, or it stops
-pub record GoesToHorizon (net : Net) (old : WorldView) (old_steps new_steps : ℕ) (run : Result WorldView StudyFault) :
+-- the run of a study's clones from front 0: a world of this network and these clones at the horizon, where no log is
+-- too long and what clones share was handled once; or out of memory, or the limit is met
+pub record IsStudyRun (net : Net) (clones : List Clone) (old_steps new_steps : ℕ) (run : Result WorldView StudyFault) :
     Type 0 where
-  pub gone_on : IfOk run (λ w. HasGoneOn net old w old_steps new_steps)
+  pub net_is : IfOk run (λ w. w.net ≡ net)
+  pub clones_are : IfOk run (λ w. w.clones ≡ clones)
   pub front : IfOk run (λ w. w.front ≡ net.horizon)
-  pub stopped : IfErr run (λ e. HasStopped net old old_steps new_steps e)
+  pub within : IfOk run (λ w. AreWithin net w.clones)
+  pub steps : IfOk run (λ w. new_steps ≡ old_steps + total_handled net w.clones net.horizon)
+  pub fault : IfErr run (λ e. IsFaultOfAll net clones old_steps new_steps e)

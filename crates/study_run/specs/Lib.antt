@@ -5,4 +5,5 @@ pub mod Faults
 pub mod Laws
 pub mod Accepted
 pub mod Going
+pub mod Onwards
 pub mod Reports

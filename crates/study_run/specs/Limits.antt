@@ -1,11 +1,12 @@
 -- The limit of a log: when the logs of a run are within it, and where it is met first.
-use Rattle.std.specs.Prelude.{◌≡◌, ℕ, ◌<◌, ◌≤◌, List, ◌∷◌, ◌++◌, length}
-use Rattle.sim_base.specs.Clones.{Clone}
+use Rattle.std.specs.Prelude.{◌≡◌, ℕ, ◌<◌, ◌≤◌, List, ◌∷◌, ◌++◌, length, min}
+use Rattle.sim_base.specs.Clones.{Clone, with_end}
 use Rattle.sim_base.specs.declared.message.Msg.{Msg}
 use Rattle.sim_base.specs.declared.entry.Entry.{Entry}
 use Rattle.sim_base.specs.declared.entry.Line.{Line}
 use Rattle.net_model.specs.Net.{Net, HasStation}
 use Rattle.run_laws.specs.Queue.{In}
+use Rattle.run_laws.specs.Runs.{end_of}
 use Rattle.run_laws.specs.Sharing.{IsWithinLimit}
 use Rattle.run_laws.specs.World.{log_of}
 use Rattle.stations.specs.Runs.{AreFronts, simulation, trace_of}
@@ -49,3 +50,11 @@ pub record IsFirstFull (limit : ℕ) (trace : List (Entry Msg Line)) (station : 
 pub record MeetsLimitAlone (net : Net) (c : Clone) (station : ℕ) : Type 0 where
   pub is_station : HasStation net station
   pub first : IsFirstFull net.limit (trace_of net c) station
+
+-- how far a clone runs that is stopped at a time: its end and the horizon come first where they are earlier
+abbrev pub last_time : Net → ℕ → Clone → ℕ
+last_time net time c = min time (min net.horizon (end_of (simulation net) c))
+
+-- the clone that ends there
+abbrev pub until : Net → ℕ → Clone → Clone
+until net time c = with_end c (last_time net time c)

@@ -1,10 +1,12 @@
 //! The run of one clone by itself: a sequential simulation, on one thread.
 ghost use Rattle.std.specs.Prelude.{◌≡◌, ◌+◌, ◌<◌, ◌≤◌, length, min, unwrap_or, IfOk, IfErr, OnOk};
 ghost use Rattle.sim_base.specs.Clones.{clone_at};
-ghost use Rattle.stations.specs.Runs.{trace_of};
+ghost use Rattle.run_laws.specs.Runs.{run};
+ghost use Rattle.stations.specs.Runs.{simulation, trace_of};
+ghost use Rattle.solo_run.specs.SoloView.{IsSolo, config_of};
 ghost use Rattle.decision_book.specs.Plans.{ArePlanned};
-ghost use Rattle.study_run.specs.Faults.{IsFaultAlone};
-ghost use Rattle.study_run.specs.Limits.{IsWithin};
+ghost use Rattle.study_run.specs.Faults.{IsFaultAlone, IsFaultUntil};
+ghost use Rattle.study_run.specs.Limits.{IsWithin, last_time, until};
 ghost use Rattle.study_run.specs.Work.{IsFew};
 
 use crate::fault::StudyFault;
@@ -22,6 +24,46 @@ fn last_front(model: &Model, end: Option<u64>) -> u64
     match end {
         Some(end) => end.min(model.horizon()),
         None => model.horizon(),
+    }
+}
+
+/// Runs the clone at a place by itself until a time, or to its end or the horizon, whichever comes first.
+pub fn run_alone_until<L: Ledger>(
+    alloc: Global,
+    model: &Model,
+    lists: &Lists,
+    c: u32,
+    time: u64,
+    steps: &mut Steps<L>,
+) -> Result<Solo, StudyFault>
+    requires there { c < length lists.now.clones }
+    requires planned { ArePlanned model.now lists.now.clones }
+
+    // Its states, its pending messages and its trace there, as if that time were its end.
+    ensures run { IfOk result (λ solo. config_of model.now solo
+        ≡ run (simulation model.now) (clone_at lists.now.clones c).plans
+        (last_time model.now time (clone_at lists.now.clones c))) }
+    ensures solo { IfOk result (λ solo. IsSolo model.now solo) }
+    ensures trace { IfOk result (λ solo.
+        solo.trace ≡ trace_of model.now (until model.now time (clone_at lists.now.clones c))) }
+
+    // A step for each entry, and no log is too long.
+    ensures steps { OnOk result (steps.new
+        ≡ steps.old + length (trace_of model.now (until model.now time (clone_at lists.now.clones c)))) }
+    ensures within { OnOk result (IsWithin model.now (until model.now time (clone_at lists.now.clones c))) }
+    ensures few { OnOk result (IsFew model.now 1 steps.old steps.new) }
+
+    // Or out of memory, or the limit is met before that time.
+    ensures fault { IfErr result (λ e. IsFaultUntil model.now time lists.now.clones c steps.old steps.new e) }
+{
+    let front = time.min(last_front(model, lists.end_of(c)));
+    let Ok(solo) = Solo::new(alloc, model, lists.list(c)) else {
+        return Err(StudyFault::NoMemory);
+    };
+    match solo.run_to(model, front, steps) {
+        Ok(solo) => Ok(solo),
+        Err(SoloFault::NoMemory) => Err(StudyFault::NoMemory),
+        Err(SoloFault::Limit { station, .. }) => Err(StudyFault::LimitMet { station, who: c }),
     }
 }
 
@@ -45,13 +87,5 @@ pub fn run_alone<L: Ledger>(
     // Or out of memory, or the limit is met.
     ensures fault { IfErr result (λ e. IsFaultAlone model.now lists.now.clones c steps.old steps.new e) }
 {
-    let front = last_front(model, lists.end_of(c));
-    let Ok(solo) = Solo::new(alloc, model, lists.list(c)) else {
-        return Err(StudyFault::NoMemory);
-    };
-    match solo.run_to(model, front, steps) {
-        Ok(solo) => Ok(solo),
-        Err(SoloFault::NoMemory) => Err(StudyFault::NoMemory),
-        Err(SoloFault::Limit { station, .. }) => Err(StudyFault::LimitMet { station, who: c }),
-    }
+    run_alone_until(alloc, model, lists, c, model.horizon(), steps)
 }

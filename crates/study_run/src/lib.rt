@@ -2,7 +2,8 @@
 //!
 //! A study is a model and the decisions that were accepted before its simulation begins. Its run opens the world of
 //! the base clone, takes the decisions at front 0, and goes from window to window up to the horizon, the stop time.
-//! A crew of threads shares out the stations of each window; the result does not depend on the crew.
+//! Once a window is large, several workers (threads) share out the stations of those that follow. The result does not
+//! depend on the workers.
 //!
 //! ```text
 //! calls --take--> { base fast } --window--> 5 --window--> 7 --window--> 10 .. --window--> horizon
@@ -10,14 +11,16 @@
 //! ```
 //!
 //! ```text
-//! let crew = StudyCrew { workers };
-//! let world = run_study(&rt, alloc, &crew, &NoGate, &model, book.calls(), &mut steps)?;
+//! let world = run_study(&rt, alloc, workers, &NoGate, &model, book.calls(), &mut steps)?;
 //! let report = make_report(alloc, &model, &world)?;               // what the branches shared
 //! let solo = run_alone(alloc, &model, book.lists(), 1, &mut steps)?;     // the same trace, without sharing
 //! ```
 //!
 //! What it costs: a step for each message that is handled, one for all clones that share it; the memory of the world.
-//! A clone by itself costs a step for each message of its trace.
+//! A clone by itself costs a step for each message of its trace. A study without a large window starts no thread.
+//!
+//! A run that changes its clones while it goes on gives its own [`Onwards`] to [`go_to_horizon`] or [`go_alone`].
+//! `run_study_sequentially`, `run_alone` and `go_alone` take no handle that may wait, so they are proved to return.
 //!
 //! The promises that it carries: **bounded work, each shared message handled once**. At the horizon the steps rose by
 //! exactly the report's total; where a log would get longer than the limit, the least window end, there the least
@@ -28,12 +31,16 @@ pub mod alone;
 pub mod crew;
 pub mod examples;
 pub mod fault;
+pub mod going;
 pub mod laws;
+pub mod onwards;
 pub mod report;
 pub mod study;
 
-pub use alone::run_alone;
-pub use crew::StudyCrew;
+pub use alone::{run_alone, run_alone_until};
+pub use crew::{NewCrew, begin_crew};
 pub use fault::{StudyFault, fault_of_window};
+pub use going::{go_alone, go_to_horizon};
+pub use onwards::{Onwards, PlainRun};
 pub use report::make_report;
-pub use study::run_study;
+pub use study::{run_study, run_study_sequentially};

@@ -1,17 +1,14 @@
 -- A window of all stations: where they stood at a front, they stand at the bound.
-use Rattle.std.proofs.Common.{◌≡◌, ◌↔◌, ◌*◌, ℕ, zero, suc, ◌+◌, ◌<◌, ◌≤◌, ◌==◌, Bool, true, false, cond, option_map}
-use Rattle.std.proofs.Common.{List, [], ◌∷◌, ◌++◌, inl, inr, Some, refl, sym, ap, ◌∙◌, subst, arith, length, map}
-use Rattle.std.proofs.Common.{slice_get, unwrap_or, append_assoc, append-nil, eqb-true, eq-eqb}
-use Rattle.std.proofs.lemmas.Bool.{cases_Bool, false≢true}
+use Rattle.std.proofs.Common.{◌≡◌, ◌↔◌, ◌*◌, ℕ, zero, suc, ◌+◌, ◌<◌, ◌≤◌, true, option_map, List, [], inl, inr, Some}
+use Rattle.std.proofs.Common.{refl, sym, ap, ◌∙◌, subst, arith, length, slice_get, unwrap_or}
+use Rattle.std.proofs.lemmas.Bool.{false≢true}
 use Rattle.std.proofs.lemmas.Option.{slice_get_cases}
 use Rattle.std.proofs.Math.Nat.{suc-mul}
-use Rattle.std.proofs.lemmas.List.Sums.{sum_by-cons}
 use Rattle.std.proofs.Math.Numerals.{add-one}
 use Rattle.sim_base.specs.Order.{msg_cmp}
 use Rattle.sim_base.specs.Marked.{SortedMarked}
 use Rattle.sim_base.specs.Same.{same_entry}
 use Rattle.sim_base.specs.Clones.{Clone, clone_at}
-use Rattle.sim_base.specs.declared.message.Msg.{Msg}
 use Rattle.sim_base.proofs.SameEntry.{same_entry-Decides}
 use Rattle.clone_sets.specs.Sets.{has}
 use Rattle.clone_sets.proofs.SetLaws.{has-empty}
@@ -24,162 +21,21 @@ use Rattle.run_laws.specs.Fronts.{IsWindow}
 use Rattle.run_laws.specs.Handlers.{IsStation, AllAreForStations}
 use Rattle.run_laws.specs.Runs.{log_at}
 use Rattle.run_laws.specs.SharedTexts.{station_sum}
-use Rattle.run_laws.specs.Copies.{IsStepped, SoFarGiven, takes, messages_taken, ends_of, Stands, EachIsStepped}
-use Rattle.run_laws.specs.Copies.{IsDelivered}
-use Rattle.run_laws.proofs.Queue.{all_in, all_from}
-use Rattle.run_laws.proofs.Lists.{in_append, append_old, append_new}
-use Rattle.run_laws.proofs.Parts.{part_yes, part_no, part-append}
-use Rattle.run_laws.proofs.Delivery.{given_none, given_more, IsDelivered-SoFarGiven}
+use Rattle.run_laws.specs.Copies.{IsStepped, ends_of, Stands, EachIsStepped, IsDelivered}
+use Rattle.run_laws.proofs.Queue.{all_in}
 use Rattle.run_laws.proofs.Stands.{stands_after_window}
 use Rattle.run_laws.proofs.Gaining.{over_is_beyond, handled_grows, handled_is_few}
-use Rattle.run_laws.proofs.MessageOrder.{messages_ordered}
-use Rattle.phys_proc.specs.Own.{StationCopy, MarkedMessages, IsCopy, with_message}
+use Rattle.phys_proc.specs.Own.{StationCopy, IsCopy}
 use Rattle.phys_proc.specs.Procs.{ProcView}
-use Rattle.world_core.specs.declared.flow.Flow.{Flow}
 use Rattle.phys_proc.proofs.ComesFrom.{sets_join}
-use Rattle.phys_proc.proofs.Delivery.{all_given}
+use Rattle.station_steps.specs.declared.flow.Flow.{Flow}
+use Rattle.station_steps.specs.Windows.{AllFlow, IsFlow, NoneOver, copies_at, done_at, sent_at, after_window, all_handled}
+use Rattle.station_steps.proofs.Flows.{copies_at-got, done_at-got, sent_at-got}
+use Rattle.station_steps.proofs.Places.{by_number}
+use Rattle.station_steps.proofs.Handled.{handled_at, handled_at-got, all_handled-sum}
+use Rattle.station_steps.proofs.Delivered.{IsDelivered-after_window}
 use Rattle.world_core.specs.Overs.{most_handled}
-use Rattle.world_core.specs.Worlds.{StandsAt, copies_at, total_handled}
-use Rattle.world_core.specs.Windows.{AllFlow, IsFlow, NoneOver, with_mail, sent_to}
-use Rattle.world_core.specs.Windows.{all_sent, done_at, sent_at, after_window, all_handled}
-use Rattle.world_core.proofs.Flows.{copies_at-got, done_at-got, sent_at-got}
-use Rattle.world_core.proofs.Places.{by_number}
-
--- ---- sent_to and with_mail
-
-module _ (net : Net) (ends : ℕ → ℕ) where
-  -- messages given one after the other
-  given_so_far : (ms msgs : MarkedMessages) (new done : List StationCopy)
-      → SoFarGiven (simulation net) has ends msgs new done
-      → SoFarGiven (simulation net) has ends (msgs ++ ms) new (with_mail ms done)
-  given_so_far [] msgs new done f = subst (λ l. SoFarGiven (simulation net) has ends l new done)
-      (sym (append-nil msgs)) f
-  given_so_far (x ∷ ms) msgs new done f =
-      subst (λ l. SoFarGiven (simulation net) has ends l new (with_mail (x ∷ ms) done)) (append_assoc msgs (x ∷ []) ms)
-      (given_so_far ms (msgs ++ x ∷ []) new (map (with_message x.0 x.1) done)
-      (given_more (simulation net) has ends messages_ordered msgs new done (map (with_message x.0 x.1) done) x.0 x.1 f
-      (all_given net ends x.0 x.1 done (all_from (λ a. SortedMarked msg_cmp a.pending) done f.clones.sorted))))
-
-  -- what a clone takes of the messages to a station
-  taken_to : (i c : ℕ) (ms : MarkedMessages) (z : Msg)
-      → In z (messages_taken (simulation net) has ends c (sent_to i ms))
-      → In z (messages_taken (simulation net) has ends c ms) × (z.to ≡ i + 1)
-  taken_to i c [] z h = absurd h
-  taken_to i c (x ∷ ms) z h = elim (cases_Bool (x.0.to == i + 1)) [
-    | inl y ↦
-        let k : In z (messages_taken (simulation net) has ends c (x ∷ sent_to i ms)) =
-        subst (λ b. In z (messages_taken (simulation net) has ends c (cond b (x ∷ sent_to i ms) (sent_to i ms)))) y h in
-        elim (cases_Bool (takes (simulation net) has ends x.0 x.1 c)) [
-          | inl t ↦ elim (subst (In z) (part_yes (takes (simulation net) has ends) c x (sent_to i ms) t) k) [
-            | inl e ↦ (
-              subst (In z) (sym (part_yes (takes (simulation net) has ends) c x ms t)) (inl e),
-              ap (λ (m : Msg). m.to) e ∙ eqb-true x.0.to (i + 1) y,
-            )
-            | inr j ↦ let r = taken_to i c ms z j in
-                (subst (In z) (sym (part_yes (takes (simulation net) has ends) c x ms t)) (inr r.0), r.1)
-          ]
-          | inr t ↦ let r = taken_to i c ms z
-              (subst (In z) (part_no (takes (simulation net) has ends) c x (sent_to i ms) t) k) in
-              (subst (In z) (sym (part_no (takes (simulation net) has ends) c x ms t)) r.0, r.1)
-        ]
-    | inr f ↦
-        let r = taken_to i c ms z (subst (λ b.
-        In z (messages_taken (simulation net) has ends c (cond b (x ∷ sent_to i ms) (sent_to i ms)))) f h) in
-        elim (cases_Bool (takes (simulation net) has ends x.0 x.1 c)) [
-          | inl t ↦ (subst (In z) (sym (part_yes (takes (simulation net) has ends) c x ms t)) (inr r.0), r.1)
-          | inr t ↦ (subst (In z) (sym (part_no (takes (simulation net) has ends) c x ms t)) r.0, r.1)
-        ]
-  ]
-
-  -- and what a clone takes of all messages, of those to its station
-  to_taken : (i c : ℕ) (ms : MarkedMessages) (z : Msg) → In z (messages_taken (simulation net) has ends c ms)
-      → z.to ≡ i + 1
-      → In z (messages_taken (simulation net) has ends c (sent_to i ms))
-  to_taken i c [] z h e = absurd h
-  to_taken i c (x ∷ ms) z h e = elim (cases_Bool (takes (simulation net) has ends x.0 x.1 c)) [
-    | inl t ↦ elim (subst (In z) (part_yes (takes (simulation net) has ends) c x ms t) h) [
-      | inl p ↦
-          let y : (x.0.to == i + 1) ≡ true = eq-eqb x.0.to (i + 1) (sym (ap (λ (m : Msg). m.to) p) ∙ e) in
-          subst (λ b. In z (messages_taken (simulation net) has ends c (cond b (x ∷ sent_to i ms) (sent_to i ms))))
-          (sym y)
-          (subst (In z) (sym (part_yes (takes (simulation net) has ends) c x (sent_to i ms) t)) (inl p))
-      | inr j ↦ later t (to_taken i c ms z j e)
-    ]
-    | inr t ↦ not_taken t (to_taken i c ms z (subst (In z) (part_no (takes (simulation net) has ends) c x ms t) h) e)
-  ]
-    where
-      both : (b : Bool) → In z (messages_taken (simulation net) has ends c (x ∷ sent_to i ms))
-          → In z (messages_taken (simulation net) has ends c (sent_to i ms))
-          → In z (messages_taken (simulation net) has ends c (cond b (x ∷ sent_to i ms) (sent_to i ms)))
-      both true p q = p
-      both false p q = q
-
-      later : takes (simulation net) has ends x.0 x.1 c ≡ true
-          → In z (messages_taken (simulation net) has ends c (sent_to i ms))
-          → In z (messages_taken (simulation net) has ends c (sent_to i (x ∷ ms)))
-      later t j = both (x.0.to == i + 1)
-          (subst (In z) (sym (part_yes (takes (simulation net) has ends) c x (sent_to i ms) t)) (inr j)) j
-
-      not_taken : takes (simulation net) has ends x.0 x.1 c ≡ false
-          → In z (messages_taken (simulation net) has ends c (sent_to i ms))
-          → In z (messages_taken (simulation net) has ends c (sent_to i (x ∷ ms)))
-      not_taken t j = both (x.0.to == i + 1)
-          (subst (In z) (sym (part_no (takes (simulation net) has ends) c x (sent_to i ms) t)) j) j
-
--- ---- all_sent
-
-module _ (net : Net) (ends : ℕ → ℕ) (c : ℕ) (z : Msg) where
-  -- what some station sent is among all that was sent
-  from_all : (flows : List Flow) → In z (messages_taken (simulation net) has ends c (all_sent flows))
-      → (j : ℕ) × In z (messages_taken (simulation net) has ends c (sent_at flows j))
-  from_all [] h = absurd h
-  from_all (f ∷ fs) h = elim (in_append (messages_taken (simulation net) has ends c f.sent.items)
-      (messages_taken (simulation net) has ends c (all_sent fs)) z
-      (subst (In z) (part-append (takes (simulation net) has ends) c f.sent.items (all_sent fs)) h)) [
-        | inl a ↦ (0, a)
-        | inr a ↦ let r = from_all fs a in (suc r.0, r.1)
-      ]
-
-  -- and what it sent is among all of it
-  in_all : (flows : List Flow) (j : ℕ) → In z (messages_taken (simulation net) has ends c (sent_at flows j))
-      → In z (messages_taken (simulation net) has ends c (all_sent flows))
-  in_all [] j h = absurd h
-  in_all (f ∷ fs) zero h = subst (In z)
-      (sym (part-append (takes (simulation net) has ends) c f.sent.items (all_sent fs)))
-      (append_old (messages_taken (simulation net) has ends c f.sent.items)
-      (messages_taken (simulation net) has ends c (all_sent fs)) z
-      h)
-  in_all (f ∷ fs) (suc j) h = subst (In z)
-      (sym (part-append (takes (simulation net) has ends) c f.sent.items (all_sent fs)))
-      (append_new (messages_taken (simulation net) has ends c f.sent.items)
-      (messages_taken (simulation net) has ends c (all_sent fs)) z
-      (in_all fs j h))
-
--- ---- by the number of the station
-
--- how many messages the station at a place has handled
-abbrev handled_at : List Flow → ℕ → ℕ
-handled_at flows i = unwrap_or (option_map (λ f. f.handled) (slice_get flows i)) 0
-
--- it is what the answer at that place has
-handled_at-got : (flows : List Flow) (i : ℕ) (flow : Flow) → slice_get flows i ≡ Some flow
-    → handled_at flows i ≡ flow.handled
-handled_at-got flows i flow got = ap (λ o. unwrap_or (option_map (λ (f : Flow). f.handled) o) 0) got
-
--- the first station's number, and the others'
-sum_shift : (f : ℕ → ℕ) (n : ℕ)
-    → station_sum (by_number 0 f) (suc n) ≡ f 0 + station_sum (by_number 0 (λ i. f (suc i))) n
-sum_shift f zero = omega arith
-sum_shift f (suc n) = let h = sum_shift f n in omega (arith, h)
-
--- what all stations have handled is the sum over the stations
-all_handled-sum : (flows : List Flow) → all_handled flows ≡ station_sum (by_number 0 (handled_at flows)) (length flows)
-all_handled-sum [] = refl
-all_handled-sum (f ∷ fs) =
-    let h = all_handled-sum fs in
-    let a = sum_by-cons (λ (f : Flow). f.handled) f fs in
-    let b = sum_shift (handled_at (f ∷ fs)) (length fs) in
-    omega (arith, h, a, b)
+use Rattle.world_core.specs.Worlds.{StandsAt, total_handled}
 
 -- ---- the stations of a world
 
@@ -192,7 +48,7 @@ pub record WorldStepped (net : Net) (cs : List Clone) (front bound : ℕ) (procs
   pub all_flows : length flows ≡ length net.sites
   pub window : IsWindow (simulation net) cs front bound
   pub stood : (i : ℕ) (p : ProcView) → slice_get procs i ≡ Some p → StandsAt net cs front i p
-  pub stepped : AllFlow net (ends_of (simulation net) cs) bound procs flows
+  pub stepped : AllFlow net (ends_of (simulation net) cs) (λ i. bound) procs flows
 
 module _ (net : Net) (cs : List Clone) (front bound : ℕ) (procs : List ProcView) (flows : List Flow)
     (world : WorldStepped net cs front bound procs flows) where
@@ -328,26 +184,8 @@ module _ (net : Net) (cs : List Clone) (front bound : ℕ) (procs : List ProcVie
     is_delivered : (i : ℕ) → i < length net.sites
         → IsDelivered (simulation net) has cs (i + 1) (by_number [] (sent_at flows)) (done_at flows i)
         (after_window flows i)
-    is_delivered i l =
-        let ends = ends_of (simulation net) cs in
-        let st = step_at i l in
-        IsDelivered-SoFarGiven (simulation net) has cs (i + 1) (by_number [] (sent_at flows))
-        (sent_to i (all_sent flows))
-        (done_at flows i) (after_window flows i)
-        (λ c z h. let t = taken_to net ends i c (all_sent flows) z h in let r = from_all net ends c z flows t.0 in
-        (suc r.0, r.1, t.1))
-        (λ c r z h e. to_all c r z h e)
-        (given_so_far net ends (sent_to i (all_sent flows)) [] (done_at flows i) (done_at flows i)
-        (given_none (simulation net) has ends (done_at flows i) st.split.disjoint (sorted_at i l)))
+    is_delivered i l = IsDelivered-after_window net cs flows i (step_at i l).split.disjoint (sorted_at i l)
       where
-        to_all : (c r : ℕ) (z : Msg) → In z
-            (messages_taken (simulation net) has (ends_of (simulation net) cs) c (by_number [] (sent_at flows) r))
-            → z.to ≡ i + 1 → In z (messages_taken (simulation net) has (ends_of (simulation net) cs) c
-            (sent_to i (all_sent flows)))
-        to_all c zero z h e = absurd h
-        to_all c (suc j) z h e = to_taken net (ends_of (simulation net) cs) i c (all_sent flows) z
-            (in_all net (ends_of (simulation net) cs) c z flows j h) e
-
         sorted_at : (i : ℕ) → i < length net.sites → (a : StationCopy) → In a (done_at flows i)
             → SortedMarked msg_cmp a.pending
         sorted_at i l a h =

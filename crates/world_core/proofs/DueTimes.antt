@@ -36,9 +36,10 @@ use Rattle.phys_proc.specs.Own.{StationCopy, IsCopy, handled_alone_by, all_sizes
 use Rattle.phys_proc.specs.Procs.{ProcView, IsTakenBy, IsLeastTime, IsLeastOf}
 use Rattle.phys_proc.proofs.ComesFrom.{sets_join}
 use Rattle.phys_proc.proofs.LeastTimes.{least_as}
-use Rattle.world_core.specs.Worlds.{StandsAt, WorldStands, copies_at}
-use Rattle.world_core.proofs.Flows.{copies_at-got}
-use Rattle.world_core.proofs.Places.{by_number}
+use Rattle.station_steps.specs.Windows.{copies_at}
+use Rattle.world_core.specs.Worlds.{StandsAt, WorldStands}
+use Rattle.station_steps.proofs.Flows.{copies_at-got}
+use Rattle.station_steps.proofs.Places.{by_number}
 
 -- the time of a message
 abbrev time_of : Msg → ℕ

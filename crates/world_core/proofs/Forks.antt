@@ -4,8 +4,8 @@ use Rattle.std.proofs.Common.{sym, ap, ◌∙◌, subst, arith, length, length-s
 use Rattle.std.proofs.lemmas.Bool.{cases_eq}
 use Rattle.std.proofs.lemmas.Option.{same_Some, slice_get_within}
 use Rattle.phys_proc.specs.Procs.{ProcView}
-use Rattle.world_core.specs.Forking.{AllForked, HasForked}
-use Rattle.world_core.proofs.Places.{got_at, one_got}
+use Rattle.station_steps.specs.Forking.{AllForked, HasForked}
+use Rattle.station_steps.proofs.Places.{got_at, one_got}
 use Rattle.run_laws.proofs.Lists.{slice_get-set_same, slice_get-set_other}
 
 -- ---- ForkedTo

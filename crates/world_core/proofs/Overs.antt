@@ -9,9 +9,10 @@ use Rattle.clone_sets.proofs.SetLaws.{has-empty}
 use Rattle.net_model.specs.Net.{Net}
 use Rattle.stations.specs.Runs.{IsBeyond}
 use Rattle.phys_proc.specs.Procs.{ProcView}
-use Rattle.world_core.specs.declared.flow.Flow.{Flow}
-use Rattle.world_core.specs.Windows.{NoneOver}
-use Rattle.world_core.specs.Overs.{IsFirstBeyond, IsFirstOver, NoneBeyond}
+use Rattle.station_steps.specs.declared.flow.Flow.{Flow}
+use Rattle.station_steps.specs.Windows.{NoneOver}
+use Rattle.station_steps.specs.Stepping.{IsFirstOver}
+use Rattle.world_core.specs.Overs.{IsFirstBeyond, NoneBeyond}
 use Rattle.world_core.proofs.AfterWindow.{WorldStepped, flow_of, over_of}
 
 module _ (net : Net) (cs : List Clone) (front bound : ℕ) (procs : List ProcView) (flows : List Flow)

@@ -34,8 +34,8 @@ use Rattle.phys_proc.specs.Own.{StationCopy, with_message}
 use Rattle.phys_proc.specs.Procs.{ProcView}
 use Rattle.phys_proc.proofs.Delivery.{all_given}
 use Rattle.world_core.specs.Worlds.{StandsAt, WorldStands, WorldView}
-use Rattle.world_core.specs.Windows.{AllDelivered, with_mail}
-use Rattle.world_core.specs.Forking.{AllForked, LivesAtAll, LivesNowhere}
+use Rattle.station_steps.specs.Windows.{AllDelivered, with_mail}
+use Rattle.station_steps.specs.Forking.{AllForked, LivesAtAll, LivesNowhere}
 
 -- ---- WorldView
 

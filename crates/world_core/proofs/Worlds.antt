@@ -12,13 +12,13 @@ use Rattle.run_laws.specs.Copies.{Stands, ends_of}
 use Rattle.run_laws.proofs.NextFronts.{window_end-within}
 use Rattle.phys_proc.specs.Ends.{ends_in}
 use Rattle.phys_proc.specs.Procs.{ProcView}
-use Rattle.world_core.specs.declared.flow.Flow.{Flow}
+use Rattle.station_steps.specs.declared.flow.Flow.{Flow}
 use Rattle.phys_proc.proofs.Ends.{ends_in-bound}
 use Rattle.world_core.specs.Worlds.{AreInNet, StandsAt, WorldStands}
-use Rattle.world_core.specs.Windows.{AreStations, AllFlow, AllDelivered, AreStationsInOrder, MayGiveAll, NoneOver}
-use Rattle.world_core.specs.Windows.{done_at, all_sent, after_window, with_mail, sent_to}
-use Rattle.world_core.proofs.Flows.{done_at-got}
-use Rattle.world_core.proofs.Places.{got_map, map_got}
+use Rattle.station_steps.specs.Windows.{AreStations, AllFlow, AllDelivered, NoneOver}
+use Rattle.station_steps.specs.Windows.{done_at, all_sent, after_window, with_mail, sent_to}
+use Rattle.station_steps.proofs.Flows.{done_at-got}
+use Rattle.station_steps.proofs.Places.{map_got}
 use Rattle.world_core.proofs.AfterWindow.{WorldStepped, proc_of, flow_of, grown_at, stand_after}
 
 -- ---- a world at its front
@@ -57,12 +57,12 @@ module _ (net : Net) (cs : List Clone) (ended : List (ℕ × ℕ)) (front bound 
     (world : WorldStands net cs ended front procs) (later : front < bound)
     (within : bound ≤ next_front (simulation net) cs front) where
   -- the bound is not past the horizon
-  bound-within : bound ≤ net.horizon
+  pub bound-within : bound ≤ net.horizon
   bound-within =
       let h = window_end-within (simulation net) (least (simulation net) cs front) in omega (arith, within, h)
 
   module _ (flows : List Flow) (count : length flows ≡ length procs)
-      (stepped : AllFlow net (ends_in net.horizon ended) bound procs flows) where
+      (stepped : AllFlow net (ends_in net.horizon ended) (λ i. bound) procs flows) where
     -- the stations as they stood, and their answers
     pub world_stepped : WorldStepped net cs front bound procs flows
     world_stepped = record {
@@ -71,24 +71,7 @@ module _ (net : Net) (cs : List Clone) (ended : List (ℕ × ℕ)) (front bound 
       all_flows = count ∙ world.count;
       window = record { later = omega (arith, later); within = within };
       stood = world.each;
-      stepped = subst (λ e. AllFlow net e bound procs flows) world.ends stepped;
-    }
-
-    -- the stations as their tasks answer them are in the order of their numbers
-    done_in_order : AreStationsInOrder (map (λ (f : Flow). f.done) flows)
-    done_in_order = λ i p got.
-        let f = got_map (λ (f : Flow). f.done) flows i p got in
-        let l : i < length net.sites = let k = slice_get_within flows i f.0 f.1 in
-        omega (arith, k, world_stepped.all_flows) in
-        let q = proc_of net cs front bound procs flows world_stepped i l in
-        ap (λ (p : ProcView). p.station) (sym f.2) ∙ (world_stepped.stepped i q.0 f.0 q.1 f.1).number
-
-    -- and may be given what the others sent to them
-    pub done_stations : MayGiveAll (map (λ (f : Flow). f.done) flows)
-    done_stations = record {
-      few = let e = length-map flows (λ (f : Flow). f.done) in let n = world_stepped.all_flows in let k =
-          world.valid.few in omega (arith, e, n, k);
-      in_order = done_in_order;
+      stepped = subst (λ e. AllFlow net e (λ i. bound) procs flows) world.ends stepped;
     }
 
     module _ (none : NoneOver flows) where

@@ -1,10 +1,5 @@
 pub mod Worlds
-pub mod Windows
 pub mod Opening
 pub mod Overs
-pub mod Stepping
 pub mod Taking
-pub mod Forking
 pub mod Tracing
-pub mod Posts
-pub mod Tasks

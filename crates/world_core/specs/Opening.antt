@@ -5,7 +5,7 @@ use Rattle.net_model.specs.Net.{Net}
 use Rattle.stations.specs.Runs.{simulation}
 use Rattle.run_laws.specs.Copies.{first_copy}
 use Rattle.phys_proc.specs.Procs.{ProcView}
-use Rattle.world_core.specs.Windows.{IsNumbered}
+use Rattle.station_steps.specs.Windows.{IsNumbered}
 
 -- the copies at place i are one, as the station opens for the first clone, and it has handled nothing
 pub record IsFirstProc (net : Net) (i : ℕ) (p : ProcView) : Type 0 where

@@ -1,12 +1,10 @@
 -- Windows in which a log would get longer than the limit.
-use Rattle.std.specs.Prelude.{◌≡◌, ℕ, ◌+◌, ◌*◌, ◌<◌, ◌≤◌, List, length, slice_get, Some}
+use Rattle.std.specs.Prelude.{◌≡◌, ℕ, ◌+◌, ◌*◌, ◌<◌, ◌≤◌, List, length}
 use Rattle.sim_base.specs.Clones.{Clone, clone_at}
-use Rattle.clone_sets.specs.Sets.{empty, IsFirst}
 use Rattle.net_model.specs.Net.{Net, HasStation}
 use Rattle.run_laws.specs.CountLaws.{AreWithinLimitAt}
 use Rattle.run_laws.specs.Sharing.{IsWithinLimit}
 use Rattle.stations.specs.Runs.{IsBeyond, simulation}
-use Rattle.world_core.specs.declared.flow.Flow.{Flow}
 use Rattle.world_core.specs.declared.world.WorldFault.{WorldFault}
 use Rattle.world_core.specs.declared.world.WorldFault.TheVariants.{NoMemory, EventLimit}
 use Rattle.world_core.specs.Worlds.{total_handled}
@@ -34,10 +32,3 @@ IsFault net cs front bound old_steps new_steps NoMemory = Unit {0}
 IsFault net cs front bound old_steps new_steps (EventLimit station who kept) =
     IsFirstBeyond net cs bound station who × (kept ≡ net.limit)
     × (new_steps + total_handled net cs front ≤ old_steps + most_handled net (length cs))
-
--- the answer at place i is the first with a clone over the limit, and there this clone is the first
-pub record IsFirstOver (flows : List Flow) (i who : ℕ) : Type 0 where
-  pub flow : Flow
-  pub is_there : slice_get flows i ≡ Some flow
-  pub first : IsFirst flow.over who
-  pub none_before : (j : ℕ) (f : Flow) → j < i → slice_get flows j ≡ Some f → f.over ≡ empty

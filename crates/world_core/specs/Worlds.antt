@@ -1,5 +1,5 @@
 -- A world: all clones at a front, and what its stations keep of them.
-use Rattle.std.specs.Prelude.{◌≡◌, ℕ, ◌+◌, ◌<◌, ◌≤◌, List, [], ◌∷◌, length, option_map, slice_get, unwrap_or}
+use Rattle.std.specs.Prelude.{◌≡◌, ℕ, ◌+◌, ◌<◌, ◌≤◌, List, [], ◌∷◌, length, slice_get}
 use Rattle.std.specs.Prelude.{nat_lt, Some}
 use Rattle.sim_base.specs.Clones.{Clone, base, clone_at}
 use Rattle.sim_base.specs.declared.lists.TheConstants.{MOST_CLONES}
@@ -12,9 +12,8 @@ use Rattle.run_laws.specs.SharedTexts.{station_sum}
 use Rattle.run_laws.specs.Copies.{Stands, ends_of}
 use Rattle.run_laws.specs.Runs.{end_of}
 use Rattle.phys_proc.specs.Ends.{ends_in}
-use Rattle.phys_proc.specs.Own.{StationCopy}
 use Rattle.phys_proc.specs.Procs.{ProcView}
-use Rattle.world_core.specs.Windows.{IsNumbered}
+use Rattle.station_steps.specs.Windows.{IsNumbered}
 
 -- what contracts see of a world: its network, its clones with their decisions and ends, and how far all have come
 pub record WorldView : Type 0 where
@@ -25,10 +24,6 @@ pub record WorldView : Type 0 where
 -- a world as it opens: the base clone alone, before anything is handled
 abbrev pub opening_world : Net → WorldView
 opening_world net = record { net = net; clones = base ∷ []; front = 0 }
-
--- the copies of the station at a place of the list
-abbrev pub copies_at : List ProcView → ℕ → List StationCopy
-copies_at procs i = unwrap_or (option_map (λ p. p.copies) (slice_get procs i)) []
 
 -- the copies at place i are those of station i + 1, and they stand for the clones at the front: each clone is in one
 -- copy, whose log, state and messages are the clone's own, and two clones share a copy where their logs are equal

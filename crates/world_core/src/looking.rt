@@ -1,4 +1,4 @@
-//! What a world tells: due times, the next front (window boundary) and the report's figures.
+//! What a world reports: due times, the next front (window boundary) and the report's figures.
 ghost use Rattle.std.specs.Prelude.{◌≡◌, ◌*◌, ◌<◌, ◌≤◌, length};
 ghost use Rattle.std.specs.List.{AllByRecursion};
 ghost use Rattle.sim_base.specs.Clones.{clone_at};
@@ -14,7 +14,7 @@ use phys_proc::PhysCopy;
 use sim_base::Figures;
 use stations::due::{earlier, window_end};
 
-// How many messages the clones of these copies would have handled each by itself.
+// How many messages the clones of these copies would have handled, each alone.
 fn alone_in(copies: &[PhysCopy]) -> u64
     requires short { AllByRecursion (λ a. length a.log ≤ MOST_LIMIT) copies.now }
     requires few { all_sizes copies.now ≤ MOST_CLONES }
@@ -28,7 +28,7 @@ fn alone_in(copies: &[PhysCopy]) -> u64
 }
 
 impl World {
-    /// The least time that is due in a clone, below its end; None exactly where there is none. It takes no memory.
+    /// The least time that is due in a clone, below its end; None exactly if there is none. It takes no memory.
     pub fn least_of(&self, c: u32) -> Option<u64>
         requires there { c < length self.now.clones }
         ensures value { result ≡ least_of (simulation self.now.net) (clone_at self.now.clones c) self.now.front }
@@ -43,7 +43,7 @@ impl World {
         least
     }
 
-    /// The least time that is due in any clone; None exactly where there is none. It takes no memory.
+    /// The least time that is due in any clone; None exactly if there is none. It takes no memory.
     pub fn least(&self) -> Option<u64>
         ensures value { result ≡ least (simulation self.now.net) self.now.clones self.now.front }
     {

@@ -3,18 +3,10 @@ ghost use Rattle.std.specs.Prelude.{◌≡◌, IfOk};
 ghost use Rattle.net_model.specs.Net.{HasStation};
 
 use crate::world::World;
-use net_model::Model;
 use phys_proc::Rack;
 use sim_base::NoMemory;
+use station_steps::share_of;
 use std::alloc::Global;
-use std::sync::Arc;
-
-/// One share more of the model.
-pub(crate) fn share_of(model: &Arc<Model>) -> Result<Arc<Model>, NoMemory>
-    ensures value { IfOk result (λ m. m.value ≡ model.now.value) }
-{
-    Ok(model.clone()?)
-}
 
 impl World {
     /// What readers are shown of a station, now: its copies, and the lists of the clones that they stand for.
@@ -32,6 +24,7 @@ impl World {
     {
         let model = share_of(&self.model)?;
         let lists = self.lists.show(alloc)?;
-        self.procs[station as usize - 1].rack(alloc, model, lists, self.front)
+        let rack = self.procs[station as usize - 1].rack(alloc, model, lists, self.front)?;
+        Ok(rack)
     }
 }

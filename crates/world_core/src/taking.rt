@@ -5,18 +5,17 @@ ghost use Rattle.sim_base.specs.declared.lists.TheConstants.{MOST_CLONES};
 ghost use Rattle.net_model.specs.Net.{HasStation};
 ghost use Rattle.decision_book.specs.Journal.{clones_after};
 ghost use Rattle.world_core.specs.Taking.{IsAccepted, AreAccepted, clones_after_calls};
-ghost use Rattle.world_core.specs.Forking.{AllForked, LivesAtAll, LivesNowhere};
+ghost use Rattle.station_steps.specs.Forking.{AllForked, LivesAtAll, LivesNowhere};
 
-use crate::delivery::deliver_to;
-use crate::timed_proc::TimedProc;
 use crate::world::World;
 use clone_sets::CloneSet;
 use decision_book::Call;
 use sim_base::{Decision, Name, NoMemory, Planned};
+use station_steps::{TimedProc, deliver_to};
 use stations::decision::set_message;
 use std::alloc::Global;
 
-// At each station the new clone stands beside the old one.
+// At each station the new clone joins the old one in its copy.
 fn fork_all(procs: &mut Vec<TimedProc>, old: u32, new: u32)
     requires old { LivesAtAll old procs.old.items }
     requires new { LivesNowhere new procs.old.items }
@@ -83,8 +82,12 @@ impl World {
         }
     }
 
-    /// A new clone stands beside its old one, which has no end.
-    pub(crate) fn with_fork(self, alloc: Global, new: Name, old: u32) -> Result<World, NoMemory>
+    /// The world with a new clone, which has the decisions of the old one. The old one has no end, and nor has the new.
+    ///
+    /// # Errors
+    ///
+    /// Out of memory, the world is given up.
+    pub fn with_fork(self, alloc: Global, new: Name, old: u32) -> Result<World, NoMemory>
         requires there { old < length self.clones }
         requires open { (clone_at self.clones old).end ≡ None }
         requires unused { place_of new self.clones ≡ None }
@@ -99,8 +102,7 @@ impl World {
             front,
             mut procs,
             last,
-            outbox,
-            team,
+            buffers,
         } = self;
         let number = lists.lists().len();
         lists.fork(alloc, new, old)?;
@@ -112,13 +114,16 @@ impl World {
             front,
             procs,
             last,
-            outbox,
-            team,
+            buffers,
         })
     }
 
-    /// A decision of one clone is given to that clone at its station.
-    pub(crate) fn with_set(self, who: u32, plan: Planned) -> Result<World, NoMemory>
+    /// The world in which the clone `who` has one decision more, which its station gets as a message.
+    ///
+    /// # Errors
+    ///
+    /// Out of memory, the world is given up.
+    pub fn with_set(self, who: u32, plan: Planned) -> Result<World, NoMemory>
         requires there { who < length self.clones }
         requires is_station { HasStation self.net plan.station }
         requires not_late { self.front ≤ plan.at }
@@ -132,8 +137,7 @@ impl World {
             front,
             mut procs,
             last,
-            outbox,
-            team,
+            buffers,
         } = self;
         let msg = set_message(lists.lists().list(who).len(), plan);
         lists.add(who, plan)?;
@@ -145,13 +149,12 @@ impl World {
             front,
             procs,
             last,
-            outbox,
-            team,
+            buffers,
         })
     }
 
-    /// From its end on a clone takes nothing.
-    pub(crate) fn with_end(self, alloc: Global, who: u32, at: u64) -> Result<World, NoMemory>
+    // The world in which the clone has an end, from which on it takes nothing.
+    fn with_end(self, alloc: Global, who: u32, at: u64) -> Result<World, NoMemory>
         requires there { who < length self.clones }
         requires open { (clone_at self.clones who).end ≡ None }
         requires not_late { self.front ≤ at }
@@ -166,8 +169,7 @@ impl World {
             front,
             procs,
             last,
-            outbox,
-            team,
+            buffers,
         } = self;
         lists.end(who, at);
         ends.end(alloc, who, at)?;
@@ -178,8 +180,7 @@ impl World {
             front,
             procs,
             last,
-            outbox,
-            team,
+            buffers,
         })
     }
 }

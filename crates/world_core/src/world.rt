@@ -1,5 +1,4 @@
-//! The world of all clones, its time windows, none longer than the lookahead allows, and the team that steps the larger
-//! ones.
+//! The world of all clones, and its time windows, none longer than the lookahead allows.
 ghost use Rattle.std.specs.Prelude.{◌≡◌, ◌+◌, ◌<◌, ◌≤◌, length, IfOk, IfErr};
 ghost use Rattle.sim_base.specs.declared.lists.TheConstants.{MOST_CLONES};
 ghost use Rattle.net_model.specs.declared.limits.TheConstants.{MOST_STATIONS};
@@ -10,20 +9,17 @@ ghost use Rattle.world_core.specs.Opening.{AreFirst};
 ghost use Rattle.world_core.specs.Overs.{IsFault, NoneBeyond};
 ghost use Rattle.world_core.specs.declared.world.WorldFault.TheVariants.{EventLimit};
 
-use crate::delivery::give_all;
-use crate::shared_ends::SharedEnds;
-use crate::shared_lists::SharedLists;
-use crate::timed_proc::TimedProc;
-use crate::windows::{Outbox, Window, WindowResult, step_all};
 use crew_pool::{Crew, Gate};
 use net_model::Model;
 use phys_proc::Proc;
 use sim_base::{Lists, NoMemory, Steps};
-use standing_crew::Team;
+use station_steps::{
+    Buffers, SharedEnds, SharedLists, TimedProc, Window, WindowResult, deliver_all, give_all,
+    pass_gate, step_by_crew, step_in_place,
+};
 use std::alloc::Global;
 use std::sync::ledger::Ledger;
-use std::sync::{Arc, Mutex, Wait};
-use std::thread::Threads;
+use std::sync::{Arc, Wait};
 
 /// All clones at a front: the copies of every station stand for them.
 #[derive(Drop)]
@@ -35,20 +31,12 @@ pub struct World {
     pub(crate) procs: Vec<TimedProc>,
     // how many messages the last window handled: a hint of how many the next one will
     pub(crate) last: u64,
-    // for what a window sends
-    pub(crate) outbox: Outbox,
-    // the workers that stay between windows, if there are any
-    // nobody takes the lock: with it, threads that write texts may read a world that has a team
-    pub(crate) team: Mutex<Option<Team<Window>>>,
+    // the bounds of a window and what it sends
+    pub(crate) buffers: Buffers,
 }
 
-/// A window after one that handled fewer messages than this runs in the caller's thread where there is no team:
-/// starting threads costs more.
-pub const SMALL_WINDOW: u64 = 8_000;
-
-/// A window after one that handled fewer messages than this runs in the caller's thread also where there is a team:
-/// waking its workers costs more.
-pub const TEAM_WINDOW: u64 = 2_000;
+/// A window that handles at least this number of messages is large: a crew pays for the next one.
+pub const LARGE_WINDOW: u64 = 2_000;
 
 impl std::marker::Model for World {
     ghost use Rattle.world_core.specs.Worlds.{WorldView, WorldStands};
@@ -63,10 +51,21 @@ impl std::marker::Model for World {
 /// Why a window has no result.
 #[derive(Clone, Copy, Debug, PartialEq, Eq)]
 pub enum WorldFault {
-    /// Memory was refused.
+    /// Out of memory.
     NoMemory,
     /// A log would get longer than the limit: the least such station, there the least such clone, and the limit.
     EventLimit { station: u32, who: u32, kept: u64 },
+}
+
+impl From<NoMemory> for WorldFault {
+    ghost use Rattle.std.specs.Prelude.{◌≡◌};
+    ghost use Rattle.world_core.specs.declared.world.WorldFault.TheVariants.{NoMemory};
+
+    ghost from_gives = { λ _ e. e ≡ NoMemory };
+
+    fn from(_error: NoMemory) -> WorldFault {
+        WorldFault::NoMemory
+    }
 }
 
 // The copies of all stations as they open, for the first clone.
@@ -96,15 +95,6 @@ fn beyond_limit(model: &Model, place: u32, who: u32) -> WorldFault
     }
 }
 
-// Whether so little is due, as the last window tells, that threads would cost more than they save.
-fn is_small(last: u64, has_team: bool) -> bool {
-    if has_team {
-        last < TEAM_WINDOW
-    } else {
-        last < SMALL_WINDOW
-    }
-}
-
 impl World {
     /// The base clone alone, before anything is handled.
     pub fn new(alloc: Global, model: Arc<Model>) -> Result<World, NoMemory>
@@ -120,24 +110,13 @@ impl World {
             front: 0,
             procs,
             last: 0,
-            outbox: Outbox::new(alloc),
-            team: Mutex::new(None),
+            buffers: Buffers::new(alloc),
         })
     }
 
-    /// Its larger windows are stepped by this team, in place of the crew.
-    pub fn with_team(self, team: Team<Window>) -> World
-        ensures same { result ≡ self }
-    {
-        let mut world = self;
-        world.team = Mutex::new(Some(team));
-        world
-    }
-
-    /// Whether the last window handled at least `TEAM_WINDOW` messages, so that a team would step the next one. It is
-    /// a hint.
-    pub fn wants_team(&self) -> bool {
-        self.last >= TEAM_WINDOW
+    /// Whether the last window was large, so that a crew pays for the next one. It is a hint.
+    pub fn wants_crew(&self) -> bool {
+        self.last >= LARGE_WINDOW
     }
 
     /// How far all clones have come.
@@ -166,17 +145,15 @@ impl World {
         self.lists.lists()
     }
 
-    /// Handles what comes before the bound, at each station by itself, and gives each station what the others sent
-    /// to it. Each station is a task, whether or not something is due there: of the team, where there is one, else of
-    /// the crew. Where little is due, the caller's thread steps them where they stand.
+    /// Handles what comes before the bound, at each station separately, and gives each station what the others sent to
+    /// it, all in the caller's thread.
     ///
-    /// Out of memory, or where a log would get longer than the limit, the world is given up.
-    pub fn window<C: Crew, G: Gate, L: Ledger, R: Threads + Wait + Sync>(
+    /// # Errors
+    ///
+    /// Out of memory, or if a log would get longer than the limit, the world is given up.
+    pub fn window_in_place<L: Ledger>(
         self,
-        rt: &R,
         alloc: Global,
-        crew: &C,
-        gate: &G,
         bound: u64,
         steps: &mut Steps<L>,
     ) -> Result<World, WorldFault>
@@ -197,39 +174,113 @@ impl World {
             ends,
             front: _,
             procs,
-            last,
-            outbox,
-            team,
+            last: _,
+            mut buffers,
         } = self;
-        let team = team.into_inner();
-        let small = is_small(last, team.is_some());
-        let Ok((stepped, team)) = step_all(
-            rt, alloc, crew, team, gate, &model, &ends, procs, outbox, bound, small, steps,
-        ) else {
-            return Err(WorldFault::NoMemory);
-        };
+        buffers.bound_all(procs.len(), bound)?;
+        let stepped = step_in_place(alloc, &model, ends.ends(), procs, buffers, steps)?;
         let WindowResult {
-            procs,
-            outbox,
+            mut procs,
+            buffers,
             over,
             handled,
         } = stepped;
         if let Some((place, who)) = over {
             return Err(beyond_limit(&model, place, who));
         }
-        let sent = outbox.all.as_slice();
-        match give_all(rt, alloc, team, &model, &ends, bound, procs, sent, small) {
-            Ok((procs, team)) => Ok(World {
-                model,
-                lists,
-                ends,
-                front: bound,
-                procs,
-                last: handled,
-                outbox,
-                team: Mutex::new(team),
-            }),
-            Err(NoMemory) => Err(WorldFault::NoMemory),
+        deliver_all(&mut procs, buffers.sent.as_slice())?;
+        Ok(World {
+            model,
+            lists,
+            ends,
+            front: bound,
+            procs,
+            last: handled,
+            buffers,
+        })
+    }
+
+    // The same by the crew. Each station is a task, whether or not something is due there.
+    fn window_by_crew<G: Gate, L: Ledger, R: Wait>(
+        self,
+        rt: &R,
+        alloc: Global,
+        crew: &mut Crew<'_, Window, G>,
+        bound: u64,
+        steps: &mut Steps<L>,
+    ) -> Result<World, WorldFault>
+        requires above { self.front < bound }
+        requires within { bound ≤ next_front self.net self.clones self.front }
+        ensures value { IfOk result (λ w. w ≡ record self { front = bound }) }
+        ensures steps { IfOk result (λ w. steps.new + total_handled self.net self.clones self.front
+            ≡ steps.old + total_handled self.net self.clones bound) }
+        ensures short { IfOk result (λ w. NoneBeyond self.net self.clones bound) }
+        ensures fault { IfErr result (λ e. IsFault self.net self.clones self.front bound steps.old steps.new e) }
+    {
+        let World {
+            model,
+            lists,
+            ends,
+            front: _,
+            procs,
+            last: _,
+            mut buffers,
+        } = self;
+        let work = Window::shared(alloc, &model, &ends)?;
+        buffers.bound_all(procs.len(), bound)?;
+        let stepped = step_by_crew(rt, alloc, crew, &work, procs, buffers, steps)?;
+        let WindowResult {
+            procs,
+            buffers,
+            over,
+            handled,
+        } = stepped;
+        if let Some((place, who)) = over {
+            return Err(beyond_limit(&model, place, who));
         }
+        let procs = give_all(rt, alloc, crew, &work, procs, buffers.sent.as_slice())?;
+        Ok(World {
+            model,
+            lists,
+            ends,
+            front: bound,
+            procs,
+            last: handled,
+            buffers,
+        })
+    }
+
+    /// Handles what comes before the bound, at each station separately, and gives each station what the others sent to
+    /// it. If the last window was large, the crew does it: each station is a task, whether or not something is due
+    /// there. If it was not, the caller's thread steps the stations in place, after the gate was called for each.
+    ///
+    /// # Errors
+    ///
+    /// Out of memory, or if a log would get longer than the limit, the world is given up.
+    pub fn window<G: Gate, L: Ledger, R: Wait>(
+        self,
+        rt: &R,
+        alloc: Global,
+        crew: &mut Crew<'_, Window, G>,
+        bound: u64,
+        steps: &mut Steps<L>,
+    ) -> Result<World, WorldFault>
+        requires above { self.front < bound }
+        requires within { bound ≤ next_front self.net self.clones self.front }
+        // what it gives: the same world at the bound
+        ensures value { IfOk result (λ w. w ≡ record self { front = bound }) }
+        // what is counted: the messages that the stations handle, each once for all clones of a copy
+        ensures steps { IfOk result (λ w. steps.new + total_handled self.net self.clones self.front
+            ≡ steps.old + total_handled self.net self.clones bound) }
+        // no log is beyond the limit, or the fault names the first that is
+        ensures short { IfOk result (λ w. NoneBeyond self.net self.clones bound) }
+        ensures fault { IfErr result (λ e. IsFault self.net self.clones self.front bound steps.old steps.new e) }
+    {
+        let large = self.wants_crew() || crew.gate().shares_small_work();
+        if crew.is_single() || !large {
+            pass_gate(rt, crew.gate(), self.model.len());
+            return self.window_in_place(alloc, bound, steps);
+        }
+        self.window_by_crew(rt, alloc, crew, bound, steps)
     }
 }

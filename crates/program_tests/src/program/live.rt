@@ -1,5 +1,5 @@
 //! Live studies: analysts who decide and look while the engine runs.
-use super::{CUT, GOOD, LIMIT_3, LIVE, Outcome, Outside, RUN, is_both, run_program, texts};
+use super::{CUT, GOOD, LIMIT_3, LIVE, Outcome, Outside, RUN, comes, is_both, run_program, texts};
 use crew_pool::{Gate, NoGate};
 use sample_models::{BUSY, CLINIC, ONE_DESK, QUIET_JOURNAL};
 use sim_base::NoMemory;
@@ -7,11 +7,7 @@ use std::alloc::Global;
 use std::sync::Wait;
 use std::sync::atomic::{AtomicU64, Ordering};
 use std::test::Fail;
-use std::thread;
 use std::thread::Threads;
-
-/// How long a gate waits for the other side.
-const TURNS: u32 = 1_000_000;
 
 /// Where a piece stands in a text.
 fn place_of(text: &[u8], piece: &[u8]) -> Option<usize> {
@@ -200,17 +196,6 @@ fn live_output_is_cut_off(rt: HostRuntime) -> Result<(), Fail> {
     Ok(())
 }
 
-/// Waits until a count is this much, and says whether it came to that.
-fn comes(count: &AtomicU64, least: u64) -> bool {
-    for _turn in 0..TURNS {
-        if count.load(Ordering::SeqCst) >= least {
-            return true;
-        }
-        thread::yield_now();
-    }
-    false
-}
-
 /// Holds the first task until the first analyst's second call, and that call until the first task has begun.
 #[derive(Drop)]
 struct CallsBesideTasks {
@@ -296,22 +281,20 @@ fn looks_during_run(rt: HostRuntime) -> Result<(), Fail> {
     Ok(())
 }
 
-/// Holds the first task of the second window until a second worker has begun a task.
+/// Holds one task until a second worker has begun a task.
 #[derive(Drop)]
 struct WorkersMeet {
+    /// How many tasks begin before the one that is held.
+    before: u64,
     tasks: AtomicU64,
-    // who has begun a task of that window, a bit for each
-    workers: AtomicU64,
     missed: AtomicU64,
 }
 
 impl Gate for WorkersMeet {
-    fn before<R: Wait>(&self, _rt: &R, worker: u32, _task: u32) {
-        let before = self.tasks.fetch_add(1, Ordering::SeqCst);
-        if before >= 2 {
-            self.workers.fetch_or(1 << (worker % 64), Ordering::SeqCst);
-        }
-        if before == 2 && !comes(&self.workers, 0b11) {
+    fn before<R: Wait>(&self, _rt: &R, _worker: u32, _task: u32) {
+        // while this task is held, only another worker begins one
+        let task = self.tasks.fetch_add(1, Ordering::SeqCst);
+        if task == self.before && !comes(&self.tasks, task.saturating_add(2)) {
             self.missed.store(1, Ordering::SeqCst);
         }
     }
@@ -320,28 +303,29 @@ impl Gate for WorkersMeet {
 }
 
 /// Whether two workers meet in a busy window.
-fn meet<R: Threads + Wait + Sync>(rt: &R, alloc: Global, mode: &str) -> bool {
+fn meet<R: Threads + Wait + Sync>(rt: &R, alloc: Global, mode: &str, before: u64) -> bool {
     let gate = WorkersMeet {
+        before,
         tasks: AtomicU64::new(0),
-        workers: AtomicU64::new(0),
         missed: AtomicU64::new(0),
     };
     let words = [mode, "m", "s", "--workers", "2"];
     match run_program(rt, alloc, &gate, &words, BUSY, "", &GOOD) {
         Ok(ended) => {
             ended.status == 0
-                && gate.workers.load(Ordering::SeqCst) == 0b11
+                && gate.tasks.load(Ordering::SeqCst) > before
                 && gate.missed.load(Ordering::SeqCst) == 0
         }
         Err(_) => false,
     }
 }
 
-/// The first window of two stations is stepped by the caller, and is busy enough that the second is not.
+/// The first window of two stations is stepped by the caller, by `run` without the gate. It is so busy that the second
+/// one goes to the crew.
 #[test]
 fn workers_meet(rt: HostRuntime) -> Result<(), Fail> {
-    for mode in ["run", "live"] {
-        assert!(rt; meet(&rt, rt.alloc(), mode), "{}", mode);
+    for (mode, before) in [("run", 0), ("live", 2)] {
+        assert!(rt; meet(&rt, rt.alloc(), mode, before), "{}", mode);
     }
     Ok(())
 }

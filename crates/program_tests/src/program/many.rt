@@ -1,5 +1,5 @@
 //! Many branches and many lines, and many workers.
-use super::{FAST, GOOD, PLAIN, REFUSED, RUN, Row, run_program, texts};
+use super::{FAST, GOOD, PLAIN, REFUSED, RUN, Row, comes, is_both, run_program, texts};
 use crew_pool::{Gate, NoGate};
 use sample_models::{BUSY, CLINIC, ONE_DESK};
 use sim_base::NoMemory;
@@ -161,7 +161,7 @@ fn any_number_of_workers(rt: HostRuntime) -> Result<(), Fail> {
     Ok(())
 }
 
-/// Windows that a team steps, and a text that several workers write.
+/// Windows and a text by several workers.
 #[test]
 fn busy_by_four_workers(rt: HostRuntime) -> Result<(), Fail> {
     assert!(rt; same_for_all(&rt, rt.alloc(), "4", BUSY, ""));
@@ -174,37 +174,56 @@ fn clinic_by_two_workers(rt: HostRuntime) -> Result<(), Fail> {
     Ok(())
 }
 
-/// Counts its calls.
+/// Notes which tasks the windows of three stations have. The first call is held until there is a second one, which only
+/// another worker can make.
 #[derive(Drop)]
-struct Counts {
+struct TaskNumbers {
     calls: AtomicU64,
+    // three bits for each window, one for each task number
+    tasks: AtomicU64,
+    missed: AtomicU64,
 }
 
-impl Gate for Counts {
-    fn before<R: Wait>(&self, _rt: &R, _worker: u32, _task: u32) {
-        self.calls.fetch_add(1, Ordering::SeqCst);
+impl Gate for TaskNumbers {
+    fn before<R: Wait>(&self, _rt: &R, _worker: u32, task: u32) {
+        let call = self.calls.fetch_add(1, Ordering::SeqCst);
+        if call < 21 && task < 3 {
+            let window = (call / 3) as u32;
+            self.tasks
+                .fetch_or(1 << (3 * window + task), Ordering::SeqCst);
+        }
+        if call == 0 && !comes(&self.calls, 2) {
+            self.missed.store(1, Ordering::SeqCst);
+        }
     }
 
     fn before_call<R: Wait>(&self, _rt: &R, _analyst: u32, _k: u32) {}
-}
 
-/// Whether a run of one desk by so many workers handed out so many tasks.
-fn has_tasks<R: Threads + Wait + Sync>(rt: &R, alloc: Global, workers: &str, tasks: u64) -> bool {
-    let gate = Counts {
-        calls: AtomicU64::new(0),
-    };
-    let words = ["run", "m", "s", "--workers", workers];
-    match run_program(rt, alloc, &gate, &words, ONE_DESK, "", &GOOD) {
-        Ok(ended) => ended.status == 0 && gate.calls.load(Ordering::SeqCst) == tasks,
-        Err(_) => false,
+    fn shares_small_work(&self) -> bool {
+        true
     }
 }
 
-/// Three stations in each of seven windows.
+/// Of each three calls in a row one is of task 0, one of task 1 and one of task 2: the three stations in each of seven
+/// windows.
 #[test]
 fn windows_counted(rt: HostRuntime) -> Result<(), Fail> {
-    for workers in ["1", "4"] {
-        assert!(rt; has_tasks(&rt, rt.alloc(), workers, 21), "{}", workers);
-    }
+    let gate = TaskNumbers {
+        calls: AtomicU64::new(0),
+        tasks: AtomicU64::new(0),
+        missed: AtomicU64::new(0),
+    };
+    let words = ["run", "m", "s", "--workers", "4"];
+    let ended = run_program(&rt, rt.alloc(), &gate, &words, ONE_DESK, FAST, &GOOD)?;
+    assert!(rt;
+        is_both(
+            ended.output(),
+            texts::BASE_AND_FAST,
+            texts::BASE_AND_FAST_REPORT
+        )
+    );
+    assert!(rt; gate.calls.load(Ordering::SeqCst) == 21);
+    assert!(rt; gate.tasks.load(Ordering::SeqCst) == 0x1f_ffff);
+    assert!(rt; gate.missed.load(Ordering::SeqCst) == 0);
     Ok(())
 }

@@ -1,28 +1,24 @@
-use Rattle.std.proofs.Common.{◌∙◌, ◌∷◌, [], ap, ap₂, subst, sym}
-use Rattle.sim_base.specs.Clones.{base, clone_at}
-use Rattle.net_model.specs.Net.{Net}
-use Rattle.world_core.specs.Taking.{clones_after_calls}
+use Rattle.std.proofs.Common.{◌∙◌, ap, subst, sym}
+use Rattle.sim_base.specs.Clones.{clone_at}
 use Rattle.rolling_text.specs.WorldTraces.{AreShort}
 use Rattle.cloner_top.proofs.Runs.{run_stops, short_planned}
+use Rattle.std.proofs.Common.{refl}
 use Rattle.cloner_top.proofs.running.run_world.Goals as goal
 
 pub returns-in-Err-LimitMet-clause-err : goal.returns-in-Err-LimitMet-clause-err
 returns-in-Err-LimitMet-clause-err g c = λ texts.
-    let made = ap₂ (λ (n : Net) calls. clones_after_calls n (base ∷ []) calls)
-    (sym c.args.plan.now.net_is) c.calls.ensures.value ∙ c.requires.accepted.clones in
     let name = c.name.ensures.value ∙ ap (λ l. (clone_at l c.in-Err-LimitMet.who).name) c.lists-lists.ensures.value in
-    run_stops _ _ _ _ texts _ _ _ _ _ _ made (rw c.in-Err-LimitMet.field-0-is at c.in-Err-LimitMet.ensures.fault)
+    run_stops _ _ _ _ texts _ _ _ _ _ _ refl (rw c.in-Err-LimitMet.field-0-is at c.in-Err-LimitMet.ensures.ran.fault)
     c.deref.ensures name c.stop_at.ensures
 
 pub returns-in-Ok-clause-may_report : goal.returns-in-Ok-clause-may_report
-returns-in-Ok-clause-may_report g c = record { net = c.in-Ok.ensures.net; ended = c.in-Ok.ensures.front }
+returns-in-Ok-clause-may_report g c =
+    record { net = c.in-Ok.ensures.ran.net_is; ended = c.in-Ok.ensures.ran.front }
 
 pub returns-in-Ok-clause-within : goal.returns-in-Ok-clause-within
-returns-in-Ok-clause-within g c = c.in-Ok.ensures.within
+returns-in-Ok-clause-within g c = c.in-Ok.ensures.ran.within
 
 pub returns-in-Ok-clause-short : goal.returns-in-Ok-clause-short
 returns-in-Ok-clause-short g c =
-    let made = ap₂ (λ (n : Net) calls. clones_after_calls n (base ∷ []) calls)
-    (sym c.args.plan.now.net_is) c.calls.ensures.value ∙ c.requires.accepted.clones in
     let short = short_planned _ _ c.lists-lists.ensures.planned in
-    subst AreShort (c.lists-lists.ensures.value ∙ (sym made ∙ sym c.in-Ok.ensures.clones)) short
+    subst AreShort (c.lists-lists.ensures.value ∙ sym c.in-Ok.ensures.ran.clones_are) short

@@ -8,5 +8,5 @@ abbrev pub invariant-loop-item : goal.invariant-loop-item
 invariant-loop-item g l =
     (worker_deque l.owner ≡ worker_deque l.initial.owner)
     × (worker_flavor l.owner ≡ worker_flavor l.initial.owner)
-    × (worker_view l.owner ≡ seat_view ALL_PARTS (length l.yielded) [])
+    × (worker_view l.owner ≡ seat_view ALL_PARTS l.yielded [])
     × (l.i ≡ length l.yielded)

@@ -1,4 +1,4 @@
-use Rattle.std.proofs.Common.{◌≡◌, ◌∙◌, ◌++◌, ◌∷◌, [], Some, ap, sym, arith, length-append}
+use Rattle.std.proofs.Common.{◌≡◌, ◌∙◌, ◌++◌, ◌∷◌, [], Some, ap, sym, arith, length, length-append}
 use Rattle.std.proofs.lemmas.List.Elements.{All-pop}
 use Rattle.sim_base.specs.Reserved.{ReservedView}
 use Rattle.journal_text.specs.declared.looked.Looked.{Looked}
@@ -20,6 +20,13 @@ loop-pass-preserved g c =
       todo = mapped_more (λ (a : SeatedAnalyst). a.0.todo.items) _ _ _ _ pushed inv.todo
           ∙ ap (λ acts. each_acts items many ++ acts ∷ []) c.in_ok-todo.ensures.value ∙ sym (acts_next items many);
       number = omega (arith, inv.number, length-append c.loop-pass.yielded (c.in-Some.pass ∷ []));
+      left = omega (
+        arith,
+        inv.left,
+        length-append c.loop-pass.yielded (c.in-Some.pass ∷ []),
+        ap length popped,
+        length-append c.pop.new.self.items (c.in-Some-pop.seat ∷ []),
+      );
       seats = λ opening h. (All-pop (λ s. s ≡ opening) _ _ (Some c.in-Some-pop.seat) popped (inv.seats opening h)).0;
       fresh = λ opening h. fresh_more opening _ _ _ pushed (inv.fresh opening h) (record {
         quiet = ap (λ (r : ReservedView Looked). r.items) c.in_ok-looks.ensures.value;

@@ -1,4 +1,5 @@
 use Rattle.std.proofs.Common.{◌-◌}
+use Rattle.live_study.specs.Driving.{CountsOnce}
 use Rattle.live_study.specs.Engines.{InStep, Steers}
 use Rattle.live_study.specs.Showing.{AreShownOf}
 use Rattle.live_study.proofs.engine.drive.Given as goal
@@ -7,6 +8,7 @@ abbrev pub invariant-turns : goal.invariant-turns
 invariant-turns g l = record {
   steers : Steers l.initial.helm l.helm;
   in_step : InStep l.helm l.world;
+  counted : CountsOnce l.fn.world l.world l.fn.steps l.steps;
   shown : AreShownOf l.helm l.world l.stocker.published;
 }
 

@@ -1,6 +1,7 @@
 use Rattle.std.proofs.Common.{subst}
 use Rattle.net_model.specs.Net.{Net}
 use Rattle.net_model.specs.Rules.{IsNet}
+use Rattle.live_study.proofs.Handled.{handled-taken}
 use Rattle.live_study.proofs.Stepping.{goes_ahead, may_take, raises_next}
 use Rattle.live_study.proofs.engine.take_turn.Goals as goal
 
@@ -23,3 +24,11 @@ pub returns-clause-raises : goal.returns-clause-raises
 returns-clause-raises g c =
     let t = c.in_ok-turn.ensures.turn in
     raises_next _ _ c.in_ok-turn.turn t.0 t.1
+
+pub returns-clause-handled : goal.returns-clause-handled
+returns-clause-handled g c =
+    let t = c.in_ok-turn.ensures.turn in
+    handled-taken c.args.world c.in_ok-world.world c.as_slice-2.result.now
+    (subst (λ (n : Net). IsNet n) c.model.ensures.value c.lookahead-valid.ensures.valid)
+    (may_take _ c.args.world c.in_ok-turn.turn _ t.0 _ c.requires.may_turn.in_step t.1 c.as_slice-2.ensures.value)
+    c.in_ok-world.ensures.value

@@ -11,7 +11,10 @@ pub begin-requires-clause-most : goal.begin-requires-clause-most
 begin-requires-clause-most g c = omega (arith, c.analysts.ensures.valid.few_analysts, c.analysts.ensures.value)
 
 pub analysts_of-requires : goal.analysts_of-requires
-analysts_of-requires g c = record { few = omega (arith, c.requires.many, c.analysts.ensures.valid.few_analysts) }
+analysts_of-requires g c = record {
+  few = omega (arith, c.requires.many, c.analysts.ensures.valid.few_analysts);
+  seats = omega (arith, c.requires.many, c.in_ok-stocker.ensures.many, c.analysts.ensures.value);
+}
 
 pub returns-clause-published : goal.returns-clause-published
 returns-clause-published g c = c.in_ok-stocker.ensures.published

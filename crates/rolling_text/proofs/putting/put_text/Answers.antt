@@ -1,7 +1,6 @@
-use Rattle.std.proofs.Common.{◌≡◌, ◌+◌, ◌∙◌, arith, length, subst, sym}
+use Rattle.std.proofs.Common.{◌+◌, ◌∙◌, ap, arith, length, sym}
 use Rattle.sim_base.specs.Clones.{clone_at}
-use Rattle.rolling_text.specs.Texts.{body, rest}
-use Rattle.rolling_text.specs.WorldTraces.{WorldTracesView}
+use Rattle.rolling_text.specs.Texts.{body, parting_at, rest}
 use Rattle.rolling_text.proofs.Joined.{next_before, rest_fits, still_joined}
 use Rattle.rolling_text.proofs.Keeping.{dropped_next}
 use Rattle.rolling_text.proofs.Puts.{cut_part, end_cut, rest_cut, text_put}
@@ -12,16 +11,22 @@ use Rattle.rolling_text.proofs.putting.put_text.Goals as goal
 pub returns-in-Err-clause-err : goal.returns-in-Err-clause-err
 returns-in-Err-clause-err g c = cut_part _ _ _ _ _ c.begin_text-start.ensures.text c.in-Err.ensures.err
 
-pub put_rest-requires-clause-fits : goal.put_rest-requires-clause-fits
-put_rest-requires-clause-fits g c κs within =
+pub put_rest-requires-clause-may : goal.put_rest-requires-clause-may
+put_rest-requires-clause-may g c =
     let v = c.args.traces.now in
     let clone = clone_at v.clones c.args.c in
     let begun = c.begin_text-start in
     let fits = c.requires.fits c.args.c c.requires.there in
-    rest_fits begun.new.page.text (rest v.net clone c.parting_at-time.result) (body v.net clone) begun.new.page.reserved
-    begun.ensures.margin
-    begun.ensures.lines
-    (omega (arith, fits, begun.ensures.reserved))
+    record {
+      has_span = record { there = c.requires.there; order = omega (arith, c.max-late.ensures) };
+      can = record { walk = c.requires.can.walk; line = c.requires.can.line };
+      fits = λ is.
+          rest_fits begun.new.page.text (rest v.net clone c.parting_at-time.result) (body v.net clone)
+          begun.new.page.reserved
+          begun.ensures.margin
+          begun.ensures.lines
+          (omega (arith, fits, begun.ensures.reserved));
+    }
 
 pub returns-in-Err-put_rest-clause-err : goal.returns-in-Err-put_rest-clause-err
 returns-in-Err-put_rest-clause-err g c =
@@ -41,21 +46,21 @@ returns-in-Ok-put-clause-ok g c =
     })
 
 pub returns-in-Ok-put-clause-left : goal.returns-in-Ok-put-clause-left
-returns-in-Ok-put-clause-left g c next =
+returns-in-Ok-put-clause-left g c more =
     let v = c.args.traces.now in
     let clone = clone_at v.clones c.args.c in
     let begun = c.begin_text-start in
     let put = c.in-Ok-put_rest.ensures in
-    let len = subst (λ (v : WorldTracesView). c.len_between.result + length (rest v.net (clone_at v.clones c.args.c)
-    c.max-late.result) ≡ length (rest v.net (clone_at v.clones c.args.c) c.args.next)) c.traces.view_is
-    c.len_between.ensures.value in
+    let len = c.bytes_between.ensures.value in
+    let next = c.parting_at-next.ensures.value
+    ∙ ap (parting_at v.net v.clones) (omega (arith, more, c.min.ensures, c.len-clones.ensures.value)) in
     record {
       others = rest v.net clone c.max-late.result;
       before = still_joined begun.new.page.text c.put_rest.new.texts.page.text
           (rest v.net clone c.parting_at-time.result) (rest v.net clone c.max-late.result) (body v.net clone)
           begun.ensures.margin put.longer put.page begun.ensures.lines ∙ sym (next_before v.net v.clones c.args.c);
-      drops = dropped_next v.net v.clones c.args.c (c.len_between.result + length (rest v.net clone c.max-late.result))
-          c.args.next len next;
+      drops = dropped_next v.net v.clones c.args.c (c.bytes_between.result + length (rest v.net clone c.max-late.result))
+          c.parting_at-next.result len next;
     }
 
 pub returns-in-Err-put-clause-err : goal.returns-in-Err-put-clause-err

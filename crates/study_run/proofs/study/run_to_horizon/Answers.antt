@@ -1,17 +1,24 @@
-use Rattle.study_run.proofs.Goings.{all_steps, all_stopped, all_within}
+use Rattle.std.proofs.Common.{subst}
+use Rattle.net_model.specs.Rules.{IsNet}
+use Rattle.study_run.specs.Onwards.{RunState}
+use Rattle.study_run.specs.declared.onwards.PlainRun.{PlainRun}
+use Rattle.study_run.proofs.Goings.{HasGoneOn-first, IsStudyRun-went}
 use Rattle.study_run.proofs.study.run_to_horizon.Goals as goal
 
-pub returns-in-Ok-clause-within : goal.returns-in-Ok-clause-within
-returns-in-Ok-clause-within g c =
-    all_within c.args.model.now c.args.world c.in-Ok.world c.args.steps.now c.go_to_horizon.new.steps
-    c.horizon-valid.ensures.valid c.in-Ok.ensures.goes.front c.in-Ok.ensures.goes.gone_on
+pub go_to_horizon-requires-clause-come : goal.go_to_horizon-requires-clause-come
+go_to_horizon-requires-clause-come g c κs within = (
+  record { follow_up = record {}; world = c.args.world; steps = c.args.steps.now },
+  HasGoneOn-first c.args.world c.args.steps.now c.requires.front,
+)
 
-pub returns-in-Ok-clause-steps : goal.returns-in-Ok-clause-steps
-returns-in-Ok-clause-steps g c =
-    all_steps c.args.model.now c.args.world c.requires.front c.in-Ok.world c.args.steps.now c.go_to_horizon.new.steps
-    c.in-Ok.ensures.goes.front c.in-Ok.ensures.goes.gone_on
-
-pub returns-in-Err-clause-fault : goal.returns-in-Err-clause-fault
-returns-in-Err-clause-fault g c =
-    all_stopped c.args.model.now c.args.world c.requires.front c.args.steps.now c.go_to_horizon.new.steps
-    c.in-Err.fault c.in-Err.ensures.goes.stopped
+pub returns : goal.returns
+returns g c =
+    let w = c.args.world in
+    let first : RunState PlainRun = record { follow_up = record {}; world = w; steps = c.args.steps.now } in
+    let gone = HasGoneOn-first w c.args.steps.now c.requires.front in
+    let goes = c.go_to_horizon.ensures.goes in
+    record {
+      runs = IsStudyRun-went w c.requires.front c.args.steps.now c.go_to_horizon.new.steps c.go_to_horizon.result
+          (subst IsNet c.model.ensures.value c.horizon-valid.ensures.valid) (goes.goes_on first gone)
+          (goes.stops first gone) c.go_to_horizon.ensures.front;
+    }

@@ -6,7 +6,7 @@ use Rattle.net_model.specs.declared.limits.TheConstants.{MOST_LIMIT}
 use Rattle.stations.specs.Runs.{copies, handled_once, handled_alone}
 use Rattle.phys_proc.specs.Own.{StationCopy, all_sizes, handled_alone_by}
 use Rattle.world_core.specs.Worlds.{WorldView}
-use Rattle.world_core.proofs.Places.{got_at}
+use Rattle.station_steps.proofs.Places.{got_at}
 use Rattle.world_core.proofs.DueTimes.{has_figures, all_short}
 use Rattle.world_core.proofs.world.World.figures.Goals as goal
 

@@ -5,7 +5,7 @@ use Rattle.run_laws.specs.Fronts.{least}
 use Rattle.phys_proc.specs.Ends.{ends_in}
 use Rattle.phys_proc.specs.Procs.{IsWithLeast}
 use Rattle.world_core.specs.Worlds.{WorldView}
-use Rattle.world_core.proofs.Places.{got_at}
+use Rattle.station_steps.proofs.Places.{got_at}
 use Rattle.world_core.proofs.DueTimes.{TakenTo, least_next, least_all}
 use Rattle.world_core.proofs.Timing.{least_with}
 use Rattle.world_core.proofs.world.World.least.Goals as goal

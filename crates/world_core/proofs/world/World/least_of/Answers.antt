@@ -6,7 +6,7 @@ use Rattle.run_laws.specs.Fronts.{least_of}
 use Rattle.phys_proc.specs.Ends.{ends_in}
 use Rattle.phys_proc.specs.Procs.{IsLeastOf}
 use Rattle.world_core.specs.Worlds.{WorldView}
-use Rattle.world_core.proofs.Places.{got_at}
+use Rattle.station_steps.proofs.Places.{got_at}
 use Rattle.world_core.proofs.DueTimes.{least_of_next, least_of_all}
 use Rattle.world_core.proofs.world.World.least_of.Goals as goal
 

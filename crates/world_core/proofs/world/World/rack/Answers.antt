@@ -1,7 +1,7 @@
-use Rattle.std.proofs.Common.{◌-◌, sym, subst, arith}
+use Rattle.std.proofs.Common.{◌≡◌, ◌-◌, ap, sym, subst, arith}
 use Rattle.net_model.specs.Net.{HasStation}
 use Rattle.world_core.specs.Worlds.{WorldView}
-use Rattle.world_core.proofs.Places.{got_at}
+use Rattle.station_steps.proofs.Places.{got_at}
 use Rattle.world_core.proofs.Worlds.{stands_for_reader}
 use Rattle.world_core.proofs.world.World.rack.Goals as goal
 
@@ -17,3 +17,15 @@ rack-requires-clause-copies c =
     c.in_ok-lists.lists.value.clones
     c.self.inside.front (c.args.station - 1) p c.in_ok-model.ensures.value c.in_ok-lists.ensures.value
     (c.self.invariant.each (c.args.station - 1) p got)
+
+pub returns-clause-station : goal.returns-clause-station
+returns-clause-station c =
+    let procs = c.self.inside.procs.items in
+    let p = c.index_mut.result.now in
+    let is = subst (λ (w : WorldView). HasStation w.net c.args.station) (sym c.self.view_is) c.requires.is_station in
+    let many = c.self.invariant.count in
+    let got = got_at procs (c.args.station - 1) p (omega (arith, is.low, is.high, many))
+    c.index_mut.ensures.value in
+    let number = (c.self.invariant.each (c.args.station - 1) p got).station.number in
+    let same : c.in_ok-rack.rack.station ≡ p.station = ap (λ r. r.station) c.in_ok-rack.ensures.rack in
+    omega (arith, is.low, number, same)

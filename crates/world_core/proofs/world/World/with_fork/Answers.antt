@@ -2,7 +2,7 @@ use Rattle.std.proofs.Common.{◌≡◌, ◌<◌, None, sym, ap, ◌∙◌, subs
 use Rattle.sim_base.specs.Clones.{ListsView, clone_at}
 use Rattle.sim_base.specs.declared.lists.TheConstants.{MOST_CLONES}
 use Rattle.world_core.specs.Worlds.{WorldView, WorldStands}
-use Rattle.world_core.specs.Forking.{AllForked, LivesNowhere}
+use Rattle.station_steps.specs.Forking.{AllForked, LivesNowhere}
 use Rattle.world_core.proofs.Taken.{world_forked, LivesAtAll-stands, LivesNowhere-stands}
 use Rattle.world_core.proofs.world.World.with_fork.Goals as goal
 

@@ -7,7 +7,7 @@ use Rattle.clone_sets.specs.Sets.{one}
 use Rattle.net_model.specs.Net.{HasStation}
 use Rattle.stations.specs.Runs.{set_message}
 use Rattle.world_core.specs.Worlds.{WorldView, WorldStands}
-use Rattle.world_core.specs.Windows.{AllDelivered}
+use Rattle.station_steps.specs.Windows.{AllDelivered}
 use Rattle.world_core.proofs.Taken.{world_added}
 use Rattle.world_core.proofs.world.World.with_set.Goals as goal
 

@@ -1,4 +1,0 @@
-use Rattle.engine_tests.proofs.teams.call.Given as goal
-
-abbrev pub ghosts-call_counted : goal.ghosts-call_counted
-ghosts-call_counted g a = record { name = a.blank.name; parts = a.blank.parts }

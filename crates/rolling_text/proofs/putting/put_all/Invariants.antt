@@ -1,0 +1,24 @@
+use Rattle.std.proofs.Common.{◌<◌, ◌≤◌, length, take, drop}
+use Rattle.std.specs.List.{flat_map}
+use Rattle.sim_outer.specs.Bytes.{IsAppended}
+use Rattle.sim_outer.specs.Counts.{AreCounted}
+use Rattle.rolling_text.specs.Batches.{MakeFor}
+use Rattle.rolling_text.specs.declared.texts.TheConstants.{MARGIN}
+use Rattle.rolling_text.specs.Texts.{AreLeft, CanPut}
+use Rattle.trace_report.specs.Outputs.{clone_text}
+use Rattle.rolling_text.proofs.putting.put_all.Given as goal
+
+-- nothing is said of the margin before the lines: they are what the last head left
+abbrev pub invariant-loop-c : goal.invariant-loop-c
+invariant-loop-c g l = record {
+  makers : MakeFor l.traces l.help.makers;
+  can : CanPut l.traces.net l.texts;
+  margin : MARGIN ≤ length l.texts.page.text;
+  reserved : l.fn.texts.page.reserved ≤ l.texts.page.reserved;
+  left : l.c < l.clones → AreLeft l.traces.net l.traces.clones l.c l.dropped (drop MARGIN l.texts.page.text);
+  appended : IsAppended (g.O.Sink.view l.fn.out).bytes
+      (flat_map (clone_text l.traces.net) (take l.c l.traces.clones))
+      (g.O.Sink.view l.out).bytes;
+  later : (g.O.Sink.view l.fn.out).faults ≤ (g.O.Sink.view l.out).faults;
+  counted : AreCounted l.c (g.O.Sink.view l.fn.out).calls (g.O.Sink.view l.out).calls;
+}

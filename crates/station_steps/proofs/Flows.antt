@@ -1,0 +1,64 @@
+-- What a station's step gives, by its place in the list of stations.
+use Rattle.std.proofs.Common.{◌≡◌, ℕ, ◌+◌, ◌<◌, List, [], Option, Some, sym, ap, ◌∙◌, arith, length, option_map}
+use Rattle.std.proofs.Common.{slice_get, subst, unwrap_or}
+use Rattle.std.proofs.lemmas.List.{length-map}
+use Rattle.std.proofs.lemmas.Option.{slice_get_within}
+use Rattle.net_model.specs.Net.{Net}
+use Rattle.phys_proc.specs.Own.{MarkedMessages}
+use Rattle.phys_proc.specs.Procs.{ProcView}
+use Rattle.station_steps.specs.declared.flow.Flow.{Flow}
+use Rattle.station_steps.specs.Windows.{AllFlow, AreStations, HasAdvanced, IsFlow, MayGiveAll}
+use Rattle.station_steps.specs.Windows.{copies_at, done_at, sent_at}
+use Rattle.station_steps.specs.Stepping.{AllStepped}
+use Rattle.station_steps.proofs.Places.{got_map, got_within}
+
+-- ---- copies_at, done_at, sent_at
+
+-- the copies at a place are those of the station that stands there
+pub copies_at-got : (procs : List ProcView) (i : ℕ) (p : ProcView) → slice_get procs i ≡ Some p
+    → copies_at procs i ≡ p.copies
+copies_at-got procs i p got = ap (λ o. unwrap_or (option_map (λ (p : ProcView). p.copies) o) []) got
+
+-- the copies that a task answers at a place are those of the answer there
+pub done_at-got : (flows : List Flow) (i : ℕ) (flow : Flow) → slice_get flows i ≡ Some flow
+    → done_at flows i ≡ flow.done.copies
+done_at-got flows i flow got = ap (λ o. unwrap_or (option_map (λ (f : Flow). f.done.copies) o) []) got
+
+-- and so is what they sent
+pub sent_at-got : (flows : List Flow) (i : ℕ) (flow : Flow) → slice_get flows i ≡ Some flow
+    → sent_at flows i ≡ flow.sent.items
+sent_at-got flows i flow got = ap (λ o. unwrap_or (option_map (λ (f : Flow). f.sent.items) o) []) got
+
+-- ---- IsFlow
+
+-- what a step gives for a station is what the task of its place answers
+pub is_flow : (net : Net) (ends : ℕ → ℕ) (bound i : ℕ) (old : ProcView) (flow : Flow) → old.station ≡ i + 1
+    → HasAdvanced net old.station ends bound old flow.done flow.sent.items flow.over flow.handled
+    → IsFlow net ends bound i old flow
+is_flow net ends bound i old flow number h =
+    subst (λ s. HasAdvanced net s ends bound old flow.done flow.sent.items flow.over flow.handled) number h
+
+-- ---- AllFlow
+
+-- answers for these bounds are answers for bounds that are the same at each station
+pub AllFlow-bounds : (net : Net) (ends bounds others : ℕ → ℕ) (procs : List ProcView) (flows : List Flow)
+    → ((i : ℕ) → i < length procs → bounds i ≡ others i) → AllFlow net ends bounds procs flows
+    → AllFlow net ends others procs flows
+AllFlow-bounds net ends bounds others procs flows same all = λ i p flow got there.
+    subst (λ b. IsFlow net ends b i p flow) (same i (slice_get_within procs i p got)) (all i p flow got there)
+
+-- ---- MayGiveAll
+
+-- stations that were stepped may be given what the others sent to them
+pub MayGiveAll-stepped : (net : Net) (ends bounds : ℕ → ℕ) (procs news : List ProcView) (sent : MarkedMessages)
+    (over : Option (ℕ × ℕ)) (steps0 steps : ℕ) → AreStations net procs
+    → AllStepped net ends bounds procs news sent over steps0 steps → MayGiveAll news
+MayGiveAll-stepped net ends bounds procs news sent over steps0 steps all s = record {
+  few = let n = ap length s.procs in let m = length-map s.flows (λ (f : Flow). f.done) in let k = s.count in
+      let few = all.few in omega (arith, n, m, k, few);
+  in_order = λ i p got.
+      let f = got_map (λ (f : Flow). f.done) s.flows i p (ap (λ l. slice_get l i) (sym s.procs) ∙ got) in
+      let l = slice_get_within s.flows i f.0 f.1 in
+      let q = got_within procs i (let n = s.count in omega (arith, l, n)) in
+      ap (λ (p : ProcView). p.station) (sym f.2) ∙ (s.each i q.0 f.0 q.1 f.1).number;
+}

@@ -1,0 +1,43 @@
+-- The element at a place of a list.
+use Rattle.std.proofs.Common.{◌≡◌, ℕ, zero, suc, ◌<◌, List, [], ◌∷◌, inl, inr, arith}
+use Rattle.std.proofs.Common.{Some, refl, ap, ◌∙◌, sym, length, map, get_or, option_map, slice_get}
+use Rattle.std.proofs.lemmas.Option.{same_Some, slice_get_cases, slice_get-get_or, slice_get-map}
+
+-- ---- slice_get and get_or
+
+-- an element that is read at a place within a list stands there
+pub got_at : {X : Type 0} (xs : List X) (i : ℕ) (x : X) → i < length xs → x ≡ get_or xs i x → slice_get xs i ≡ Some x
+got_at xs i x l e = slice_get-get_or xs i x l ∙ ap Some (sym e)
+
+-- at one place stands one element
+pub one_got : {X : Type 0} (xs : List X) (i j : ℕ) (x y : X) → i ≡ j → slice_get xs i ≡ Some x
+    → slice_get xs j ≡ Some y → x ≡ y
+one_got xs i j x y e f g = same_Some x y (sym f ∙ ap (slice_get xs) e ∙ g)
+
+-- at a place within a list is an element
+pub got_within : {X : Type 0} (xs : List X) (i : ℕ) → i < length xs → (x : X) × (slice_get xs i ≡ Some x)
+got_within xs i l = elim (slice_get_cases xs i).1 [
+  | inl found ↦ (found.0, found.2)
+  | inr past ↦ absurd (let p = past.0 in omega (arith, p, l))
+]
+
+-- ---- slice_get of map
+
+-- an element of a list of images is the image of one
+pub got_map : {X Y : Type 0} (f : X → Y) (xs : List X) (i : ℕ) (y : Y) → slice_get (map f xs) i ≡ Some y
+    → (x : X) × (slice_get xs i ≡ Some x) × (f x ≡ y)
+got_map f [] i y e = absurd (cc)
+got_map f (x ∷ xs) zero y e = (x, refl, same_Some (f x) y e)
+got_map f (x ∷ xs) (suc i) y e = got_map f xs i y e
+
+-- and the image of an element stands at the same place
+pub map_got : {X Y : Type 0} (f : X → Y) (xs : List X) (i : ℕ) (x : X) → slice_get xs i ≡ Some x
+    → slice_get (map f xs) i ≡ Some (f x)
+map_got f xs i x e = slice_get-map f xs i ∙ ap (option_map f) e
+
+-- ---- by the number of the station
+
+-- what stands at a place, by the number of its station; there is no station 0
+abbrev pub by_number : {X : Type 0} → X → (ℕ → X) → ℕ → X
+by_number d f zero = d
+by_number d f (suc i) = f i

@@ -1,0 +1,17 @@
+//! The model, which the workers that stay from window to window share.
+ghost use Rattle.std.specs.Prelude.{◌≡◌, IfOk};
+
+use net_model::Model;
+use sim_base::NoMemory;
+use std::sync::Arc;
+
+/// One share more of the model.
+///
+/// # Errors
+///
+/// Out of memory.
+pub fn share_of(model: &Arc<Model>) -> Result<Arc<Model>, NoMemory>
+    ensures value { IfOk result (λ m. m.value ≡ model.now.value) }
+{
+    Ok(model.clone()?)
+}

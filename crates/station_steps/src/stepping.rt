@@ -1,0 +1,307 @@
+//! All stations (logical processes) are stepped, each to its own bound: in place in the caller's thread, or by the
+//! workers of a crew.
+ghost use Rattle.std.specs.Prelude.{◌≡◌, ◌+◌, ◌<◌, ◌≤◌, ◌++◌, ◌∷◌, []};
+ghost use Rattle.std.specs.Prelude.{Some, None, List, length, map, slice_get, IfOk, OnOk};
+ghost use Rattle.std.specs.List.{All};
+ghost use Rattle.net_model.specs.declared.limits.TheConstants.{MOST_STATIONS};
+ghost use Rattle.phys_proc.specs.Ends.{ends_in};
+ghost use Rattle.phys_proc.specs.Procs.{ProcView};
+ghost use Rattle.station_steps.specs.declared.flow.Flow.{Flow as Flow'};
+ghost use Rattle.station_steps.specs.Windows.{AllFlow, AreBounds, AreStations, IsNumbered, bound_of};
+ghost use Rattle.station_steps.specs.Windows.{all_handled, all_sent};
+ghost use Rattle.station_steps.specs.Stepping.{FirstOver, IsPlaceOfOver, AllStepped, SteppedAt};
+
+use crate::flow::Flow;
+use crate::tasks::{flows_of, steps_for};
+use crate::timed_proc::TimedProc;
+use crate::windows::Window;
+use clone_sets::CloneSet;
+use crew_pool::{Crew, Gate};
+use net_model::Model;
+use phys_proc::{CloneEnds, Gain};
+use sim_base::{Msg, NoMemory, Steps};
+use std::alloc::Global;
+use std::sync::ledger::Ledger;
+use std::sync::{Arc, Wait};
+
+/// All stations at their bounds, and what they sent to each other.
+#[derive(Drop)]
+pub struct WindowResult {
+    /// The copies of each station at its bound, in the order of the stations; with a clone over the limit they mean
+    /// nothing.
+    pub procs: Vec<TimedProc>,
+    /// What the stations sent to others, and the bounds as they were.
+    pub buffers: Buffers,
+    /// The place of the first station with a clone over the limit, from 0, and the first such clone there.
+    pub over: Option<(u32, u32)>,
+    /// The number of messages that were handled: a hint.
+    pub handled: u64,
+}
+
+/// The bounds of all stations, and what the stations send. They are kept from window to window, so that their memory is
+/// taken once.
+#[derive(Drop)]
+pub struct Buffers {
+    /// The bound of each station, in the order of the stations.
+    pub bounds: Vec<u64>,
+    /// What all stations so far have sent.
+    pub sent: Vec<(Msg, CloneSet)>,
+    /// What one station sends, before it is put with the others.
+    one: Vec<(Msg, CloneSet)>,
+}
+
+impl Buffers {
+    /// No bounds, and nothing was sent. It takes no memory.
+    pub fn new(alloc: Global) -> Buffers
+        ensures none { result.bounds.items ≡ [] }
+    {
+        Buffers {
+            bounds: Vec::new(alloc),
+            sent: Vec::new(alloc),
+            one: Vec::new(alloc),
+        }
+    }
+
+    /// The same bound for `count` stations.
+    ///
+    /// # Errors
+    ///
+    /// Out of memory, the bounds mean nothing.
+    pub fn bound_all(&mut self, count: usize, bound: u64) -> Result<(), NoMemory>
+        ensures count { OnOk result (length self.new.bounds.items ≡ count) }
+        ensures bounds { OnOk result (All (λ b. b ≡ bound) self.new.bounds.items) }
+    {
+        self.bounds.clear();
+        self.bounds.resize(count, bound)?;
+        Ok(())
+    }
+}
+
+// Adds messages at the end.
+fn append(all: &mut Vec<(Msg, CloneSet)>, more: &[(Msg, CloneSet)]) -> Result<(), NoMemory>
+    ensures both { OnOk result (all.new.items ≡ all.old.items ++ more.now) }
+{
+    all.extend_from_slice(more)?;
+    Ok(())
+}
+
+// The first station over the limit so far, and there the first clone, if the station at place i comes next.
+fn first_so_far(before: Option<(u32, u32)>, i: u32, over: CloneSet) -> Option<(u32, u32)>
+    requires few { i < MOST_STATIONS }
+    requires before { IsPlaceOfOver before }
+    ensures first { (flows : List Flow') (f : Flow') → length flows ≡ i → f.over ≡ over → FirstOver flows before →
+        FirstOver (flows ++ f ∷ []) result }
+    ensures few { IsPlaceOfOver result }
+{
+    if let Some(first) = before {
+        return Some(first);
+    }
+    if let Some(who) = over.first() {
+        return Some((i, who));
+    }
+    None
+}
+
+// Steps the station at place i to its bound, in place, and adds what it sends to what the others sent.
+fn step_place<L: Ledger>(
+    alloc: Global,
+    model: &Model,
+    ends: &CloneEnds,
+    procs: &mut Vec<TimedProc>,
+    i: usize,
+    buffers: &mut Buffers,
+    steps: &mut Steps<L>,
+) -> Result<Gain, NoMemory>
+    requires place { i < length procs.old.items }
+    requires few { i < MOST_STATIONS }
+    requires bounds { AreBounds model.now procs.old.items buffers.old.bounds.items }
+    requires numbered { (p : ProcView) → slice_get procs.old.items i ≡ Some p → IsNumbered model.now i p }
+    ensures stepped { IfOk result (λ gain. SteppedAt model.now (ends_in model.now.horizon ends.now)
+        (bound_of buffers.old.bounds.items i) i procs.old.items procs.new.items buffers.old.sent.items
+        buffers.new.sent.items gain.over gain.handled) }
+    ensures bounds { buffers.new.bounds ≡ buffers.old.bounds }
+    ensures steps { IfOk result (λ gain. steps.new ≡ steps.old + gain.handled) }
+{
+    let bound = buffers.bounds[i];
+    buffers.one.clear();
+    let gain = procs[i].advance(alloc, model, ends, bound, &mut buffers.one, steps)?;
+    append(&mut buffers.sent, buffers.one.as_slice())?;
+    Ok(gain)
+}
+
+/// Calls the gate for each of the stations, as worker 0.
+pub fn pass_gate<G: Gate, R: Wait>(rt: &R, gate: &G, stations: u32) {
+    for i in 0..stations {
+        gate.before(rt, 0, i);
+    }
+}
+
+/// Steps all stations in place, one after the other, each to its bound, in the caller's thread. Those with nothing due
+/// are passed over.
+///
+/// # Errors
+///
+/// Out of memory: all stations are gone.
+pub fn step_in_place<L: Ledger>(
+    alloc: Global,
+    model: &Model,
+    ends: &CloneEnds,
+    olds: Vec<TimedProc>,
+    buffers: Buffers,
+    steps: &mut Steps<L>,
+) -> Result<WindowResult, NoMemory>
+    requires stations { AreStations model.now olds.items }
+    requires bounds { AreBounds model.now olds.items buffers.bounds.items }
+    ensures stepped { IfOk result (λ s. AllStepped model.now (ends_in model.now.horizon ends.now)
+        (bound_of buffers.bounds.items) olds.items s.procs.items s.buffers.sent.items s.over steps.old steps.new) }
+    ensures few { IfOk result (λ s. IsPlaceOfOver s.over) }
+    ensures bounds { IfOk result (λ s. s.buffers.bounds ≡ buffers.bounds) }
+{
+    let mut procs = olds;
+    let mut buffers = buffers;
+    buffers.sent.clear();
+    let mut over = None;
+    let mut handled: u64 = 0;
+    for i in 0..procs.len() {
+        if procs[i].is_idle(buffers.bounds[i]) {
+            continue;
+        }
+        let gain = step_place(alloc, model, ends, &mut procs, i, &mut buffers, steps)?;
+        over = first_so_far(over, i as u32, gain.over);
+        handled = handled.saturating_add(gain.handled);
+    }
+    Ok(WindowResult {
+        procs,
+        buffers,
+        over,
+        handled,
+    })
+}
+
+// The copies of all stations, and all that was sent.
+fn take_apart(
+    alloc: Global,
+    flows: Vec<Flow>,
+    sent: &mut Vec<(Msg, CloneSet)>,
+) -> Result<Vec<TimedProc>, NoMemory>
+    requires none { sent.old.items ≡ [] }
+    ensures procs { IfOk result (λ p. p.items ≡ map (λ f. f.done) flows.items) }
+    ensures sent { OnOk result (sent.new.items ≡ all_sent flows.items) }
+{
+    let mut procs = Vec::with_capacity(alloc, flows.len())?;
+    for flow in flows {
+        let Flow {
+            mut done,
+            sent: out,
+            over: _,
+            handled: _,
+        } = flow;
+        append(sent, out.as_slice())?;
+        done.keep(out);
+        procs.push(done)?;
+    }
+    Ok(procs)
+}
+
+// The number of messages that the stations have handled.
+fn handled_in(flows: &[Flow]) -> u64 {
+    let mut sum: u64 = 0;
+    for flow in flows {
+        sum = sum.saturating_add(flow.handled);
+    }
+    sum
+}
+
+// The first station with a clone over the limit, and there the first clone.
+fn first_over(flows: &[Flow]) -> Option<(u32, u32)>
+    requires few { length flows.now ≤ MOST_STATIONS }
+    ensures first { FirstOver flows.now result }
+    ensures few { IsPlaceOfOver result }
+{
+    for i in 0..flows.len() {
+        if let Some(who) = flows[i].over.first() {
+            return Some((i as u32, who));
+        }
+    }
+    None
+}
+
+// The result of a window, from the answers of all tasks.
+fn gather_flows(alloc: Global, flows: Vec<Flow>, buffers: Buffers) -> Result<WindowResult, NoMemory>
+    requires few { length flows.items ≤ MOST_STATIONS }
+    ensures procs { IfOk result (λ s. s.procs.items ≡ map (λ f. f.done) flows.items) }
+    ensures sent { IfOk result (λ s. s.buffers.sent.items ≡ all_sent flows.items) }
+    ensures over { IfOk result (λ s. FirstOver flows.items s.over) }
+    ensures few { IfOk result (λ s. IsPlaceOfOver s.over) }
+    ensures bounds { IfOk result (λ s. s.buffers.bounds ≡ buffers.bounds) }
+{
+    let over = first_over(flows.as_slice());
+    let handled = handled_in(flows.as_slice());
+    let mut buffers = buffers;
+    buffers.sent.clear();
+    let procs = take_apart(alloc, flows, &mut buffers.sent)?;
+    Ok(WindowResult {
+        procs,
+        buffers,
+        over,
+        handled,
+    })
+}
+
+// Runs the tasks of all stations by the crew.
+fn run_tasks<G: Gate, L: Ledger, R: Wait>(
+    rt: &R,
+    alloc: Global,
+    crew: &mut Crew<'_, Window, G>,
+    work: &Arc<Window>,
+    procs: Vec<TimedProc>,
+    bounds: &[u64],
+    steps: &mut Steps<L>,
+) -> Result<Vec<Flow>, NoMemory>
+    requires stations { AreStations work.now.value.net procs.items }
+    requires bounds { AreBounds work.now.value.net procs.items bounds.now }
+    ensures count { IfOk result (λ flows. length flows.items ≡ length procs.items) }
+    ensures flows { IfOk result (λ flows. AllFlow work.now.value.net (ends_in work.now.value.net.horizon work.now.value.ends)
+        (bound_of bounds.now) procs.items flows.items) }
+    ensures cost { IfOk result (λ flows. steps.new ≡ steps.old + all_handled flows.items) }
+{
+    let tasks = steps_for(alloc, procs, bounds)?;
+    let work = work.clone()?;
+    let answers = crew.all(rt, alloc, work, tasks, steps)?;
+    let flows = flows_of(alloc, answers)?;
+    Ok(flows)
+}
+
+/// Steps all stations by the crew, each to its bound: each station is a task, whether or not something is due there.
+///
+/// # Errors
+///
+/// Out of memory: all stations are gone.
+pub fn step_by_crew<G: Gate, L: Ledger, R: Wait>(
+    rt: &R,
+    alloc: Global,
+    crew: &mut Crew<'_, Window, G>,
+    work: &Arc<Window>,
+    procs: Vec<TimedProc>,
+    buffers: Buffers,
+    steps: &mut Steps<L>,
+) -> Result<WindowResult, NoMemory>
+    requires stations { AreStations work.now.value.net procs.items }
+    requires bounds { AreBounds work.now.value.net procs.items buffers.bounds.items }
+    ensures stepped { IfOk result (λ s. AllStepped work.now.value.net (ends_in work.now.value.net.horizon work.now.value.ends)
+        (bound_of buffers.bounds.items) procs.items s.procs.items s.buffers.sent.items s.over steps.old steps.new) }
+    ensures few { IfOk result (λ s. IsPlaceOfOver s.over) }
+    ensures bounds { IfOk result (λ s. s.buffers.bounds ≡ buffers.bounds) }
+{
+    let flows = run_tasks(
+        rt,
+        alloc,
+        crew,
+        work,
+        procs,
+        buffers.bounds.as_slice(),
+        steps,
+    )?;
+    let stepped = gather_flows(alloc, flows, buffers)?;
+    Ok(stepped)
+}

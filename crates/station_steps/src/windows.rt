@@ -1,0 +1,126 @@
+//! The tasks of a window, as work for a crew: a task steps the copies (physical processes) of one station (a logical
+//! process), or gives them their mail.
+ghost use Rattle.std.specs.Prelude.{◌≡◌, ◌+◌, ◌≤◌, IfOk};
+ghost use Rattle.phys_proc.specs.Ends.{ends_in};
+ghost use Rattle.station_steps.specs.Windows.{IsFlow, IsNumbered};
+
+use crate::flow::Flow;
+use crate::shared_ends::SharedEnds;
+use crate::shared_model::share_of;
+use crate::tasks::{StationTask, TaskAnswer};
+use crate::timed_proc::TimedProc;
+use crew_pool::Work;
+use net_model::Model;
+use phys_proc::CloneEnds;
+use sim_base::{NoMemory, Steps};
+use std::alloc::Global;
+use std::sync::Arc;
+use std::sync::ledger::Ledger;
+
+/// A window of all stations: task i owns the copies of station i + 1, and steps them to the bound that it has. It has
+/// a share of the model and of the clones' ends, since a worker may hold it for longer than the call.
+#[derive(Drop)]
+pub struct Window {
+    model: Arc<Model>,
+    ends: Arc<CloneEnds>,
+}
+
+impl std::marker::Model for Window {
+    ghost use Rattle.station_steps.specs.Windows.{WindowView};
+
+    ghost Value = { WindowView };
+
+    ghost view = { λ w. record { net = w.model.value; ends = w.ends.value } };
+}
+
+impl Window {
+    /// The window, which shares the model and the ends, and which workers share.
+    ///
+    /// # Errors
+    ///
+    /// Out of memory.
+    pub fn shared(
+        alloc: Global,
+        model: &Arc<Model>,
+        ends: &SharedEnds,
+    ) -> Result<Arc<Window>, NoMemory>
+        ensures value { IfOk result (λ w. w.value ≡ record { net = model.now.value; ends = ends.now }) }
+    {
+        let window = Window {
+            model: share_of(model)?,
+            ends: ends.share()?,
+        };
+        Ok(Arc::new(alloc, window)?)
+    }
+
+    // Steps the copies of station i + 1 to the bound.
+    fn step<L: Ledger>(
+        &self,
+        alloc: Global,
+        _i: u32,
+        proc: TimedProc,
+        bound: u64,
+        steps: &mut Steps<L>,
+    ) -> Result<Flow, NoMemory>
+        requires numbered { IsNumbered self.now.net _i proc }
+        requires early { bound ≤ self.now.net.horizon }
+        ensures flow { IfOk result (λ flow. IsFlow self.now.net (ends_in self.now.net.horizon self.now.ends) bound _i
+            proc flow) }
+        ensures steps { IfOk result (λ flow. steps.new ≡ steps.old + flow.handled) }
+    {
+        let mut done = proc;
+        let mut sent = done.lend(alloc);
+        let gain = done.advance(alloc, &self.model, &self.ends, bound, &mut sent, steps)?;
+        Ok(Flow {
+            done,
+            sent,
+            over: gain.over,
+            handled: gain.handled,
+        })
+    }
+}
+
+impl Work for Window {
+    type In = StationTask;
+
+    type Out = TaskAnswer;
+
+    ghost use Rattle.phys_proc.specs.Ends.{ends_in};
+    ghost use Rattle.station_steps.specs.Tasks.{IsTaskAnswer, IsStationTask, steps_of};
+
+    ghost ready = { λ w i task. IsStationTask w.net i task };
+
+    ghost answers = { λ w i task answer. IsTaskAnswer w.net (ends_in w.net.horizon w.ends) i task answer };
+
+    ghost cost = { λ answer. steps_of answer };
+
+    fn run<L: Ledger>(
+        &self,
+        alloc: Global,
+        i: u32,
+        item: StationTask,
+        steps: &mut Steps<L>,
+    ) -> Result<TaskAnswer, NoMemory> {
+        match item {
+            StationTask::Step(proc, bound) => {
+                let flow = self.step(alloc, i, proc, bound, steps)?;
+                Ok(TaskAnswer::Stepped(flow))
+            }
+            StationTask::Give(post) => {
+                let proc = post.hand_over()?;
+                Ok(TaskAnswer::Given(proc))
+            }
+        }
+    }
+
+    fn spent(&self, out: &TaskAnswer) -> u64 {
+        match out {
+            TaskAnswer::Stepped(flow) => flow.handled,
+            TaskAnswer::Given(_) => 0,
+        }
+    }
+
+    fn is_small(&self) -> bool {
+        false
+    }
+}

@@ -1,6 +1,0 @@
-use Rattle.std.proofs.Common.{take}
-use Rattle.world_core.specs.Windows.{AllDelivered}
-use Rattle.world_core.proofs.delivery.deliver_all.Given as goal
-
-abbrev pub invariant-loop-pair : goal.invariant-loop-pair
-invariant-loop-pair l = AllDelivered (take l.pair-index l.sent) l.fn.procs.items l.procs.items

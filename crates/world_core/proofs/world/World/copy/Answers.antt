@@ -1,0 +1,85 @@
+use Rattle.std.proofs.Common.{◌≡◌, ◌+◌, ◌-◌, ◌<◌, ◌≤◌, sym, ap, ◌∙◌, subst, arith, length, true, false, List, ℕ}
+use Rattle.std.specs.List.{AllByRecursion}
+use Rattle.sim_base.specs.Clones.{clone_at}
+use Rattle.clone_sets.specs.Sets.{has}
+use Rattle.net_model.specs.Net.{HasStation}
+use Rattle.stations.specs.Runs.{simulation}
+use Rattle.run_laws.specs.Runs.{log_at}
+use Rattle.phys_proc.specs.Own.{StationCopy}
+use Rattle.station_steps.proofs.Places.{got_at}
+use Rattle.world_core.specs.Worlds.{WorldView}
+use Rattle.world_core.specs.Tracing.{IsCopyOf}
+use Rattle.world_core.proofs.Merging.{alike_is_in, has_a_copy, log_is, log_short}
+use Rattle.world_core.proofs.world.World.copy.Goals as goal
+
+pub unreachable-requires : goal.unreachable-requires
+unreachable-requires c =
+    let w = c.self.inside in
+    let procs = w.procs.items in
+    let i = c.args.station - 1 in
+    let p = c.index.result.now in
+    let there = subst (λ (w : WorldView). c.args.who < length w.clones) (sym c.self.view_is) c.requires.there in
+    let is = subst (λ (w : WorldView). HasStation w.net c.args.station) (sym c.self.view_is) c.requires.is_station in
+    let many = c.self.invariant.count in
+    let got = got_at procs i p (omega (arith, is.low, is.high, many)) c.index.ensures in
+    has_a_copy w.model.value w.lists.clones w.ends w.front procs c.self.invariant c.args.who there i p got
+    (subst (AllByRecursion (λ (a : StationCopy). has a.set c.args.who ≡ false)) c.copies.ensures.value
+    c.in-None.ensures.none)
+
+pub returns-clause-is_in : goal.returns-clause-is_in
+returns-clause-is_in c = c.in-Some.ensures.some.is_in
+
+pub returns-clause-log : goal.returns-clause-log
+returns-clause-log c =
+    let w = c.self.inside in
+    let procs = w.procs.items in
+    let i = c.args.station - 1 in
+    let p = c.index.result.now in
+    let copy = c.in-Some.copy.now in
+    let is = subst (λ (w : WorldView). HasStation w.net c.args.station) (sym c.self.view_is) c.requires.is_station in
+    let many = c.self.invariant.count in
+    let got = got_at procs i p (omega (arith, is.low, is.high, many)) c.index.ensures in
+    let found = subst (λ (k : List StationCopy). IsCopyOf k c.args.who copy) c.copies.ensures.value
+    c.in-Some.ensures.some in
+    let same : i + 1 ≡ c.args.station = omega (arith, is.low) in
+    subst (λ (w : WorldView). (d : ℕ) → has copy.set d ≡ true → copy.log ≡ log_at (simulation w.net)
+    (clone_at w.clones d) c.args.station w.front) c.self.view_is (λ d is_in.
+    log_is w.model.value w.lists.clones w.ends w.front procs c.self.invariant i p copy d got found.is_copy is_in
+    ∙ ap (λ s. log_at (simulation w.model.value) (clone_at w.lists.clones d) s w.front) same)
+
+pub returns-clause-short : goal.returns-clause-short
+returns-clause-short c =
+    let w = c.self.inside in
+    let procs = w.procs.items in
+    let i = c.args.station - 1 in
+    let p = c.index.result.now in
+    let copy = c.in-Some.copy.now in
+    let is = subst (λ (w : WorldView). HasStation w.net c.args.station) (sym c.self.view_is) c.requires.is_station in
+    let many = c.self.invariant.count in
+    let got = got_at procs i p (omega (arith, is.low, is.high, many)) c.index.ensures in
+    let found = subst (λ (k : List StationCopy). IsCopyOf k c.args.who copy) c.copies.ensures.value
+    c.in-Some.ensures.some in
+    subst (λ (w : WorldView). length copy.log ≤ w.net.limit) c.self.view_is
+    (log_short w.model.value w.lists.clones w.ends w.front procs c.self.invariant i p copy got found.is_copy)
+
+pub returns-clause-alike : goal.returns-clause-alike
+returns-clause-alike c =
+    let w = c.self.inside in
+    let procs = w.procs.items in
+    let i = c.args.station - 1 in
+    let p = c.index.result.now in
+    let copy = c.in-Some.copy.now in
+    let is = subst (λ (w : WorldView). HasStation w.net c.args.station) (sym c.self.view_is) c.requires.is_station in
+    let many = c.self.invariant.count in
+    let got = got_at procs i p (omega (arith, is.low, is.high, many)) c.index.ensures in
+    let found = subst (λ (k : List StationCopy). IsCopyOf k c.args.who copy) c.copies.ensures.value
+    c.in-Some.ensures.some in
+    let same : i + 1 ≡ c.args.station = omega (arith, is.low) in
+    subst (λ (w : WorldView). (d : ℕ) → d < length w.clones
+    → log_at (simulation w.net) (clone_at w.clones d) c.args.station w.front
+    ≡ log_at (simulation w.net) (clone_at w.clones c.args.who) c.args.station w.front → has copy.set d ≡ true)
+    c.self.view_is (λ d l e.
+    alike_is_in w.model.value w.lists.clones w.ends w.front procs c.self.invariant i p copy c.args.who d got
+    found.is_copy found.is_in l
+    (subst (λ s. log_at (simulation w.model.value) (clone_at w.lists.clones d) s w.front
+    ≡ log_at (simulation w.model.value) (clone_at w.lists.clones c.args.who) s w.front) (sym same) e))
