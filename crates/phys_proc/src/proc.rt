@@ -1,17 +1,17 @@
 //! A station as a logical process: the physical copies that stand for its virtual processes, one a clone.
-ghost use Rattle.std.specs.Prelude.{◌≡◌, ℕ, ◌<◌, ◌≤◌, ◌+◌, ◌*◌, ◌∷◌, [], true, false, OnOk, IfOk, map, length};
+ghost use Rattle.std.specs.Prelude.{◌≡◌, ℕ, ◌<◌, ◌≤◌, ◌+◌, ◌*◌, ◌∷◌, [], true, false, OnOk, IfOk, map};
 ghost use Rattle.std.specs.List.{AllByRecursion, AllZip};
 ghost use Rattle.clone_sets.specs.Sets.{has, one, with, empty, size};
 ghost use Rattle.sim_base.specs.declared.lists.TheConstants.{MOST_CLONES};
 ghost use Rattle.net_model.specs.Net.{Net, HasStation};
 ghost use Rattle.stations.specs.Runs.{simulation};
 ghost use Rattle.run_laws.specs.Copies.{first_copy, first_pending as first_pending', IsForked};
-ghost use Rattle.run_laws.specs.Copies.{IsStepped, AreOver, GainTogether, Stands};
+ghost use Rattle.run_laws.specs.Copies.{IsStepped, AreOver, GainTogether};
 ghost use Rattle.phys_proc.specs.Own.{with_message, copy_after_fork, but_pending, IsCopy, IsLowerBound};
 ghost use Rattle.phys_proc.specs.Own.{IsLowerBoundOfAll};
 ghost use Rattle.phys_proc.specs.Ends.{ends_in};
 ghost use Rattle.phys_proc.specs.Procs.{IsProc, AreShared};
-ghost use Rattle.phys_proc.specs.Racks.{view_of_copy};
+ghost use Rattle.phys_proc.specs.Racks.{ShowsClones, view_of_copy};
 
 use crate::advancing::Stage;
 use crate::clone_ends::CloneEnds;
@@ -306,10 +306,8 @@ impl Proc {
         lists: Arc<Lists>,
         front: u64,
     ) -> Result<Rack, NoMemory>
-        requires right { Stands (simulation model.value) has lists.value.clones front self.old.station
-            self.old.copies }
-        requires few { length lists.value.clones ≤ MOST_CLONES }
-        requires early { front ≤ model.value.horizon }
+        requires right { ShowsClones model.value lists.value.clones self.old.station front
+            (map view_of_copy self.old.copies) }
         ensures rack { IfOk result (λ r. r ≡ record {
           net = model.value;
           clones = lists.value.clones;

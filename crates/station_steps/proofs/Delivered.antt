@@ -27,7 +27,7 @@ use Rattle.station_steps.proofs.Places.{by_number}
 
 module _ (net : Net) (ends : ℕ → ℕ) where
   -- messages given one after the other
-  given_so_far : (ms msgs : MarkedMessages) (new done : List StationCopy)
+  pub given_so_far : (ms msgs : MarkedMessages) (new done : List StationCopy)
       → SoFarGiven (simulation net) has ends msgs new done
       → SoFarGiven (simulation net) has ends (msgs ++ ms) new (with_mail ms done)
   given_so_far [] msgs new done f = subst (λ l. SoFarGiven (simulation net) has ends l new done)

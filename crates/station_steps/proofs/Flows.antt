@@ -7,7 +7,7 @@ use Rattle.net_model.specs.Net.{Net}
 use Rattle.phys_proc.specs.Own.{MarkedMessages}
 use Rattle.phys_proc.specs.Procs.{ProcView}
 use Rattle.station_steps.specs.declared.flow.Flow.{Flow}
-use Rattle.station_steps.specs.Windows.{AllFlow, AreStations, HasAdvanced, IsFlow, MayGiveAll}
+use Rattle.station_steps.specs.Windows.{AllFlow, AreStations, HasAdvanced, IsFlow, IsNumbered, MayGiveAll}
 use Rattle.station_steps.specs.Windows.{copies_at, done_at, sent_at}
 use Rattle.station_steps.specs.Stepping.{AllStepped}
 use Rattle.station_steps.proofs.Places.{got_map, got_within}
@@ -47,18 +47,27 @@ pub AllFlow-bounds : (net : Net) (ends bounds others : ℕ → ℕ) (procs : Lis
 AllFlow-bounds net ends bounds others procs flows same all = λ i p flow got there.
     subst (λ b. IsFlow net ends b i p flow) (same i (slice_get_within procs i p got)) (all i p flow got there)
 
--- ---- MayGiveAll
+-- ---- AreStations, MayGiveAll
 
--- stations that were stepped may be given what the others sent to them
-pub MayGiveAll-stepped : (net : Net) (ends bounds : ℕ → ℕ) (procs news : List ProcView) (sent : MarkedMessages)
+-- stations that were stepped are stations still
+pub AreStations-stepped : (net : Net) (ends bounds : ℕ → ℕ) (procs news : List ProcView) (sent : MarkedMessages)
     (over : Option (ℕ × ℕ)) (steps0 steps : ℕ) → AreStations net procs
-    → AllStepped net ends bounds procs news sent over steps0 steps → MayGiveAll news
-MayGiveAll-stepped net ends bounds procs news sent over steps0 steps all s = record {
+    → AllStepped net ends bounds procs news sent over steps0 steps → AreStations net news
+AreStations-stepped net ends bounds procs news sent over steps0 steps all s = record {
   few = let n = ap length s.procs in let m = length-map s.flows (λ (f : Flow). f.done) in let k = s.count in
       let few = all.few in omega (arith, n, m, k, few);
-  in_order = λ i p got.
+  procs_in_order = λ i p got.
       let f = got_map (λ (f : Flow). f.done) s.flows i p (ap (λ l. slice_get l i) (sym s.procs) ∙ got) in
       let l = slice_get_within s.flows i f.0 f.1 in
       let q = got_within procs i (let n = s.count in omega (arith, l, n)) in
-      ap (λ (p : ProcView). p.station) (sym f.2) ∙ (s.each i q.0 f.0 q.1 f.1).number;
+      let flow = s.each i q.0 f.0 q.1 f.1 in
+      subst (IsNumbered net i) f.2 (record { proc = flow.proc; number = flow.number });
 }
+
+-- so they may be given what the others sent to them
+pub MayGiveAll-stepped : (net : Net) (ends bounds : ℕ → ℕ) (procs news : List ProcView) (sent : MarkedMessages)
+    (over : Option (ℕ × ℕ)) (steps0 steps : ℕ) → AreStations net procs
+    → AllStepped net ends bounds procs news sent over steps0 steps → MayGiveAll news
+MayGiveAll-stepped net ends bounds procs news sent over steps0 steps all s =
+    let h = AreStations-stepped net ends bounds procs news sent over steps0 steps all s in
+    record { few = h.few; in_order = λ i p got. (h.procs_in_order i p got).number }

@@ -2,7 +2,9 @@ pub mod Places
 pub mod Flows
 pub mod InPlace
 pub mod Delivering
-pub mod Mail
+pub mod TakenMail
+pub mod MailTimes
+pub mod Posting
 pub mod Working
 pub mod Handled
 pub mod Delivered

@@ -1,5 +1,5 @@
+pub mod Mail
 pub mod Windows
 pub mod Stepping
 pub mod Forking
-pub mod Posts
 pub mod Tasks

@@ -8,7 +8,7 @@ use Rattle.net_model.specs.declared.limits.TheConstants.{MOST_STATIONS}
 use Rattle.phys_proc.specs.Own.{MarkedMessages}
 use Rattle.phys_proc.specs.Procs.{ProcView}
 use Rattle.station_steps.specs.declared.flow.Flow.{Flow}
-use Rattle.station_steps.specs.Windows.{AllFlow, IsFlow, NoneOver, all_handled, all_sent}
+use Rattle.station_steps.specs.Windows.{AllDelivered, AllFlow, IsFlow, NoneOver, all_handled, all_sent}
 
 -- the result at place i is the first with a clone over the limit, and there this clone is the first
 pub record IsFirstOver (flows : List Flow) (i who : ℕ) : Type 0 where
@@ -63,3 +63,11 @@ pub record AllStepped (net : Net) (ends bounds : ℕ → ℕ) (olds news : List 
   pub sent_is : sent ≡ all_sent flows
   pub first : FirstOver flows over
   pub steps_are : steps ≡ steps0 + all_handled flows
+
+-- all stations were stepped, and if no clone went over the limit, each got what the others sent to it
+pub record AllSteppedAndGiven (net : Net) (ends bounds : ℕ → ℕ) (olds given : List ProcView) (over : Option (ℕ × ℕ))
+    (steps0 steps : ℕ) : Type 0 where
+  pub news : List ProcView
+  pub sent : MarkedMessages
+  pub stepped : AllStepped net ends bounds olds news sent over steps0 steps
+  pub delivered : over ≡ None → AllDelivered sent news given

@@ -1,15 +1,16 @@
 -- A window of all stations: each steps its own copies to its bound, and then each gets what the others sent to it.
-use Rattle.std.specs.Prelude.{◌≡◌, ℕ, ◌+◌, ◌≤◌, ◌==◌, List, [], ◌∷◌}
-use Rattle.std.specs.Prelude.{length, map, slice_get, slice_index, unwrap_or, option_map, Some, sum_by}
-use Rattle.std.specs.List.{All, filter, flat_map}
+use Rattle.std.specs.Prelude.{◌≡◌, ℕ, ◌+◌, ◌≤◌, List, []}
+use Rattle.std.specs.Prelude.{length, slice_get, slice_index, unwrap_or, option_map, Some, sum_by}
+use Rattle.std.specs.List.{All, flat_map}
 use Rattle.clone_sets.specs.Sets.{has, empty}
 use Rattle.clone_sets.specs.declared.set.CloneSet.{CloneSet}
 use Rattle.net_model.specs.Net.{Net}
 use Rattle.net_model.specs.declared.limits.TheConstants.{MOST_STATIONS}
 use Rattle.stations.specs.Runs.{simulation}
 use Rattle.run_laws.specs.Copies.{IsStepped, AreOver, GainTogether}
-use Rattle.phys_proc.specs.Own.{StationCopy, MarkedMessages, with_message}
+use Rattle.phys_proc.specs.Own.{StationCopy, MarkedMessages}
 use Rattle.phys_proc.specs.Procs.{ProcView, IsProc}
+pub use Rattle.station_steps.specs.Mail.{mail_for, with_mail}
 use Rattle.station_steps.specs.declared.flow.Flow.{Flow}
 
 -- what the tasks of a window share: the network, and when clones end
@@ -72,12 +73,7 @@ all_sent flows = flat_map (λ f. f.sent.items) flows
 
 -- those for the station at place i
 abbrev pub sent_to : ℕ → MarkedMessages → MarkedMessages
-sent_to i ms = filter (λ x. x.0.to == i + 1) ms
-
--- messages given to copies, one after the other
-abbrev pub with_mail : MarkedMessages → List StationCopy → List StationCopy
-with_mail [] xs = xs
-with_mail (x ∷ ms) xs = with_mail ms (map (with_message x.0 x.1) xs)
+sent_to i ms = mail_for (i + 1) ms
 
 -- the copies of the station at a place of the list
 abbrev pub copies_at : List ProcView → ℕ → List StationCopy

@@ -3,16 +3,19 @@
 ghost use Rattle.std.specs.Prelude.{◌≡◌, ◌+◌, ◌<◌, ◌≤◌, ◌++◌, ◌∷◌, []};
 ghost use Rattle.std.specs.Prelude.{Some, None, List, length, map, slice_get, IfOk, OnOk};
 ghost use Rattle.std.specs.List.{All};
+ghost use Rattle.net_model.specs.Net.{Net};
 ghost use Rattle.net_model.specs.declared.limits.TheConstants.{MOST_STATIONS};
 ghost use Rattle.phys_proc.specs.Ends.{ends_in};
 ghost use Rattle.phys_proc.specs.Procs.{ProcView};
 ghost use Rattle.station_steps.specs.declared.flow.Flow.{Flow as Flow'};
-ghost use Rattle.station_steps.specs.Windows.{AllFlow, AreBounds, AreStations, IsNumbered, bound_of};
+ghost use Rattle.station_steps.specs.Windows.{AllDelivered, AllFlow, AreBounds, AreStations, IsNumbered, bound_of};
 ghost use Rattle.station_steps.specs.Windows.{all_handled, all_sent};
-ghost use Rattle.station_steps.specs.Stepping.{FirstOver, IsPlaceOfOver, AllStepped, SteppedAt};
+ghost use Rattle.station_steps.specs.Stepping.{FirstOver, IsPlaceOfOver, AllStepped, AllSteppedAndGiven, SteppedAt};
 
 use crate::flow::Flow;
-use crate::tasks::{flows_of, steps_for};
+use crate::mail::Mail;
+use crate::sent_list::SentList;
+use crate::tasks::steps_for;
 use crate::timed_proc::TimedProc;
 use crate::windows::Window;
 use clone_sets::CloneSet;
@@ -44,10 +47,12 @@ pub struct WindowResult {
 pub struct Buffers {
     /// The bound of each station, in the order of the stations.
     pub bounds: Vec<u64>,
-    /// What all stations so far have sent.
+    /// What all stations so far have sent, if they are stepped in place.
     pub sent: Vec<(Msg, CloneSet)>,
     /// What one station sends, before it is put with the others.
     one: Vec<(Msg, CloneSet)>,
+    /// The mail of the last window that the crew stepped, for the room of its lists.
+    last: Option<Arc<Mail>>,
 }
 
 impl Buffers {
@@ -59,6 +64,7 @@ impl Buffers {
             bounds: Vec::new(alloc),
             sent: Vec::new(alloc),
             one: Vec::new(alloc),
+            last: None,
         }
     }
 
@@ -178,29 +184,32 @@ pub fn step_in_place<L: Ledger>(
     })
 }
 
-// The copies of all stations, and all that was sent.
+// The copies of all stations, and the list that each sent. The stations keep these other lists for their room.
 fn take_apart(
     alloc: Global,
     flows: Vec<Flow>,
-    sent: &mut Vec<(Msg, CloneSet)>,
-) -> Result<Vec<TimedProc>, NoMemory>
-    requires none { sent.old.items ≡ [] }
-    ensures procs { IfOk result (λ p. p.items ≡ map (λ f. f.done) flows.items) }
-    ensures sent { OnOk result (sent.new.items ≡ all_sent flows.items) }
+    rooms: Vec<SentList>,
+) -> Result<(Vec<TimedProc>, Vec<SentList>), NoMemory>
+    ensures procs { IfOk result (λ p. p.0.items ≡ map (λ f. f.done) flows.items) }
+    ensures sent { IfOk result (λ p. p.1.items ≡ map (λ f. f.sent) flows.items) }
 {
     let mut procs = Vec::with_capacity(alloc, flows.len())?;
+    let mut lists = Vec::with_capacity(alloc, flows.len())?;
+    let mut rooms = rooms;
     for flow in flows {
         let Flow {
             mut done,
-            sent: out,
+            sent,
             over: _,
             handled: _,
         } = flow;
-        append(sent, out.as_slice())?;
-        done.keep(out);
+        if let Some(room) = rooms.pop() {
+            done.keep(room);
+        }
         procs.push(done)?;
+        lists.push(sent)?;
     }
-    Ok(procs)
+    Ok((procs, lists))
 }
 
 // The number of messages that the stations have handled.
@@ -226,26 +235,31 @@ fn first_over(flows: &[Flow]) -> Option<(u32, u32)>
     None
 }
 
-// The result of a window, from the answers of all tasks.
-fn gather_flows(alloc: Global, flows: Vec<Flow>, buffers: Buffers) -> Result<WindowResult, NoMemory>
+// The result of a window, from the answers of all tasks: the stations share what they sent as their mail.
+fn gather_flows(
+    alloc: Global,
+    flows: Vec<Flow>,
+    buffers: Buffers,
+) -> Result<(WindowResult, Arc<Mail>), NoMemory>
     requires few { length flows.items ≤ MOST_STATIONS }
-    ensures procs { IfOk result (λ s. s.procs.items ≡ map (λ f. f.done) flows.items) }
-    ensures sent { IfOk result (λ s. s.buffers.sent.items ≡ all_sent flows.items) }
-    ensures over { IfOk result (λ s. FirstOver flows.items s.over) }
-    ensures few { IfOk result (λ s. IsPlaceOfOver s.over) }
-    ensures bounds { IfOk result (λ s. s.buffers.bounds ≡ buffers.bounds) }
+    ensures procs { IfOk result (λ s. s.0.procs.items ≡ map (λ f. f.done) flows.items) }
+    ensures sent { IfOk result (λ s. s.1.value ≡ all_sent flows.items) }
+    ensures over { IfOk result (λ s. FirstOver flows.items s.0.over) }
+    ensures few { IfOk result (λ s. IsPlaceOfOver s.0.over) }
 {
     let over = first_over(flows.as_slice());
     let handled = handled_in(flows.as_slice());
     let mut buffers = buffers;
-    buffers.sent.clear();
-    let procs = take_apart(alloc, flows, &mut buffers.sent)?;
-    Ok(WindowResult {
+    let rooms = Mail::lists_of(alloc, buffers.last.take());
+    let (procs, lists) = take_apart(alloc, flows, rooms)?;
+    let mail = Mail::shared(alloc, lists)?;
+    let result = WindowResult {
         procs,
         buffers,
         over,
         handled,
-    })
+    };
+    Ok((result, mail))
 }
 
 // Runs the tasks of all stations by the crew.
@@ -253,26 +267,36 @@ fn run_tasks<G: Gate, L: Ledger, R: Wait>(
     rt: &R,
     alloc: Global,
     crew: &mut Crew<'_, Window, G>,
-    work: &Arc<Window>,
+    work: Arc<Window>,
     procs: Vec<TimedProc>,
     bounds: &[u64],
     steps: &mut Steps<L>,
 ) -> Result<Vec<Flow>, NoMemory>
-    requires stations { AreStations work.now.value.net procs.items }
-    requires bounds { AreBounds work.now.value.net procs.items bounds.now }
+    requires stations { AreStations work.value.net procs.items }
+    requires bounds { AreBounds work.value.net procs.items bounds.now }
     ensures count { IfOk result (λ flows. length flows.items ≡ length procs.items) }
-    ensures flows { IfOk result (λ flows. AllFlow work.now.value.net (ends_in work.now.value.net.horizon work.now.value.ends)
+    ensures flows { IfOk result (λ flows. AllFlow work.value.net (ends_in work.value.net.horizon work.value.ends)
         (bound_of bounds.now) procs.items flows.items) }
     ensures cost { IfOk result (λ flows. steps.new ≡ steps.old + all_handled flows.items) }
 {
     let tasks = steps_for(alloc, procs, bounds)?;
-    let work = work.clone()?;
-    let answers = crew.all(rt, alloc, work, tasks, steps)?;
-    let flows = flows_of(alloc, answers)?;
+    let flows = crew.all(rt, alloc, work, tasks, steps)?;
     Ok(flows)
 }
 
-/// Steps all stations by the crew, each to its bound: each station is a task, whether or not something is due there.
+// Gives each station what is for it in the mail, at its next step.
+fn post_all(procs: &mut Vec<TimedProc>, mail: &Arc<Mail>) -> Result<(), NoMemory>
+    requires stations { (net : Net) × AreStations net procs.old.items }
+    ensures given { OnOk result (AllDelivered mail.now.value procs.old.items procs.new.items) }
+{
+    for i in 0..procs.len() {
+        procs[i].post(mail)?;
+    }
+    Ok(())
+}
+
+/// Steps all stations by the crew, each to its bound: each station is a task, whether or not something is due there. If
+/// no clone is over the limit, each station gets what the others sent to it, and takes it at its next step.
 ///
 /// # Errors
 ///
@@ -281,17 +305,17 @@ pub fn step_by_crew<G: Gate, L: Ledger, R: Wait>(
     rt: &R,
     alloc: Global,
     crew: &mut Crew<'_, Window, G>,
-    work: &Arc<Window>,
+    work: Arc<Window>,
     procs: Vec<TimedProc>,
     buffers: Buffers,
     steps: &mut Steps<L>,
 ) -> Result<WindowResult, NoMemory>
-    requires stations { AreStations work.now.value.net procs.items }
-    requires bounds { AreBounds work.now.value.net procs.items buffers.bounds.items }
-    ensures stepped { IfOk result (λ s. AllStepped work.now.value.net (ends_in work.now.value.net.horizon work.now.value.ends)
-        (bound_of buffers.bounds.items) procs.items s.procs.items s.buffers.sent.items s.over steps.old steps.new) }
+    requires stations { AreStations work.value.net procs.items }
+    requires bounds { AreBounds work.value.net procs.items buffers.bounds.items }
+    ensures stepped { IfOk result (λ s. AllSteppedAndGiven work.value.net
+        (ends_in work.value.net.horizon work.value.ends) (bound_of buffers.bounds.items) procs.items s.procs.items
+        s.over steps.old steps.new) }
     ensures few { IfOk result (λ s. IsPlaceOfOver s.over) }
-    ensures bounds { IfOk result (λ s. s.buffers.bounds ≡ buffers.bounds) }
 {
     let flows = run_tasks(
         rt,
@@ -302,6 +326,11 @@ pub fn step_by_crew<G: Gate, L: Ledger, R: Wait>(
         buffers.bounds.as_slice(),
         steps,
     )?;
-    let stepped = gather_flows(alloc, flows, buffers)?;
+    let (mut stepped, mail) = gather_flows(alloc, flows, buffers)?;
+    if let Some(_) = stepped.over {
+        return Ok(stepped);
+    }
+    post_all(&mut stepped.procs, &mail)?;
+    stepped.buffers.last = Some(mail);
     Ok(stepped)
 }

@@ -1,18 +1,21 @@
 //! The copies (physical processes) of a station (a logical process), with a time that no event in their future event
-//! lists is before.
+//! lists is before, and with the mail that they are yet to take.
 ghost use Rattle.std.specs.Prelude.{◌≡◌, ◌<◌, ◌≤◌, ◌+◌, [], true, false, IfOk, OnOk, IsTrue, map, length};
 ghost use Rattle.sim_base.specs.declared.lists.TheConstants.{MOST_CLONES};
 ghost use Rattle.clone_sets.specs.Sets.{has};
 ghost use Rattle.net_model.specs.Net.{Net};
 ghost use Rattle.stations.specs.Runs.{simulation};
 ghost use Rattle.run_laws.specs.Copies.{Stands};
-ghost use Rattle.phys_proc.specs.Own.{with_message, IsLowerBoundOfAll};
+ghost use Rattle.phys_proc.specs.Own.{but_pending, with_message, IsLowerBoundOfAll};
 ghost use Rattle.phys_proc.specs.Ends.{ends_in};
 ghost use Rattle.phys_proc.specs.Procs.{IsProc, IsLeastOf, IsWithLeast, AreShared};
 ghost use Rattle.phys_proc.specs.Racks.{view_of_copy};
 ghost use Rattle.station_steps.specs.Forking.{HasForked};
-ghost use Rattle.station_steps.specs.Windows.{HasAdvanced};
+ghost use Rattle.station_steps.specs.Mail.{IsEarliest, IsMailTaken, mail_in};
+ghost use Rattle.station_steps.specs.Windows.{HasAdvanced, IsDeliveredTo, mail_for};
 
+use crate::mail::Mail;
+use crate::sent_list::{NO_MAIL, SentList};
 use clone_sets::CloneSet;
 use net_model::Model;
 use phys_proc::{CloneEnds, Gain, PhysCopy, Proc, Rack};
@@ -25,25 +28,62 @@ use std::sync::ledger::Ledger;
 
 /// The copies of one station, with a lower bound of the times of their pending messages. So one comparison shows that
 /// a station has nothing due, and little is moved when the station is handed to a worker.
+///
+/// What the other stations sent in the last window may wait in the mail, which all stations share. The copies take
+/// what is for them before they do anything else. Clauses speak of the copies as they are with it.
 #[derive(Drop)]
 pub struct TimedProc {
     proc: Box<Proc>,
-    // nothing is pending before it
+    // nothing is pending before it, in the mail neither
     lower_bound: u64,
-    // for what the station sends, or is sent, in a window: it is kept from window to window, so that its memory is
-    // taken once, and no clause speaks of it
-    buffer: Vec<(Msg, CloneSet)>,
+    // what the copies don't have yet is in it, if there is any
+    mail: Option<Arc<Mail>>,
+    // for what the station sends in a window: it is kept from window to window, so that its memory is taken once, and
+    // no clause speaks of it
+    buffer: SentList,
 }
 
 impl std::marker::Model for TimedProc {
-    ghost use Rattle.phys_proc.specs.Own.{IsLowerBoundOfAll};
     ghost use Rattle.phys_proc.specs.Procs.{ProcView};
+    ghost use Rattle.station_steps.specs.Mail.{KeepsMail, mail_in, with_own_mail};
 
     ghost Value = { ProcView };
 
-    ghost view = { λ t. t.proc.value };
+    ghost view = { λ t. with_own_mail (mail_in t.mail) t.proc.value };
 
-    ghost invariant = { λ t. IsLowerBoundOfAll t.lower_bound t.proc.value.copies };
+    ghost invariant = { λ t. KeepsMail t.lower_bound (mail_in t.mail) t.proc.value };
+}
+
+// Gives the copies what is for them in the mail, if there is any.
+fn take_mail(proc: &mut Proc, mail: Option<Arc<Mail>>) -> Result<(), NoMemory>
+    ensures given { OnOk result (IsDeliveredTo (mail_for proc.old.station (mail_in mail)) proc.old proc.new) }
+    // also out of memory
+    ensures station { proc.new.station ≡ proc.old.station }
+    ensures living { proc.new.living ≡ proc.old.living }
+    ensures handled { proc.new.handled ≡ proc.old.handled }
+{
+    match mail {
+        Some(mail) => mail.hand_over(proc),
+        None => Ok(()),
+    }
+}
+
+// The earlier of a time and the least time of what is for the station in the mail and some of these clones take.
+fn earlier_in_mail(
+    mail: &Option<Arc<Mail>>,
+    station: u32,
+    clones: CloneSet,
+    ends: &CloneEnds,
+    horizon: u64,
+    before: Option<u64>,
+) -> Option<u64>
+    ensures earliest { IsEarliest before
+        (IsMailTaken (ends_in horizon ends.now) clones (mail_for station (mail_in mail.now))) result }
+{
+    match mail {
+        Some(mail) => mail.earlier_for(station, clones, ends, horizon, before),
+        None => before,
+    }
 }
 
 impl TimedProc {
@@ -55,22 +95,21 @@ impl TimedProc {
         Ok(TimedProc {
             proc: Box::new(alloc, proc)?,
             lower_bound,
-            buffer: Vec::new(alloc),
+            mail: None,
+            buffer: SentList::empty(alloc),
         })
     }
 
-    /// An empty buffer: the one that the station keeps, if it has it.
-    pub fn lend(&mut self, alloc: Global) -> Vec<(Msg, CloneSet)>
-        ensures none { result.items ≡ [] }
+    /// The room for what the station sends: that of the list that it keeps.
+    pub(crate) fn lend(&mut self, alloc: Global) -> (Vec<(Msg, CloneSet)>, Vec<u64>)
+        ensures none { result.0.items ≡ [] }
         ensures same { self.new ≡ self.old }
     {
-        let mut buffer = mem::replace(&mut self.buffer, Vec::new(alloc));
-        buffer.clear();
-        buffer
+        mem::replace(&mut self.buffer, SentList::empty(alloc)).room()
     }
 
-    /// The station keeps the buffer, whatever is in it.
-    pub fn keep(&mut self, buffer: Vec<(Msg, CloneSet)>)
+    /// The station keeps the list for its room, whatever is in it.
+    pub(crate) fn keep(&mut self, buffer: SentList)
         ensures same { self.new ≡ self.old }
     {
         self.buffer = buffer;
@@ -111,6 +150,7 @@ impl TimedProc {
     {
         // also where memory is refused
         self.lower_bound = 0;
+        take_mail(&mut self.proc, self.mail.take())?;
         let gain = self.proc.advance(alloc, model, ends, bound, sent, steps)?;
         self.lower_bound = self.proc.lower_bound();
         Ok(gain)
@@ -126,7 +166,15 @@ impl TimedProc {
                 return before;
             }
         }
-        earlier(before, self.proc.least(model, ends))
+        let here = earlier_in_mail(
+            &self.mail,
+            self.proc.station(),
+            self.proc.living(),
+            ends,
+            model.horizon(),
+            self.proc.least(model, ends),
+        );
+        earlier(before, here)
     }
 
     /// The least time at which something is due to the clone, below its end; None exactly if nothing is.
@@ -135,7 +183,14 @@ impl TimedProc {
         requires clone { c < MOST_CLONES }
         ensures least { IsLeastOf (ends_in model.now.horizon ends.now) self.now.copies c result }
     {
-        self.proc.least_of(model, ends, c)
+        earlier_in_mail(
+            &self.mail,
+            self.proc.station(),
+            self.proc.living().meet(CloneSet::one(c)),
+            ends,
+            model.horizon(),
+            self.proc.least_of(model, ends, c),
+        )
     }
 
     /// Gives a message to those of its clones that are in the set.
@@ -152,19 +207,53 @@ impl TimedProc {
         let lower_bound = self.lower_bound.min(msg.key.time);
         // also where memory is refused
         self.lower_bound = 0;
+        take_mail(&mut self.proc, self.mail.take())?;
         self.proc.deliver(msg, set)?;
         self.lower_bound = lower_bound;
         Ok(())
     }
 
+    /// The copies take what is for them in the mail, before or at their next step. What they were sent before, they take
+    /// at once.
+    ///
+    /// # Errors
+    ///
+    /// Out of memory, some of the copies may have some of what they were sent before.
+    pub(crate) fn post(&mut self, mail: &Arc<Mail>) -> Result<(), NoMemory>
+        requires proc { (net : Net) × IsProc net self.old }
+        ensures given { OnOk result (IsDeliveredTo (mail_for self.old.station mail.now.value) self.old self.new) }
+    {
+        let first = mail.first_for(self.proc.station());
+        if first == NO_MAIL {
+            return Ok(());
+        }
+        let lower_bound = self.lower_bound.min(first);
+        // also where memory is refused
+        self.lower_bound = 0;
+        take_mail(&mut self.proc, self.mail.take())?;
+        self.mail = Some(mail.clone()?);
+        self.lower_bound = lower_bound;
+        Ok(())
+    }
+
     /// Adds the clone `new`, which has no end, to the copy of the clone `old`, and to the pending messages of `old`.
-    pub fn fork(&mut self, old: u32, new: u32)
+    ///
+    /// # Errors
+    ///
+    /// Out of memory, some of the copies may have some of what they were sent.
+    pub fn fork(&mut self, old: u32, new: u32) -> Result<(), NoMemory>
         requires old { has self.old.living old ≡ true }
         requires new { has self.old.living new ≡ false }
         requires below { new < MOST_CLONES }
-        ensures forked { HasForked old new self.old self.new }
+        ensures forked { OnOk result (HasForked old new self.old self.new) }
     {
+        let lower_bound = self.lower_bound;
+        // also where memory is refused
+        self.lower_bound = 0;
+        take_mail(&mut self.proc, self.mail.take())?;
         self.proc.fork(old, new);
+        self.lower_bound = lower_bound;
+        Ok(())
     }
 
     /// What a reader sees of the station: the copies at the front, and the lists of the clones that they stand for.
@@ -201,9 +290,9 @@ impl TimedProc {
         self.proc.handled()
     }
 
-    /// The copies.
+    /// The copies, some of which may not have some of the pending messages.
     pub fn copies(&self) -> &[PhysCopy]
-        ensures value { result.now ≡ self.now.copies }
+        ensures same { map but_pending result.now ≡ map but_pending self.now.copies }
     {
         self.proc.copies()
     }

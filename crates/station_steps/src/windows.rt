@@ -1,13 +1,14 @@
 //! The tasks of a window, as work for a crew: a task steps the copies (physical processes) of one station (a logical
-//! process), or gives them their mail.
+//! process).
 ghost use Rattle.std.specs.Prelude.{◌≡◌, ◌+◌, ◌≤◌, IfOk};
 ghost use Rattle.phys_proc.specs.Ends.{ends_in};
 ghost use Rattle.station_steps.specs.Windows.{IsFlow, IsNumbered};
 
 use crate::flow::Flow;
+use crate::sent_list::SentList;
 use crate::shared_ends::SharedEnds;
 use crate::shared_model::share_of;
-use crate::tasks::{StationTask, TaskAnswer};
+use crate::tasks::StationTask;
 use crate::timed_proc::TimedProc;
 use crew_pool::Work;
 use net_model::Model;
@@ -69,11 +70,11 @@ impl Window {
         ensures steps { IfOk result (λ flow. steps.new ≡ steps.old + flow.handled) }
     {
         let mut done = proc;
-        let mut sent = done.lend(alloc);
-        let gain = done.advance(alloc, &self.model, &self.ends, bound, &mut sent, steps)?;
+        let (mut messages, firsts) = done.lend(alloc);
+        let gain = done.advance(alloc, &self.model, &self.ends, bound, &mut messages, steps)?;
         Ok(Flow {
             done,
-            sent,
+            sent: SentList::of(messages, firsts)?,
             over: gain.over,
             handled: gain.handled,
         })
@@ -83,16 +84,17 @@ impl Window {
 impl Work for Window {
     type In = StationTask;
 
-    type Out = TaskAnswer;
+    type Out = Flow;
 
     ghost use Rattle.phys_proc.specs.Ends.{ends_in};
-    ghost use Rattle.station_steps.specs.Tasks.{IsTaskAnswer, IsStationTask, steps_of};
+    ghost use Rattle.station_steps.specs.Tasks.{IsStationTask};
+    ghost use Rattle.station_steps.specs.Windows.{IsFlow};
 
     ghost ready = { λ w i task. IsStationTask w.net i task };
 
-    ghost answers = { λ w i task answer. IsTaskAnswer w.net (ends_in w.net.horizon w.ends) i task answer };
+    ghost answers = { λ w i task flow. IsFlow w.net (ends_in w.net.horizon w.ends) task.bound i task.proc flow };
 
-    ghost cost = { λ answer. steps_of answer };
+    ghost cost = { λ flow. flow.handled };
 
     fn run<L: Ledger>(
         &self,
@@ -100,24 +102,12 @@ impl Work for Window {
         i: u32,
         item: StationTask,
         steps: &mut Steps<L>,
-    ) -> Result<TaskAnswer, NoMemory> {
-        match item {
-            StationTask::Step(proc, bound) => {
-                let flow = self.step(alloc, i, proc, bound, steps)?;
-                Ok(TaskAnswer::Stepped(flow))
-            }
-            StationTask::Give(post) => {
-                let proc = post.hand_over()?;
-                Ok(TaskAnswer::Given(proc))
-            }
-        }
+    ) -> Result<Flow, NoMemory> {
+        self.step(alloc, i, item.proc, item.bound, steps)
     }
 
-    fn spent(&self, out: &TaskAnswer) -> u64 {
-        match out {
-            TaskAnswer::Stepped(flow) => flow.handled,
-            TaskAnswer::Given(_) => 0,
-        }
+    fn spent(&self, out: &Flow) -> u64 {
+        out.handled
     }
 
     fn is_small(&self) -> bool {

@@ -9,3 +9,4 @@ pub mod Taken
 pub mod DueTimes
 pub mod Merging
 pub mod Forks
+pub mod LikeCopies

@@ -1,5 +1,5 @@
 //! Decisions that a world takes: forks, sets and ends, at its front (window boundary).
-ghost use Rattle.std.specs.Prelude.{◌≡◌, ◌<◌, ◌≤◌, None, length, IfOk, Some};
+ghost use Rattle.std.specs.Prelude.{◌≡◌, ◌<◌, ◌≤◌, None, length, IfOk, OnOk, Some};
 ghost use Rattle.sim_base.specs.Clones.{clone_at, place_of, clones_with_fork, clones_with_plan, clones_with_end};
 ghost use Rattle.sim_base.specs.declared.lists.TheConstants.{MOST_CLONES};
 ghost use Rattle.net_model.specs.Net.{HasStation};
@@ -16,15 +16,16 @@ use stations::decision::set_message;
 use std::alloc::Global;
 
 // At each station the new clone joins the old one in its copy.
-fn fork_all(procs: &mut Vec<TimedProc>, old: u32, new: u32)
+fn fork_all(procs: &mut Vec<TimedProc>, old: u32, new: u32) -> Result<(), NoMemory>
     requires old { LivesAtAll old procs.old.items }
     requires new { LivesNowhere new procs.old.items }
     requires below { new < MOST_CLONES }
-    ensures forked { AllForked old new procs.old.items procs.new.items }
+    ensures forked { OnOk result (AllForked old new procs.old.items procs.new.items) }
 {
     for i in 0..procs.len() {
-        procs[i].fork(old, new);
+        procs[i].fork(old, new)?;
     }
+    Ok(())
 }
 
 impl World {
@@ -106,7 +107,7 @@ impl World {
         } = self;
         let number = lists.lists().len();
         lists.fork(alloc, new, old)?;
-        fork_all(&mut procs, old, number);
+        fork_all(&mut procs, old, number)?;
         Ok(World {
             model,
             lists,

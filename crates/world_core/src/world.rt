@@ -14,8 +14,8 @@ use net_model::Model;
 use phys_proc::Proc;
 use sim_base::{Lists, NoMemory, Steps};
 use station_steps::{
-    Buffers, SharedEnds, SharedLists, TimedProc, Window, WindowResult, deliver_all, give_all,
-    pass_gate, step_by_crew, step_in_place,
+    Buffers, SharedEnds, SharedLists, TimedProc, Window, WindowResult, deliver_all, pass_gate,
+    step_by_crew, step_in_place,
 };
 use std::alloc::Global;
 use std::sync::ledger::Ledger;
@@ -200,7 +200,8 @@ impl World {
         })
     }
 
-    // The same by the crew. Each station is a task, whether or not something is due there.
+    // The same by the crew. Each station is a task, whether or not something is due there. What was sent to a station it
+    // takes at its next step, and whatever else asks for it before sees it as if it had it.
     fn window_by_crew<G: Gate, L: Ledger, R: Wait>(
         self,
         rt: &R,
@@ -228,7 +229,7 @@ impl World {
         } = self;
         let work = Window::shared(alloc, &model, &ends)?;
         buffers.bound_all(procs.len(), bound)?;
-        let stepped = step_by_crew(rt, alloc, crew, &work, procs, buffers, steps)?;
+        let stepped = step_by_crew(rt, alloc, crew, work, procs, buffers, steps)?;
         let WindowResult {
             procs,
             buffers,
@@ -238,7 +239,6 @@ impl World {
         if let Some((place, who)) = over {
             return Err(beyond_limit(&model, place, who));
         }
-        let procs = give_all(rt, alloc, crew, &work, procs, buffers.sent.as_slice())?;
         Ok(World {
             model,
             lists,

@@ -1,20 +1,87 @@
-use Rattle.std.proofs.Common.{subst, List, ℕ}
+use Rattle.std.proofs.Common.{◌≡◌, Some, None, sym, ◌∙◌, subst, List, ℕ}
 use Rattle.phys_proc.specs.Ends.{ends_in}
+use Rattle.station_steps.specs.Stepping.{AllStepped}
 use Rattle.station_steps.specs.Windows.{AllFlow, bound_of}
+use Rattle.station_steps.proofs.Flows.{AreStations-stepped}
 use Rattle.station_steps.proofs.stepping.step_by_crew.Goals as goal
 
-pub returns-clause-stepped : goal.returns-clause-stepped
-returns-clause-stepped g c =
-    let w = c.args.work.now.value in
-    let flows = c.in_ok-flows.ensures in
+-- there is no place where there is one
+none_some : {X : Type 0} (x : X) → Some x ≡ None → ⊥
+none_some x e = absurd (cc)
+
+pub returns-in-Some-clause-stepped : goal.returns-in-Some-clause-stepped
+returns-in-Some-clause-stepped g c =
+    let w = c.args.work.value in
+    let flows = c.in_ok-flows.flows.items in
+    let run = c.in_ok-flows.ensures in
     let done = c.in_ok-stepped.ensures in
-    record {
-      flows = c.in_ok-flows.flows.items;
-      count = flows.count;
+    let stepped : AllStepped w.net (ends_in w.net.horizon w.ends) (bound_of c.args.buffers.bounds.items)
+    c.args.procs.items c.in_ok-stepped.stepped.procs.items c.in_ok-stepped.mail.value c.in_ok-stepped.stepped.over
+    c.args.steps.now c.run_tasks.new.steps = record {
+      flows = flows;
+      count = run.count;
       each = subst (λ (bounds : List ℕ). AllFlow w.net (ends_in w.net.horizon w.ends) (bound_of bounds)
-          c.args.procs.items c.in_ok-flows.flows.items) c.as_slice.ensures.value flows.flows;
+          c.args.procs.items flows) c.as_slice.ensures.value run.flows;
       procs = done.procs;
       sent_is = done.sent;
       first = done.over;
-      steps_are = flows.cost;
+      steps_are = run.cost;
+    } in
+    record {
+      news = c.in_ok-stepped.stepped.procs.items;
+      sent = c.in_ok-stepped.mail.value;
+      stepped = stepped;
+      delivered = λ none. absurd (none_some c.in-Some.field-0 (sym c.in-Some.is ∙ none));
+    }
+
+pub post_all-requires : goal.post_all-requires
+post_all-requires g c =
+    let w = c.args.work.value in
+    let flows = c.in_ok-flows.flows.items in
+    let run = c.in_ok-flows.ensures in
+    let done = c.in_ok-stepped.ensures in
+    let stepped : AllStepped w.net (ends_in w.net.horizon w.ends) (bound_of c.args.buffers.bounds.items)
+    c.args.procs.items c.in_ok-stepped.stepped.procs.items c.in_ok-stepped.mail.value c.in_ok-stepped.stepped.over
+    c.args.steps.now c.run_tasks.new.steps = record {
+      flows = flows;
+      count = run.count;
+      each = subst (λ (bounds : List ℕ). AllFlow w.net (ends_in w.net.horizon w.ends) (bound_of bounds)
+          c.args.procs.items flows) c.as_slice.ensures.value run.flows;
+      procs = done.procs;
+      sent_is = done.sent;
+      first = done.over;
+      steps_are = run.cost;
+    } in
+    record {
+      stations = (
+        w.net,
+        AreStations-stepped w.net (ends_in w.net.horizon w.ends) (bound_of c.args.buffers.bounds.items)
+            c.args.procs.items c.in_ok-stepped.stepped.procs.items c.in_ok-stepped.mail.value
+            c.in_ok-stepped.stepped.over c.args.steps.now c.run_tasks.new.steps c.requires.stations stepped,
+      );
+    }
+
+pub returns-clause-stepped : goal.returns-clause-stepped
+returns-clause-stepped g c =
+    let w = c.args.work.value in
+    let flows = c.in_ok-flows.flows.items in
+    let run = c.in_ok-flows.ensures in
+    let done = c.in_ok-stepped.ensures in
+    let stepped : AllStepped w.net (ends_in w.net.horizon w.ends) (bound_of c.args.buffers.bounds.items)
+    c.args.procs.items c.in_ok-stepped.stepped.procs.items c.in_ok-stepped.mail.value c.in_ok-stepped.stepped.over
+    c.args.steps.now c.run_tasks.new.steps = record {
+      flows = flows;
+      count = run.count;
+      each = subst (λ (bounds : List ℕ). AllFlow w.net (ends_in w.net.horizon w.ends) (bound_of bounds)
+          c.args.procs.items flows) c.as_slice.ensures.value run.flows;
+      procs = done.procs;
+      sent_is = done.sent;
+      first = done.over;
+      steps_are = run.cost;
+    } in
+    record {
+      news = c.in_ok-stepped.stepped.procs.items;
+      sent = c.in_ok-stepped.mail.value;
+      stepped = stepped;
+      delivered = λ none. c.in_ok-post_all.ensures.given;
     }

@@ -46,7 +46,12 @@ loop-i-preserved-then-is_idle g c =
     (let k = ap length kept in omega (arith, l, many, k)) c.index-in-loop-i.ensures 0
     ∙ ap (λ (xs : List ℕ). bound_of xs c.loop-i.i) kept in
     let late = subst (λ b. IsLowerBoundOfAll b p.copies) is (c.if-is_idle.ensures.lower refl) in
-    let flow : Flow = record { done = p; sent = c.clear.new.self; over = empty; handled = 0 } in
+    let flow : Flow = record {
+      done = p;
+      sent = record { items = c.clear.new.self.items };
+      over = empty;
+      handled = 0;
+    } in
     record {
       stepped = SteppedTo-idle net ends (bound_of bounds) olds c.loop-i.i c.loop-i.procs.items
           c.loop-i.buffers.sent.items c.loop-i.over c.args.steps.now c.loop-i.steps p flow l far got

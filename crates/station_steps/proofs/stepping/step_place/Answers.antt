@@ -30,7 +30,7 @@ returns-clause-stepped g c =
     let at = c.requires.numbered x got in
     let flow : Flow = record {
       done = y;
-      sent = c.advance.new.sent;
+      sent = record { items = c.advance.new.sent.items };
       over = c.in_ok-gain.gain.over;
       handled = c.in_ok-gain.gain.handled;
     } in

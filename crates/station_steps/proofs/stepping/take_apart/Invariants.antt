@@ -1,7 +1,6 @@
 use Rattle.std.proofs.Common.{◌≡◌, ◌++◌, map}
 use Rattle.std.specs.Vec.Iter.{into_iter_items}
 use Rattle.station_steps.specs.declared.flow.Flow.{Flow}
-use Rattle.station_steps.specs.Windows.{all_sent}
 use Rattle.station_steps.proofs.stepping.take_apart.Given as goal
 
 abbrev pub invariant-loop-flow : goal.invariant-loop-flow
@@ -10,4 +9,5 @@ invariant-loop-flow l =
     (goal.iterator-loop-flow).is_finite l.flow-iterator ×
     (l.procs.items ++ map (λ (f : Flow). f.done) (into_iter_items l.flow-iterator)
     ≡ map (λ (f : Flow). f.done) l.fn.flows.items) ×
-    (l.sent.items ++ all_sent (into_iter_items l.flow-iterator) ≡ all_sent l.fn.flows.items)
+    (l.lists.items ++ map (λ (f : Flow). f.sent) (into_iter_items l.flow-iterator)
+    ≡ map (λ (f : Flow). f.sent) l.fn.flows.items)

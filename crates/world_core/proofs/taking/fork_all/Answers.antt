@@ -23,7 +23,7 @@ loop-i-preserved c =
     ForkedTo-next c.args.old c.args.new c.loop-i.i c.args.procs.now.items c.loop-i.procs.items c.index_mut.result.now
     c.fork.new.self c.loop-i.invariant
     (omega (arith, c.loop-i-test.true, c.loop-i.auto.i-end, c.len-i-end.ensures, c.args.procs.now.ok.0))
-    c.index_mut.ensures.value c.fork.ensures.forked
+    c.index_mut.ensures.value c.in_ok-fork.ensures.forked
 
 pub returns : goal.returns
 returns c = record {

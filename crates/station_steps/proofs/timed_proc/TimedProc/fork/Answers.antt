@@ -1,28 +1,21 @@
-use Rattle.std.proofs.Common.{subst, sym, ap, ◌∙◌}
+use Rattle.std.proofs.Common.{◌≡◌, ap, refl, subst, sym, ◌∙◌}
 use Rattle.phys_proc.specs.Own.{IsLowerBoundOfAll}
 use Rattle.phys_proc.specs.Procs.{ProcView}
 use Rattle.phys_proc.proofs.Forks.{IsLowerBoundOfAll-forked}
-use Rattle.station_steps.specs.Forking.{HasForked}
+use Rattle.station_steps.specs.Mail.{KeepsMail, mail_in, with_own_mail}
+use Rattle.station_steps.proofs.TakenMail.{KeepsMail-none, taken_is}
 use Rattle.station_steps.proofs.timed_proc.TimedProc.fork.Goals as goal
 
-pub invariant_of-self : goal.invariant_of-self
-invariant_of-self c = subst (λ (p : ProcView). IsLowerBoundOfAll c.self.inside.lower_bound p.copies)
+pub invariant_of-self-2 : goal.invariant_of-self-2
+invariant_of-self-2 c =
+    let low = c.self.inside.lower_bound in
+    let old = with_own_mail (mail_in c.self.inside.mail) c.self.inside.proc.value in
+    let taken : c.take_mail.new.proc ≡ old = taken_is (mail_in c.self.inside.mail) (mail_in c.take.result) c.self.inside.proc.value
+    c.deref_mut.result.now c.take_mail.new.proc old c.in_ok-take_mail.ensures.given
+    (ap mail_in c.take.ensures.value) c.deref_mut.ensures.value refl in
+    subst (λ o. KeepsMail low (mail_in o) c.fork.new.self) (sym c.take.ensures.after)
+    (KeepsMail-none low c.fork.new.self (subst (λ (p : ProcView). IsLowerBoundOfAll low p.copies)
     (sym c.fork.ensures.forked)
-    (IsLowerBoundOfAll-forked c.args.old c.args.new c.self.inside.lower_bound c.deref_mut.result.now.copies
-    (subst (λ (p : ProcView). IsLowerBoundOfAll c.self.inside.lower_bound p.copies) (sym c.deref_mut.ensures.value)
-    c.self.invariant))
-
-pub returns : goal.returns
-returns c =
-    let e = c.fork.ensures in
-    record {
-      forked = subst (λ (u : ProcView). HasForked c.args.old c.args.new u c.fork.new.self)
-          (c.deref_mut.ensures.value ∙ c.self.view_is)
-          (record {
-            copies = e.each_forked;
-            proc = e.proc;
-            station = ap (λ (p : ProcView). p.station) e.forked;
-            living = ap (λ (p : ProcView). p.living) e.forked;
-            once = ap (λ (p : ProcView). p.handled) e.forked;
-          });
-    }
+    (IsLowerBoundOfAll-forked c.args.old c.args.new low c.deref_mut-2.result.now.copies
+    (subst (λ (p : ProcView). IsLowerBoundOfAll low p.copies) (sym (c.deref_mut-2.ensures.value ∙ taken))
+    c.self.invariant.lower))))

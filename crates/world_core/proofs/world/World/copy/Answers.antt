@@ -1,5 +1,4 @@
-use Rattle.std.proofs.Common.{◌≡◌, ◌+◌, ◌-◌, ◌<◌, ◌≤◌, sym, ap, ◌∙◌, subst, arith, length, true, false, List, ℕ}
-use Rattle.std.specs.List.{AllByRecursion}
+use Rattle.std.proofs.Common.{◌≡◌, ◌+◌, ◌-◌, ◌<◌, ◌≤◌, sym, ap, ◌∙◌, subst, arith, length, true, ℕ}
 use Rattle.sim_base.specs.Clones.{clone_at}
 use Rattle.clone_sets.specs.Sets.{has}
 use Rattle.net_model.specs.Net.{HasStation}
@@ -8,7 +7,7 @@ use Rattle.run_laws.specs.Runs.{log_at}
 use Rattle.phys_proc.specs.Own.{StationCopy}
 use Rattle.station_steps.proofs.Places.{got_at}
 use Rattle.world_core.specs.Worlds.{WorldView}
-use Rattle.world_core.specs.Tracing.{IsCopyOf}
+use Rattle.world_core.proofs.LikeCopies.{like_copy, none_has}
 use Rattle.world_core.proofs.Merging.{alike_is_in, has_a_copy, log_is, log_short}
 use Rattle.world_core.proofs.world.World.copy.Goals as goal
 
@@ -23,8 +22,7 @@ unreachable-requires c =
     let many = c.self.invariant.count in
     let got = got_at procs i p (omega (arith, is.low, is.high, many)) c.index.ensures in
     has_a_copy w.model.value w.lists.clones w.ends w.front procs c.self.invariant c.args.who there i p got
-    (subst (AllByRecursion (λ (a : StationCopy). has a.set c.args.who ≡ false)) c.copies.ensures.value
-    c.in-None.ensures.none)
+    (none_has c.copies.result.now p.copies c.copies.ensures.same c.args.who c.in-None.ensures.none)
 
 pub returns-clause-is_in : goal.returns-clause-is_in
 returns-clause-is_in c = c.in-Some.ensures.some.is_in
@@ -39,12 +37,13 @@ returns-clause-log c =
     let is = subst (λ (w : WorldView). HasStation w.net c.args.station) (sym c.self.view_is) c.requires.is_station in
     let many = c.self.invariant.count in
     let got = got_at procs i p (omega (arith, is.low, is.high, many)) c.index.ensures in
-    let found = subst (λ (k : List StationCopy). IsCopyOf k c.args.who copy) c.copies.ensures.value
-    c.in-Some.ensures.some in
+    let like = like_copy c.copies.result.now p.copies c.copies.ensures.same c.args.who copy c.in-Some.ensures.some in
+    let found = like.found in
     let same : i + 1 ≡ c.args.station = omega (arith, is.low) in
     subst (λ (w : WorldView). (d : ℕ) → has copy.set d ≡ true → copy.log ≡ log_at (simulation w.net)
-    (clone_at w.clones d) c.args.station w.front) c.self.view_is (λ d is_in.
-    log_is w.model.value w.lists.clones w.ends w.front procs c.self.invariant i p copy d got found.is_copy is_in
+    (clone_at w.clones d) c.args.station w.front) c.self.view_is (λ d is_in. ap (λ (a : StationCopy). a.log) like.same
+    ∙ log_is w.model.value w.lists.clones w.ends w.front procs c.self.invariant i p like.like d got found.is_copy
+    (subst (λ (a : StationCopy). has a.set d ≡ true) like.same is_in)
     ∙ ap (λ s. log_at (simulation w.model.value) (clone_at w.lists.clones d) s w.front) same)
 
 pub returns-clause-short : goal.returns-clause-short
@@ -57,10 +56,11 @@ returns-clause-short c =
     let is = subst (λ (w : WorldView). HasStation w.net c.args.station) (sym c.self.view_is) c.requires.is_station in
     let many = c.self.invariant.count in
     let got = got_at procs i p (omega (arith, is.low, is.high, many)) c.index.ensures in
-    let found = subst (λ (k : List StationCopy). IsCopyOf k c.args.who copy) c.copies.ensures.value
-    c.in-Some.ensures.some in
+    let like = like_copy c.copies.result.now p.copies c.copies.ensures.same c.args.who copy c.in-Some.ensures.some in
+    let found = like.found in
     subst (λ (w : WorldView). length copy.log ≤ w.net.limit) c.self.view_is
-    (log_short w.model.value w.lists.clones w.ends w.front procs c.self.invariant i p copy got found.is_copy)
+    (subst (λ (a : StationCopy). length a.log ≤ w.model.value.limit) (sym like.same)
+    (log_short w.model.value w.lists.clones w.ends w.front procs c.self.invariant i p like.like got found.is_copy))
 
 pub returns-clause-alike : goal.returns-clause-alike
 returns-clause-alike c =
@@ -72,14 +72,14 @@ returns-clause-alike c =
     let is = subst (λ (w : WorldView). HasStation w.net c.args.station) (sym c.self.view_is) c.requires.is_station in
     let many = c.self.invariant.count in
     let got = got_at procs i p (omega (arith, is.low, is.high, many)) c.index.ensures in
-    let found = subst (λ (k : List StationCopy). IsCopyOf k c.args.who copy) c.copies.ensures.value
-    c.in-Some.ensures.some in
+    let like = like_copy c.copies.result.now p.copies c.copies.ensures.same c.args.who copy c.in-Some.ensures.some in
+    let found = like.found in
     let same : i + 1 ≡ c.args.station = omega (arith, is.low) in
     subst (λ (w : WorldView). (d : ℕ) → d < length w.clones
     → log_at (simulation w.net) (clone_at w.clones d) c.args.station w.front
     ≡ log_at (simulation w.net) (clone_at w.clones c.args.who) c.args.station w.front → has copy.set d ≡ true)
-    c.self.view_is (λ d l e.
-    alike_is_in w.model.value w.lists.clones w.ends w.front procs c.self.invariant i p copy c.args.who d got
+    c.self.view_is (λ d l e. subst (λ (a : StationCopy). has a.set d ≡ true) (sym like.same)
+    (alike_is_in w.model.value w.lists.clones w.ends w.front procs c.self.invariant i p like.like c.args.who d got
     found.is_copy found.is_in l
     (subst (λ s. log_at (simulation w.model.value) (clone_at w.lists.clones d) s w.front
-    ≡ log_at (simulation w.model.value) (clone_at w.lists.clones c.args.who) s w.front) (sym same) e))
+    ≡ log_at (simulation w.model.value) (clone_at w.lists.clones c.args.who) s w.front) (sym same) e)))

@@ -1,10 +1,12 @@
-use Rattle.std.proofs.Common.{◌≡◌, ◌-◌, ◌≤◌, sym, ap, ◌∙◌, subst, arith, length}
+use Rattle.std.proofs.Common.{◌≡◌, ◌-◌, ◌≤◌, sym, ◌∙◌, subst, arith, length}
 use Rattle.std.specs.List.{AllByRecursion}
 use Rattle.sim_base.specs.declared.lists.TheConstants.{MOST_CLONES}
 use Rattle.net_model.specs.Net.{HasStation}
 use Rattle.net_model.specs.declared.limits.TheConstants.{MOST_LIMIT}
 use Rattle.stations.specs.Runs.{copies, handled_once, handled_alone}
-use Rattle.phys_proc.specs.Own.{StationCopy, all_sizes, handled_alone_by}
+use Rattle.phys_proc.specs.Own.{StationCopy, but_pending, handled_alone_by}
+use Rattle.sim_base.proofs.ListLaws.{all_map, all_of_map}
+use Rattle.world_core.proofs.LikeCopies.{like_alone, like_length, like_sizes}
 use Rattle.world_core.specs.Worlds.{WorldView}
 use Rattle.station_steps.proofs.Places.{got_at}
 use Rattle.world_core.proofs.DueTimes.{has_figures, all_short}
@@ -21,8 +23,10 @@ alone_in-requires-clause-short c =
     let got = got_at procs (c.args.station - 1) p (omega (arith, is.low, is.high, many)) c.index-proc.ensures in
     let proc = (c.self.invariant.each (c.args.station - 1) p got).station.proc in
     let short = c.self.invariant.valid.short in
-    subst (AllByRecursion (λ (a : StationCopy). length a.log ≤ MOST_LIMIT)) (sym c.copies-2.ensures.value)
-    (all_short c.self.inside.model.value p.station p.copies (omega (arith, short)) proc.copies)
+    all_of_map (λ (a : StationCopy). length a.log ≤ MOST_LIMIT) but_pending c.copies-2.result.now
+    (subst (AllByRecursion (λ (a : StationCopy). length a.log ≤ MOST_LIMIT)) (sym c.copies-2.ensures.same)
+    (all_map (λ (a : StationCopy). length a.log ≤ MOST_LIMIT) but_pending p.copies
+    (all_short c.self.inside.model.value p.station p.copies (omega (arith, short)) proc.copies)))
 
 pub alone_in-requires-clause-few : goal.alone_in-requires-clause-few
 alone_in-requires-clause-few c =
@@ -33,7 +37,7 @@ alone_in-requires-clause-few c =
     let got = got_at procs (c.args.station - 1) p (omega (arith, is.low, is.high, many)) c.index-proc.ensures in
     let f = has_figures c.self.inside.model.value c.self.inside.lists.clones c.self.inside.ends c.self.inside.front
     procs c.self.invariant c.args.station p is.low got in
-    subst (λ k. all_sizes k ≤ MOST_CLONES) (sym c.copies-2.ensures.value) f.sizes
+    subst (λ n. n ≤ MOST_CLONES) (sym (like_sizes c.copies-2.result.now p.copies c.copies-2.ensures.same)) f.sizes
 
 -- ---- the figures
 
@@ -46,7 +50,7 @@ returns-clause-copies c =
     let got = got_at procs (c.args.station - 1) p (omega (arith, is.low, is.high, many)) c.index-proc.ensures in
     let f = has_figures c.self.inside.model.value c.self.inside.lists.clones c.self.inside.ends c.self.inside.front
     procs c.self.invariant c.args.station p is.low got in
-    ap length c.copies.ensures.value
+    like_length c.copies.result.now p.copies c.copies.ensures.same
     ∙ subst (λ (w : WorldView). length p.copies ≡ copies w.net w.clones c.args.station w.front) c.self.view_is
     f.copies_are
 
@@ -71,6 +75,6 @@ returns-clause-alone c =
     let got = got_at procs (c.args.station - 1) p (omega (arith, is.low, is.high, many)) c.index-proc.ensures in
     let f = has_figures c.self.inside.model.value c.self.inside.lists.clones c.self.inside.ends c.self.inside.front
     procs c.self.invariant c.args.station p is.low got in
-    c.alone_in.ensures.value ∙ ap handled_alone_by c.copies-2.ensures.value
+    c.alone_in.ensures.value ∙ like_alone c.copies-2.result.now p.copies c.copies-2.ensures.same
     ∙ subst (λ (w : WorldView). handled_alone_by p.copies ≡ handled_alone w.net w.clones c.args.station w.front)
     c.self.view_is f.each_alone

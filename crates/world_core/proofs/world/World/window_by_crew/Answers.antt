@@ -1,7 +1,5 @@
 use Rattle.std.proofs.Common.{◌≡◌, ◌+◌, ap, sym, ◌∙◌, subst, arith, length}
 use Rattle.net_model.specs.Net.{Net}
-use Rattle.phys_proc.specs.Own.{MarkedMessages}
-use Rattle.station_steps.specs.Windows.{AllDelivered}
 use Rattle.world_core.specs.declared.world.WorldFault.TheVariants.{EventLimit}
 use Rattle.world_core.specs.Overs.{IsFault}
 use Rattle.world_core.proofs.Windowed.{has_stepped, may_step}
@@ -39,30 +37,15 @@ returns-in-Some-clause-fault g c =
     let many : length bounds ≡ length procs =
     omega (arith, c.in_ok-bound_all.ensures.count, c.len.ensures, c.self.inside.procs.ok.0) in
     let s = c.in_ok-stepped.stepped in
+    let all = c.in_ok-stepped.ensures.stepped in
     let h = has_stepped i.model.value i.lists.clones i.ends i.front c.args.bound procs c.args.self c.self.invariant
     c.self.view_is c.requires.above c.requires.within bounds many c.in_ok-bound_all.ensures.bounds c.in_ok-work.work.value.net c.in_ok-work.work.value.ends
-    s.procs.items s.buffers.sent.items s.over c.args.steps.now c.step_by_crew.new.steps (ap (λ v. v.net) c.in_ok-work.ensures.value) (ap (λ v. v.ends) c.in_ok-work.ensures.value)
-    c.in_ok-stepped.ensures.stepped in
+    all.news all.sent s.over c.args.steps.now c.step_by_crew.new.steps (ap (λ v. v.net) c.in_ok-work.ensures.value) (ap (λ v. v.ends) c.in_ok-work.ensures.value)
+    all.stepped in
     let place = c.in-Some.place + 1 in
     subst (IsFault c.args.self.net c.args.self.clones c.args.self.front c.args.bound c.args.steps.now c.step_by_crew.new.steps)
     (sym (c.beyond_limit.ensures.value ∙ ap (λ (n : Net). EventLimit place c.in-Some.who n.limit) c.deref.ensures))
     (h.fault (c.in-Some.place, c.in-Some.who) c.in-Some.is)
-
--- ---- what was sent
-
-pub give_all-requires-clause-stations : goal.give_all-requires-clause-stations
-give_all-requires-clause-stations g c κs within =
-    let i = c.self.inside in
-    let procs = i.procs.items in
-    let bounds = c.bound_all.new.self.bounds.items in
-    let many : length bounds ≡ length procs =
-    omega (arith, c.in_ok-bound_all.ensures.count, c.len.ensures, c.self.inside.procs.ok.0) in
-    let s = c.in_ok-stepped.stepped in
-    let h = has_stepped i.model.value i.lists.clones i.ends i.front c.args.bound procs c.args.self c.self.invariant
-    c.self.view_is c.requires.above c.requires.within bounds many c.in_ok-bound_all.ensures.bounds c.in_ok-work.work.value.net c.in_ok-work.work.value.ends
-    s.procs.items s.buffers.sent.items s.over c.args.steps.now c.step_by_crew.new.steps (ap (λ v. v.net) c.in_ok-work.ensures.value) (ap (λ v. v.ends) c.in_ok-work.ensures.value)
-    c.in_ok-stepped.ensures.stepped in
-    h.may_give
 
 -- ---- the world at the bound
 
@@ -74,13 +57,12 @@ invariant_of-result g c =
     let many : length bounds ≡ length procs =
     omega (arith, c.in_ok-bound_all.ensures.count, c.len.ensures, c.self.inside.procs.ok.0) in
     let s = c.in_ok-stepped.stepped in
+    let all = c.in_ok-stepped.ensures.stepped in
     let h = has_stepped i.model.value i.lists.clones i.ends i.front c.args.bound procs c.args.self c.self.invariant
     c.self.view_is c.requires.above c.requires.within bounds many c.in_ok-bound_all.ensures.bounds c.in_ok-work.work.value.net c.in_ok-work.work.value.ends
-    s.procs.items s.buffers.sent.items s.over c.args.steps.now c.step_by_crew.new.steps (ap (λ v. v.net) c.in_ok-work.ensures.value) (ap (λ v. v.ends) c.in_ok-work.ensures.value)
-    c.in_ok-stepped.ensures.stepped in
-    h.stands c.in_default.is c.in_ok-procs.procs.items
-    (subst (λ (k : MarkedMessages). AllDelivered k s.procs.items c.in_ok-procs.procs.items) c.as_slice.ensures.value
-    c.in_ok-procs.ensures.given)
+    all.news all.sent s.over c.args.steps.now c.step_by_crew.new.steps (ap (λ v. v.net) c.in_ok-work.ensures.value) (ap (λ v. v.ends) c.in_ok-work.ensures.value)
+    all.stepped in
+    h.stands c.in_default.is s.procs.items (all.delivered c.in_default.is)
 
 pub returns-clause-steps : goal.returns-clause-steps
 returns-clause-steps g c =
@@ -90,10 +72,11 @@ returns-clause-steps g c =
     let many : length bounds ≡ length procs =
     omega (arith, c.in_ok-bound_all.ensures.count, c.len.ensures, c.self.inside.procs.ok.0) in
     let s = c.in_ok-stepped.stepped in
+    let all = c.in_ok-stepped.ensures.stepped in
     let h = has_stepped i.model.value i.lists.clones i.ends i.front c.args.bound procs c.args.self c.self.invariant
     c.self.view_is c.requires.above c.requires.within bounds many c.in_ok-bound_all.ensures.bounds c.in_ok-work.work.value.net c.in_ok-work.work.value.ends
-    s.procs.items s.buffers.sent.items s.over c.args.steps.now c.step_by_crew.new.steps (ap (λ v. v.net) c.in_ok-work.ensures.value) (ap (λ v. v.ends) c.in_ok-work.ensures.value)
-    c.in_ok-stepped.ensures.stepped in
+    all.news all.sent s.over c.args.steps.now c.step_by_crew.new.steps (ap (λ v. v.net) c.in_ok-work.ensures.value) (ap (λ v. v.ends) c.in_ok-work.ensures.value)
+    all.stepped in
     h.steps c.in_default.is
 
 pub returns-clause-short : goal.returns-clause-short
@@ -104,8 +87,9 @@ returns-clause-short g c =
     let many : length bounds ≡ length procs =
     omega (arith, c.in_ok-bound_all.ensures.count, c.len.ensures, c.self.inside.procs.ok.0) in
     let s = c.in_ok-stepped.stepped in
+    let all = c.in_ok-stepped.ensures.stepped in
     let h = has_stepped i.model.value i.lists.clones i.ends i.front c.args.bound procs c.args.self c.self.invariant
     c.self.view_is c.requires.above c.requires.within bounds many c.in_ok-bound_all.ensures.bounds c.in_ok-work.work.value.net c.in_ok-work.work.value.ends
-    s.procs.items s.buffers.sent.items s.over c.args.steps.now c.step_by_crew.new.steps (ap (λ v. v.net) c.in_ok-work.ensures.value) (ap (λ v. v.ends) c.in_ok-work.ensures.value)
-    c.in_ok-stepped.ensures.stepped in
+    all.news all.sent s.over c.args.steps.now c.step_by_crew.new.steps (ap (λ v. v.net) c.in_ok-work.ensures.value) (ap (λ v. v.ends) c.in_ok-work.ensures.value)
+    all.stepped in
     h.short c.in_default.is

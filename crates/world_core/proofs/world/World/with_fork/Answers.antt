@@ -33,4 +33,4 @@ invariant_of-result c =
     c.self.inside.procs.items c.fork_all.new.procs.items few c.self.invariant
     (subst (λ n. AllForked c.args.old n c.self.inside.procs.items c.fork_all.new.procs.items)
     (c.len-number.ensures.value ∙ ap (λ (l : ListsView). length l.clones) c.lists.ensures.value)
-    c.fork_all.ensures.forked))
+    c.in_ok-fork_all.ensures.forked))

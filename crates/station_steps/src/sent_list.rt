@@ -1,0 +1,190 @@
+//! What one station (a logical process) sent in a window, with the times that its receivers look at first.
+ghost use Rattle.std.specs.Prelude.{◌≡◌, ◌≤◌, ◌∷◌, [], ℕ, Some, IsTrue, IfSome, OnOk, IfOk, false};
+ghost use Rattle.sim_base.specs.declared.message.Msg.{Msg as Msg'};
+ghost use Rattle.clone_sets.specs.declared.set.CloneSet.{CloneSet as CloneSet'};
+ghost use Rattle.phys_proc.specs.Ends.{ends_in};
+ghost use Rattle.station_steps.specs.Mail.{IsEarliest, IsFirstFor, IsMailTaken, IsNoted};
+ghost use Rattle.station_steps.specs.Windows.{IsDeliveredTo, mail_for};
+
+use clone_sets::CloneSet;
+use net_model::limits::MOST_STATIONS;
+use phys_proc::{CloneEnds, Proc};
+use sim_base::{Msg, NoMemory};
+use std::alloc::Global;
+
+/// In place of a first time: nothing is for the station.
+pub const NO_MAIL: u64 = u64::MAX;
+
+// The latest first time.
+const LATEST_FIRST: u64 = NO_MAIL - 1;
+
+// A place for each number of a station, from 0.
+const PLACES: usize = MOST_STATIONS + 1;
+
+/// The messages that a station sent in a window, in their order, each with the clones that send it. For each station
+/// the list has a time that none of the messages for it comes before.
+#[derive(Drop)]
+pub struct SentList {
+    messages: Vec<(Msg, CloneSet)>,
+    firsts: Vec<u64>,
+}
+
+impl std::marker::Model for SentList {
+    ghost use Rattle.std.specs.List.{AllByRecursion};
+    ghost use Rattle.station_steps.specs.Mail.{IsNoted, SentView};
+
+    ghost Value = { SentView };
+
+    ghost view = { λ l. record { items = l.messages.items } };
+
+    ghost invariant = { λ l. AllByRecursion (IsNoted l.firsts.items) l.messages.items };
+}
+
+// Notes the time of a message for its station.
+fn note(firsts: &mut Vec<u64>, msg: Msg)
+    ensures noted { (set : CloneSet') → IsNoted firsts.new.items (msg, set) }
+    ensures before { (x : Msg' × CloneSet') → IsNoted firsts.old.items x → IsNoted firsts.new.items x }
+{
+    let place = msg.to as usize;
+    if place < firsts.len() {
+        let first = firsts[place];
+        firsts[place] = first.min(msg.key.time).min(LATEST_FIRST);
+    }
+}
+
+// Whether there is a time, and it is at most the other.
+fn is_at_most(time: Option<u64>, other: u64) -> bool
+    ensures yes { IsTrue result → (t : ℕ) × (time ≡ Some t) × (t ≤ other) }
+    ensures no { result ≡ false → IfSome time (λ t. other ≤ t) }
+{
+    match time {
+        Some(time) => time <= other,
+        None => false,
+    }
+}
+
+// The earlier of a time and that of a message, if some of these clones are in its set and take it before their end.
+fn earlier_of_message(
+    before: Option<u64>,
+    msg: Msg,
+    set: CloneSet,
+    clones: CloneSet,
+    ends: &CloneEnds,
+    horizon: u64,
+) -> Option<u64>
+    ensures earliest { IsEarliest before (IsMailTaken (ends_in horizon ends.now) clones ((msg, set) ∷ [])) result }
+{
+    let time = msg.key.time;
+    if is_at_most(before, time) || time >= horizon {
+        return before;
+    }
+    let takers = set.meet(clones).minus(ends.ended_clones(time));
+    if takers.is_empty() {
+        return before;
+    }
+    Some(time)
+}
+
+impl SentList {
+    /// Nothing was sent. It takes no memory.
+    pub fn empty(alloc: Global) -> SentList
+        ensures none { result.items ≡ [] }
+    {
+        SentList {
+            messages: Vec::new(alloc),
+            firsts: Vec::new(alloc),
+        }
+    }
+
+    /// The room of the list, for the next window: no messages, and no times.
+    pub(crate) fn room(self) -> (Vec<(Msg, CloneSet)>, Vec<u64>)
+        ensures none { result.0.items ≡ [] }
+    {
+        let SentList {
+            mut messages,
+            mut firsts,
+        } = self;
+        messages.clear();
+        firsts.clear();
+        (messages, firsts)
+    }
+
+    /// The list of these messages. The times are put into `firsts`, whatever it has.
+    ///
+    /// # Errors
+    ///
+    /// Out of memory, the messages are gone.
+    pub(crate) fn of(messages: Vec<(Msg, CloneSet)>, firsts: Vec<u64>) -> Result<SentList, NoMemory>
+        ensures messages { IfOk result (λ l. l.items ≡ messages.items) }
+    {
+        let mut firsts = firsts;
+        firsts.clear();
+        firsts.resize(PLACES, NO_MAIL)?;
+        for pair in messages.as_slice() {
+            note(&mut firsts, pair.0);
+        }
+        Ok(SentList { messages, firsts })
+    }
+
+    /// A time that no message for the station comes before, [`NO_MAIL`] only if nothing is for it.
+    pub(crate) fn first_for(&self, station: u32) -> u64
+        ensures first { IsFirstFor station self.now.items result }
+    {
+        let place = station as usize;
+        if place < self.firsts.len() {
+            self.firsts[place]
+        } else {
+            0
+        }
+    }
+
+    /// Gives the copies of a station what is for them.
+    ///
+    /// # Errors
+    ///
+    /// Out of memory, some of the copies may have some of the messages.
+    pub(crate) fn hand_over(&self, proc: &mut Proc) -> Result<(), NoMemory>
+        ensures given { OnOk result (IsDeliveredTo (mail_for proc.old.station self.now.items) proc.old proc.new) }
+        // also out of memory
+        ensures station { proc.new.station ≡ proc.old.station }
+        ensures living { proc.new.living ≡ proc.old.living }
+        ensures handled { proc.new.handled ≡ proc.old.handled }
+    {
+        let station = proc.station();
+        if self.first_for(station) == NO_MAIL {
+            return Ok(());
+        }
+        for pair in self.messages.as_slice() {
+            if pair.0.to == station {
+                proc.deliver(pair.0, pair.1)?;
+            }
+        }
+        Ok(())
+    }
+
+    /// The earlier of a time and the least time of what is for the station and some of these clones take, each before
+    /// its end.
+    pub(crate) fn earlier_for(
+        &self,
+        station: u32,
+        clones: CloneSet,
+        ends: &CloneEnds,
+        horizon: u64,
+        before: Option<u64>,
+    ) -> Option<u64>
+        ensures earliest { IsEarliest before
+            (IsMailTaken (ends_in horizon ends.now) clones (mail_for station self.now.items)) result }
+    {
+        let first = self.first_for(station);
+        if first == NO_MAIL || is_at_most(before, first) {
+            return before;
+        }
+        let mut least = before;
+        for pair in self.messages.as_slice() {
+            if pair.0.to == station {
+                least = earlier_of_message(least, pair.0, pair.1, clones, ends, horizon);
+            }
+        }
+        least
+    }
+}
