@@ -1,18 +1,29 @@
 -- What a reader sees of the copies of a station.
-use Rattle.std.proofs.Common.{◌≡◌, ℕ, ◌<◌, ◌≤◌, true, false, List, sym, ap, ◌∙◌, subst, length, map}
+use Rattle.std.proofs.Common.{◌≡◌, ℕ, ◌<◌, ◌≤◌, true, false, List, [], ◌∷◌, sym, ap, ◌∙◌, subst, length, map}
 use Rattle.std.specs.List.{AllByRecursion}
 use Rattle.std.proofs.lemmas.Bool.{false≢true}
 use Rattle.sim_base.specs.Clones.{Clone}
 use Rattle.sim_base.specs.declared.lists.TheConstants.{MOST_CLONES}
+use Rattle.sim_base.proofs.ListLaws.{all_map}
 use Rattle.clone_sets.specs.Sets.{has, size}
 use Rattle.net_model.specs.Net.{Net}
 use Rattle.stations.specs.Runs.{simulation}
 use Rattle.run_laws.specs.Queue.{In}
-use Rattle.run_laws.specs.Copies.{Stands}
+use Rattle.run_laws.specs.Copies.{Disjoint, Stands}
 use Rattle.run_laws.proofs.Queue.{all_in}
 use Rattle.run_laws.proofs.Counts.{in_map, map_has}
 use Rattle.phys_proc.specs.Own.{StationCopy}
-use Rattle.phys_proc.specs.Racks.{RackCopyView, view_of_copy, ShowsClones, IsSeen}
+use Rattle.phys_proc.specs.Racks.{RackCopyView, view_of_copy, AreDisjoint, ShowsClones, IsSeen}
+
+-- ---- AreDisjoint
+
+-- where no clone is in two copies, none is in two of what a reader sees of them
+disjoint_views : (copies : List StationCopy) → Disjoint has copies → AreDisjoint (map view_of_copy copies)
+disjoint_views [] d = tt
+disjoint_views (a ∷ copies) d = (
+  all_map (λ (h : RackCopyView). (c : ℕ) → has a.set c ≡ true → ¬ (has h.set c ≡ true)) view_of_copy copies d.0,
+  disjoint_views copies d.1,
+)
 
 -- ---- IsSeen and ShowsClones
 
@@ -45,6 +56,10 @@ module _ (net : Net) (cs : List Clone) (s front : ℕ) where
   shows_clones copies few early st = record {
     few = few;
     early = early;
+    inhabited = λ h i. let k = in_map view_of_copy copies h i in
+        let c = st.inhabited k.0 k.1 in
+        (c.0, subst (λ (u : RackCopyView). has u.set c.0 ≡ true) (sym k.2) c.1);
+    disjoint = disjoint_views copies st.disjoint;
     carried = λ c l. let k = st.carried c l in (view_of_copy k.0, map_has view_of_copy copies k.0 k.1, k.2);
     living = λ h c i j. let k = in_map view_of_copy copies h i in
         st.living k.0 c k.1 (subst (λ (u : RackCopyView). has u.set c ≡ true) k.2 j);

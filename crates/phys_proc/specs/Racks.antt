@@ -1,5 +1,7 @@
 -- What a reader sees of a station.
-use Rattle.std.specs.Prelude.{◌≡◌, ◌↔◌, ℕ, ◌<◌, ◌≤◌, List, true, length, Option, Some, None, IfSome, IfNone}
+use Rattle.std.specs.Prelude.{◌≡◌, ◌↔◌, ℕ, ◌<◌, ◌≤◌, List, [], ◌∷◌, true, length, Option, Some, None, IfSome, IfNone}
+use Rattle.std.specs.Prelude.{⊤}
+use Rattle.std.specs.List.{AllByRecursion}
 use Rattle.sim_base.specs.Clones.{Clone, clone_at, place_of}
 use Rattle.sim_base.specs.declared.lists.TheConstants.{MOST_CLONES}
 use Rattle.sim_base.specs.declared.message.Msg.{Msg}
@@ -30,10 +32,19 @@ pub record RackView : Type 0 where
   pub front : ℕ
   pub copies : List RackCopyView
 
--- each clone is in a copy, whose log is that of the clone by itself up to the front; clones with equal logs share one
+-- no clone is in two of the copies
+abbrev pub AreDisjoint : List RackCopyView → Type 0
+AreDisjoint [] = ⊤
+AreDisjoint (h ∷ copies) = AllByRecursion (λ k. (c : ℕ) → has h.set c ≡ true → ¬ (has k.set c ≡ true)) copies
+    × AreDisjoint copies
+
+-- each clone is in one copy, whose log is that of the clone by itself up to the front; clones with equal logs share
+-- one, and each copy has a clone
 pub record ShowsClones (net : Net) (cs : List Clone) (s front : ℕ) (copies : List RackCopyView) : Type 0 where
   pub few : length cs ≤ MOST_CLONES
   pub early : front ≤ net.horizon
+  pub inhabited : (h : RackCopyView) → In h copies → (c : ℕ) × (has h.set c ≡ true)
+  pub disjoint : AreDisjoint copies
   pub carried : (c : ℕ) → c < length cs → (h : RackCopyView) × In h copies × (has h.set c ≡ true)
   pub living : (h : RackCopyView) (c : ℕ) → In h copies → has h.set c ≡ true → c < length cs
   pub log : (h : RackCopyView) (c : ℕ) → In h copies → has h.set c ≡ true → h.log ≡ log_at net (clone_at cs c) s front
