@@ -1,7 +1,7 @@
 -- Steps between turns: looks at the front, passes made and taken in, the beginning and the end.
 use Rattle.std.proofs.Common.{◌≡◌, ◌≢◌, ℕ, zero, suc, ◌+◌, ◌-◌, ◌%◌, ◌^◌, ◌<◌, ◌≤◌, true}
 use Rattle.std.proofs.Common.{false, true≢false, List, [], ◌∷◌, ◌++◌, length, set, sym, refl, ap, ◌∙◌}
-use Rattle.std.proofs.Common.{subst, ⊎_elim, inl, inr, arith, slice_index, slice_set, Some}
+use Rattle.std.proofs.Common.{subst, ⊎_elim, inl, inr, arith, slice_index, slice_set, Some, nat_eq, if◌then◌else◌}
 use Rattle.std.proofs.Math.Nat.{mod-add-mod}
 use Rattle.std.proofs.lemmas.Bool.{cases_eq}
 use Rattle.std.proofs.lemmas.Option.{same_Some}
@@ -9,7 +9,7 @@ use mathlib.Core.Option.{Option, some, none, some-ne-none, some-injective}
 use lib.ListN.{get_elem?}
 use mathlib.Core.List.{IsPrefix}
 use Rattle.atomic_table.specs.Table.{Me, Allows, carried_after, Splits, Joins, opening, Final, Seen, rest, keeps, gives}
-use Rattle.atomic_table.proofs.Lists.{at_set, at_snoc, at_longer, set_else}
+use Rattle.atomic_table.proofs.Lists.{at_set, at_snoc, at_longer, set_else, set_here}
 use Rattle.net_model.specs.Net.{Net}
 use Rattle.decision_book.specs.declared.call.TheConstants.{MOST_CALLS}
 use Rattle.decision_book.specs.Journal.{Event, calls_of, front_of}
@@ -21,14 +21,16 @@ use Rattle.decision_desk.specs.Passes.{HelmView, view_of_helm, IsFinalBook}
 use Rattle.decision_desk.specs.Accounts.{Account, AreAccounts, IsAccount, accounts_of}
 use Rattle.decision_desk.specs.Accounts.{calls_by, OnlyCalls}
 use Rattle.decision_desk.specs.Turns.{Slot, book_of, total, ticket_count, has_ticket, has_caller, Fits}
-use Rattle.decision_desk.specs.Turns.{EachFits, NoTurn, BookIsHomeOrInTurn, OneHelm, IsDesk, view_with_turn}
+use Rattle.decision_desk.specs.Turns.{EachFits, NoTurn, BookIsHomeOrInTurn, OneAccountEach, OneHelm, IsDesk}
+use Rattle.decision_desk.specs.Turns.{in_line, view_with_turn}
 use Rattle.decision_desk.specs.Turns.{new_account, pass_view, helm_view, spent_view, view_after_look, full_account}
 use Rattle.decision_desk.specs.Turns.{HasSeenFront, HasEndedFullTurn}
 use Rattle.decision_desk.proofs.Journals.{prefix_refl, front_of-prefix}
 use Rattle.decision_desk.proofs.Journals.{account_looked, account_full, accounts_append, accounts_of-append}
 use Rattle.decision_desk.proofs.Turnings.{Becomes, Alike, only_same, total_set, two_below, each_set, no_turn_set}
-use Rattle.decision_desk.proofs.Turnings.{parts_stay, once_stays, unmade_stays, one_helm_stays, others_stay, rest_home}
-use Rattle.decision_desk.proofs.Turnings.{others_idle, ticket_in_line, in_turn, fits_served, once_less}
+use Rattle.decision_desk.proofs.Turnings.{parts_stay, once_stays, some_helm_stays, one_helm_stays, others_stay}
+use Rattle.decision_desk.proofs.Turnings.{rest_home, others_idle, ticket_in_line, in_turn, fits_served, once_less}
+use Rattle.decision_desk.proofs.Turnings.{once_more, get_elem-bounds}
 use Rattle.decision_desk.proofs.Turnings.{none_waiting, no_tickets, one_waiting, only_ticket}
 
 -- ---- Fits
@@ -86,7 +88,7 @@ Allows-front slots id m idle still some_part plain a mine s k one at small =
         home = rest_home k.net k.journal s.homes s.views id v w at still still k.home;
         once = once_stays s k id v w at same;
         others = others_stay s k id v w at same;
-        unmade = unmade_stays s k id v w at same;
+        some_helm = some_helm_stays s k id v w at same;
         one_helm = one_helm_stays s k id v w at same;
       },
       (
@@ -185,7 +187,7 @@ Allows-full slots id v some_part turn a mine whole s k one at small =
         );
         once = once_stays s k id v w at same;
         others = others_stay s k id v w at same;
-        unmade = unmade_stays s k id v w at same;
+        some_helm = some_helm_stays s k id v w at same;
         one_helm = one_helm_stays s k id v w at same;
       },
       refl,
@@ -234,6 +236,16 @@ more_home net j homes views w still home = ⊎_elim
     inr (h.0, (h.1.0, h.1.1, at_longer views (w ∷ []) h.1.0 h.1.1 h.1.2, h.1.3)))
     home
 
+-- ---- in_line
+
+-- behind the last pass that was made there is no caller
+none_behind : (n : ℕ) → in_line n 1 n ≡ 0
+none_behind n = grind arith
+
+-- and before the first was made there is none
+none_behind_first : (x : ℕ) → in_line x 1 1 ≡ 0
+none_behind_first x = grind arith
+
 -- ---- Splits
 
 -- a seat of the list after a split: the helm, one that was there, or the new pass
@@ -246,10 +258,11 @@ Splits-pass id v idle still steers two s k at =
     let r : View = pass_view v.net v.seen a in
     let vs : List View = set s.views id l in
     let f = k.fits id v at in
-    let nobody : total (has_caller (v.made + 1)) s.views ≡ 0 = k.unmade id v at steers (v.made + 1) (omega arith) in
+    let nobody : total (has_caller (v.made + 1)) s.views ≡ 0 =
+    k.once id v at steers (v.made + 1) ∙ none_behind (v.made + 1) in
     let count : (x : ℕ) → total (has_caller x) (vs ++ r ∷ []) ≡ total (has_caller x) s.views + has_caller x r =
     λ x. omega (arith, total_set (has_caller x) s.views id v l at, total_more (has_caller x) vs r) in
-    let fresh : (x : ℕ) → x ≢ v.made + 1 → has_caller x r ≡ 0 = λ x other. grind (arith, other) in
+    let own : (x : ℕ) → has_caller x r ≡ (if nat_eq (v.made + 1) x then 1 else 0) = λ x. omega arith in
     let alone : (i : ℕ) (u : View) → get_elem? (vs ++ r ∷ []) i ≡ some u → u.steers ≡ true → (i ≡ id) × (l ≡ u) =
     λ i u e mine. ⊎_elim
     (λ (x : get_elem? vs i ≡ some u). ⊎_elim (λ (y : (i ≡ id) × (l ≡ u)). y)
@@ -310,21 +323,17 @@ Splits-pass id v idle still steers two s k at =
           }) k.fits);
       home = more_home k.net k.journal s.homes vs r refl
           (rest_home k.net k.journal s.homes s.views id v l at still still k.home);
-      once = λ x. ⊎_elim
-          (λ (e : x ≡ v.made + 1). let z : total (has_caller x) s.views
-          ≡ 0 = ap (λ (y : ℕ). total (has_caller y) s.views) e ∙ nobody in let o : has_caller x r ≤ 1 =
-          grind arith in omega (arith, count x, z, o))
-          (λ (e : x ≢ v.made + 1). omega (arith, count x, k.once x, fresh x e)) (cases_eq x (v.made + 1));
+      once = λ i u e mine x.
+          let here : total (has_caller x) (vs ++ r ∷ []) ≡ in_line x 1 (v.made + 1 + 1) =
+          omega (arith, count x, k.once id v at steers x, own x, once_more x 1 (v.made + 1) (omega arith)) in
+          here ∙ ap (λ (y : View). in_line x 1 (y.made + 1)) (alone i u e mine).1;
       others = λ x nothing. k.others x (omega (arith, nothing, count x));
-      unmade = λ i u e mine x above.
-          let is = alone i u e mine in
-          let high : v.made + 1 < x = omega (arith, above, ap (λ (y : View). y.made) is.1) in
-          omega (
-            arith,
-            count x,
-            k.unmade id v at steers x (omega (arith, high)),
-            fresh x (λ e. absurd (omega (arith, e, high))),
-          );
+      some_helm = (
+        id,
+        l,
+        at_longer vs (r ∷ []) id l (set_here s.views id l (get_elem-bounds s.views id v at)),
+        steers,
+      );
       one_helm = λ i j u w e d mine other. (alone i u e mine).0 ∙ sym (alone j w d other).0;
     }
 
@@ -415,10 +424,27 @@ Joins-pass id v other u idle still some_part idle' still' plain s k at apart at'
           }) k.fits);
       home = rest_home k.net k.journal s.homes vs other u e at' still' refl
           (rest_home k.net k.journal s.homes s.views id v b at still still k.home);
-      once = λ x. omega (arith, count x, k.once x);
+      once = λ i w d mine x. let z = before i w d mine in
+          count x ∙ (k.once i z.0 z.1 z.2 x ∙ ap (λ n. in_line x 1 (n + 1)) z.3);
       others = λ x nothing. k.others x (omega (arith, nothing, count x));
-      unmade = λ i w d mine x above. let z = before i w d mine in
-          count x ∙ k.unmade i z.0 z.1 z.2 x (omega (arith, above, z.3));
+      some_helm = let h = k.some_helm in
+          let apart_from : h.0 ≢ other = λ same. true≢false (sym h.3 ∙ (ap (λ (y : View). y.steers)
+          (some-injective h.1 u (sym h.2 ∙ (ap (λ (n : ℕ). get_elem? s.views n) same ∙ there))) ∙ plain)) in
+          ⊎_elim
+          (λ (here : h.0 ≡ id). (
+            id,
+            b,
+            set_else vs other id e (λ same. apart (sym same))
+                ∙ set_here s.views id b (get_elem-bounds s.views id v at),
+            ap (λ (y : View). y.steers) (some-injective v h.1
+                (sym at ∙ (ap (λ (n : ℕ). get_elem? s.views n) (sym here) ∙ h.2))) ∙ h.3,
+          ))
+          (λ (far : h.0 ≢ id). (
+            h.0,
+            h.1,
+            set_else vs other h.0 e apart_from ∙ (set_else s.views id h.0 b far ∙ h.2),
+            h.3,
+          )) (cases_eq h.0 id);
       one_helm = λ i j w z d c mine more. let p = before i w d mine in let q = before j z c more in
           k.one_helm i j p.0 q.0 p.1 q.1 p.2 q.2;
     }
@@ -441,9 +467,9 @@ IsDesk-opening net = record {
   each_once = λ x. grind arith;
   fits = only;
   home = inl (refl, still);
-  once = λ x. omega arith;
+  once = made_none;
   others = λ x _. refl;
-  unmade = λ i u e mine x above. refl;
+  some_helm = (0, first, refl, refl);
   one_helm = one;
 }
   where
@@ -470,6 +496,11 @@ IsDesk-opening net = record {
     still zero v e = subst (λ (y : View). y.turn ≡ false) (some-injective first v e) refl
     still (suc j) v e = absurd (some-ne-none v (sym e))
 
+    made_none : OneAccountEach (first ∷ [])
+    made_none zero v e steers x = subst (λ (y : View). 0 ≡ in_line x 1 (y.made + 1)) (some-injective first v e)
+        (sym (none_behind_first x))
+    made_none (suc j) v e steers x = absurd (some-ne-none v (sym e))
+
     one : OneHelm (first ∷ [])
     one zero zero u v e d a b = refl
     one zero (suc j) u v e d a b = absurd (some-ne-none v (sym d))
@@ -491,6 +522,7 @@ pub record HasEnded (v : View) (slots : List Slot) : Type 0 where
   pub helm : v.steers ≡ true → OnlyCalls v.helm journal
   pub accounts : AreAccounts journal v.accounts
   pub others : (x : ℕ) → accounts_of x v.accounts ≡ 0 → calls_by x journal ≡ []
+  pub once : v.steers ≡ true → (x : ℕ) → accounts_of x v.accounts ≡ in_line x 1 (v.made + 1)
 
 -- this is so of a seat without the turn that has all parts, when the desk ends
 pub HasEnded-final : (id : ℕ) (v : View) (ws : List ℕ) (xs : List Slot) → v.parts ≡ ALL_PARTS → v.turn ≡ false
@@ -528,6 +560,7 @@ HasEnded-final id v ws xs whole still final =
       helm = f.helm;
       accounts = f.accounts;
       others = λ x nothing. k.others x (alone x ∙ nothing);
+      once = λ steers x. sym (alone x) ∙ k.once id v at steers x;
     }
 
 -- a list of slots that is one alone is this one and the rest of the list
@@ -542,4 +575,11 @@ is_final_book h t v xs o b is steers e at out =
     same_Some {A = BookView} b (record { net = v.net; events = e.journal })
     (sym out ∙ some-injective o (book_of v.net e.journal) (sym at ∙ e.book)) in
     subst (λ (k : HelmView). IsFinalBook k b) is (subst (λ (x : BookView). IsFinalBook (view_of_helm t v) x) (sym same)
-    (record { net = refl; seen = e.seen; only_calls = e.helm steers; accounts = e.accounts; others = e.others }))
+    (record {
+      net = refl;
+      seen = e.seen;
+      only_calls = e.helm steers;
+      accounts = e.accounts;
+      once = e.once steers;
+      others = e.others;
+    }))

@@ -4,7 +4,7 @@ use Rattle.std.proofs.Common.{true, false, true≢false, List, [], ◌∷◌, �
 use Rattle.std.proofs.Common.{ap, ◌∙◌, subst, ⊎_elim, inl, inr, arith, nat_eq, if◌then◌else◌, get_or, slice_index}
 use Rattle.std.proofs.Common.{slice_set}
 use Rattle.std.proofs.Math.Nat.{mod-add-mod, mod-eq_of_lt}
-use Rattle.std.proofs.lemmas.Bool.{false_from_ne_true}
+use Rattle.std.proofs.lemmas.Bool.{cases_eq, false_from_ne_true}
 use mathlib.Core.Option.{Option, some, none, some-ne-none, some-injective}
 use lib.ListN.{get_elem?}
 use Rattle.atomic_table.specs.Table.{State, Me, Allows, Act, Valid, stepped, carried_after, keeps, takes, gives}
@@ -19,7 +19,7 @@ use Rattle.decision_desk.specs.declared.view.View.{View}
 use Rattle.decision_desk.specs.Accounts.{Account, AreAccounts, IsAccount, accounts_of}
 use Rattle.decision_desk.specs.Accounts.{calls_by, RisesFrom, OnlyCalls}
 use Rattle.decision_desk.specs.Turns.{Slot, book_of, total, ticket_count, has_ticket, has_caller, in_line, Fits}
-use Rattle.decision_desk.specs.Turns.{EachFits, NoTurn, BookIsHomeOrInTurn, NoAccountAboveMade, OneHelm, IsDesk}
+use Rattle.decision_desk.specs.Turns.{EachFits, NoTurn, BookIsHomeOrInTurn, OneAccountEach, OneHelm, SomeHelm, IsDesk}
 use Rattle.decision_desk.specs.Turns.{view_with_turn, view_after_call, view_after_front, HasDrawnTicket, HasTurnIf}
 use Rattle.decision_desk.specs.Turns.{HasTurnIfServed, HasAddedCall, HasEndedTurn}
 use Rattle.decision_desk.proofs.Journals.{front_asked, front_raised, calls_by-other}
@@ -50,7 +50,7 @@ total_le f h [] each = omega arith
 total_le f h (u ∷ us) each = omega (arith, each 0 u refl, total_le f h us (λ i v e. each (suc i) v e))
 
 -- the place of a seat is below the number of seats
-get_elem-bounds : (views : List View) (id : ℕ) (v : View) → get_elem? views id ≡ some v → id < length views
+pub get_elem-bounds : (views : List View) (id : ℕ) (v : View) → get_elem? views id ≡ some v → id < length views
 get_elem-bounds [] id v e = absurd (some-ne-none v (sym e))
 get_elem-bounds (u ∷ us) zero v e = omega arith
 get_elem-bounds (u ∷ us) (suc id) v e = omega (arith, get_elem-bounds us id v e)
@@ -99,7 +99,8 @@ in_line_in : (x from to : ℕ) → 1 ≤ in_line x from to → (from ≤ x) × (
 in_line_in x from to h = (grind (arith, h), grind (arith, h))
 
 -- a line that ends one later has gained the ticket at its end, and no other
-once_more : (x from to : ℕ) → from ≤ to → in_line x from (to + 1) ≡ in_line x from to + (if nat_eq to x then 1 else 0)
+pub once_more : (x from to : ℕ) → from ≤ to
+    → in_line x from (to + 1) ≡ in_line x from to + (if nat_eq to x then 1 else 0)
 once_more x from to h = grind (arith, h)
 
 -- a line that begins one later has lost the first ticket, and no other
@@ -148,16 +149,24 @@ module _ (s : State Slot View) (k : IsDesk s) (id : ℕ) (v w : View) (at : get_
   pub callers_stay : (x : ℕ) → total (has_caller x) (set s.views id w) ≡ total (has_caller x) s.views
   callers_stay x = omega (arith, total_set (has_caller x) s.views id v w at, same.callers x)
 
-  -- so no caller has more than one
-  pub once_stays : (x : ℕ) → total (has_caller x) (set s.views id w) ≤ 1
-  once_stays x = omega (arith, callers_stay x, k.once x)
+  -- so each caller of a pass that was made has one, and no other has any
+  pub once_stays : OneAccountEach (set s.views id w)
+  once_stays i u e steers x = callers_stay x ∙ ⊎_elim
+      (λ (h : (i ≡ id) × (w ≡ u)). k.once id v at (sym same.steers ∙ (ap (λ (y : View). y.steers) h.1 ∙ steers)) x
+      ∙ ap (λ n. in_line x 1 (n + 1)) (sym same.made ∙ ap (λ (y : View). y.made) h.1))
+      (λ (h : (i ≢ id) × (get_elem? s.views i ≡ some u)). k.once i u h.1 steers x) (at_set s.views id i w u e)
 
-  -- and no caller above the number of passes made has any
-  pub unmade_stays : NoAccountAboveMade (set s.views id w)
-  unmade_stays i u e steers x above = callers_stay x ∙ ⊎_elim
-      (λ (h : (i ≡ id) × (w ≡ u)). k.unmade id v at (sym same.steers ∙ (ap (λ (y : View). y.steers) h.1 ∙ steers)) x
-      (omega (arith, above, same.made, ap (λ (y : View). y.made) h.1)))
-      (λ (h : (i ≢ id) × (get_elem? s.views i ≡ some u)). k.unmade i u h.1 steers x above) (at_set s.views id i w u e)
+  -- and some seat steers
+  pub some_helm_stays : SomeHelm (set s.views id w)
+  some_helm_stays = let h = k.some_helm in ⊎_elim
+      (λ (here : h.0 ≡ id). (
+        id,
+        w,
+        set_here s.views id w (get_elem-bounds s.views id v at),
+        same.steers ∙ (ap (λ (y : View). y.steers) (some-injective v h.1
+            (sym at ∙ (ap (λ (n : ℕ). get_elem? s.views n) (sym here) ∙ h.2))) ∙ h.3),
+      ))
+      (λ (other : h.0 ≢ id). (h.0, h.1, set_else s.views id h.0 w other ∙ h.2, h.3)) (cases_eq h.0 id)
 
   -- a seat after the change, and the one that was there
   pub was : (i : ℕ) (u : View) → get_elem? (set s.views id w) i ≡ some u → (z : View) × (get_elem? s.views i ≡ some z)
@@ -180,6 +189,10 @@ module _ (s : State Slot View) (k : IsDesk s) (id : ℕ) (v w : View) (at : get_
   -- and a caller without an account has no calls
   pub others_stay : (x : ℕ) → total (has_caller x) (set s.views id w) ≡ 0 → calls_by x k.journal ≡ []
   others_stay x nobody = k.others x (omega (arith, nobody, callers_stay x))
+
+-- no caller has more than one account
+at_most_once : (s : State Slot View) → IsDesk s → (x : ℕ) → total (has_caller x) s.views ≤ 1
+at_most_once s k x = let h = k.some_helm in omega (arith, k.once h.0 h.1 h.2 h.3 x, one_line x 1 (h.1.made + 1))
 
 -- ---- each_once: the seat with the turn, and the others
 
@@ -278,7 +291,7 @@ Allows-draw slots id m idle still some_part s k one at small =
         home = rest_home k.net k.journal s.homes s.views id v w at still refl k.home;
         once = once_stays s k id v w at same;
         others = others_stay s k id v w at same;
-        unmade = unmade_stays s k id v w at same;
+        some_helm = some_helm_stays s k id v w at same;
         one_helm = one_helm_stays s k id v w at same;
       },
       (k.next, ap (λ ws. slice_index ws 1) k.words, refl),
@@ -317,10 +330,10 @@ serves_at id m some_part waits still s k at false is = (
     each_once = λ x. ap (total (has_ticket x)) (set_again s.views id m.0 at) ∙ k.each_once x;
     fits = subst (λ vs. EachFits k.net k.serve k.journal vs) (sym (set_again s.views id m.0 at)) k.fits;
     home = subst (λ vs. BookIsHomeOrInTurn k.net k.journal s.homes vs) (sym (set_again s.views id m.0 at)) k.home;
-    once = subst (λ vs. (x : ℕ) → total (has_caller x) vs ≤ 1) (sym (set_again s.views id m.0 at)) k.once;
+    once = subst OneAccountEach (sym (set_again s.views id m.0 at)) k.once;
     others = subst (λ vs. (x : ℕ) → total (has_caller x) vs ≡ 0 → calls_by x k.journal ≡ [])
         (sym (set_again s.views id m.0 at)) k.others;
-    unmade = subst NoAccountAboveMade (sym (set_again s.views id m.0 at)) k.unmade;
+    some_helm = subst SomeHelm (sym (set_again s.views id m.0 at)) k.some_helm;
     one_helm = subst OneHelm (sym (set_again s.views id m.0 at)) k.one_helm;
   },
   refl,
@@ -378,7 +391,7 @@ serves_at id m some_part waits still s k at true is =
         );
         once = once_stays s k id v w at same;
         others = others_stay s k id v w at same;
-        unmade = unmade_stays s k id v w at same;
+        some_helm = some_helm_stays s k id v w at same;
         one_helm = one_helm_stays s k id v w at same;
       },
       (k.journal, f.seen, k.few, f.helm, f.accounts, refl, front_of-prefix v.seen k.journal f.seen k.rising),
@@ -462,7 +475,7 @@ Allows-call said a c slots id m is_said mine by turn free s k one at small =
     let here : has_caller c.caller v ≡ 1 = ap (accounts_of c.caller) mine ∙ accounts_of-one a c.caller (sym by) in
     let nobody : (i : ℕ) (u : View) → i ≢ id → get_elem? s.views i ≡ some u → accounts_of c.caller u.accounts ≡ 0 =
     λ i u n e.
-    omega (arith, k.once c.caller, two_below (has_caller c.caller) s.views id i v u n at e, here) in
+    omega (arith, at_most_once s k c.caller, two_below (has_caller c.caller) s.views id i v u n at e, here) in
     let as_before : (y : ℕ) → has_ticket y v ≡ has_ticket y w = λ y. refl in
     let was_waiting : ticket_count v ≡ 1 = one_waiting v t.0 in
     let longer : (length (calls_of k.journal) + 1) % 2 ^ 64 ≡ length (calls_of (j ++ NewCall c ∷ [])) =
@@ -514,7 +527,7 @@ Allows-call said a c slots id m is_said mine by turn free s k one at small =
               here,
             )) in
             calls_by-other x j c other ∙ (ap (calls_by x) is ∙ k.others x no');
-        unmade = unmade_stays s k id v w at same;
+        some_helm = some_helm_stays s k id v w at same;
         one_helm = one_helm_stays s k id v w at same;
       },
       (ap (λ ws. slice_index ws 3) k.words ∙ ap (λ l. length (calls_of l)) (sym is), refl),
@@ -571,7 +584,7 @@ Allows-raise_front g slots id m turn steers above s k one at small =
         once = once_stays s k id v w at same;
         others = λ x no. calls_by-NewFront x j g
             ∙ (ap (calls_by x) is ∙ k.others x (omega (arith, no, callers_stay s k id v w at same x)));
-        unmade = unmade_stays s k id v w at same;
+        some_helm = some_helm_stays s k id v w at same;
         one_helm = one_helm_stays s k id v w at same;
       },
       refl,
@@ -635,7 +648,7 @@ Allows-leave slots id v some_part turn s k one at small =
         );
         once = once_stays s k id v w at same;
         others = others_stay s k id v w at same;
-        unmade = unmade_stays s k id v w at same;
+        some_helm = some_helm_stays s k id v w at same;
         one_helm = one_helm_stays s k id v w at same;
       },
       refl,

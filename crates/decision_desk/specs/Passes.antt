@@ -19,7 +19,7 @@ use Rattle.decision_book.specs.Right.{IsRight}
 use Rattle.decision_desk.specs.declared.desk.TheConstants.{ALL_PARTS}
 use Rattle.decision_desk.specs.Accounts.{Account, AreAccounts, accounts_of, calls_by, OnlyCalls}
 use Rattle.decision_desk.specs.Leasts.{leasts_of}
-use Rattle.decision_desk.specs.Turns.{Slot, IsDeskTable, book_of, view_with_turn, pass_view}
+use Rattle.decision_desk.specs.Turns.{Slot, IsDeskTable, book_of, in_line, view_with_turn, pass_view}
 use Rattle.decision_desk.specs.Turns.{helm_view, new_account, with_call, full_account}
 use Rattle.decision_desk.specs.declared.view.View.{View}
 use Rattle.stations.specs.Runs.{next_front}
@@ -220,6 +220,8 @@ pub record IsFinalBook (helm : HelmView) (book : BookView) : Type 0 where
   pub only_calls : OnlyCalls helm.helm book.events
   -- each account has its caller's calls, and each front that it saw is one of the journal's
   pub accounts : AreAccounts book.events helm.accounts
+  -- each caller of a pass that was made has one account
+  pub once : (x : ℕ) → accounts_of x helm.accounts ≡ in_line x 1 (helm.made + 1)
   -- nobody else has calls
   pub others : (x : ℕ) → accounts_of x helm.accounts ≡ 0 → calls_by x book.events ≡ []
 

@@ -80,7 +80,7 @@ has_ticket x v = if v.waits then (if nat_eq v.ticket x then 1 else 0) else 0
 abbrev pub has_caller : ℕ → View → ℕ
 has_caller x v = accounts_of x v.accounts
 
--- 1 where the ticket is in line: at or after the first number, and before the second
+-- 1 where the number is in line: at or after the first, and before the second
 abbrev pub in_line : ℕ → ℕ → ℕ → ℕ
 in_line x from to = if nat_lt x from then 0 else (if nat_lt x to then 1 else 0)
 
@@ -109,10 +109,14 @@ abbrev pub BookIsHomeOrInTurn : Net → List Event → List (Option Slot) → Li
 BookIsHomeOrInTurn net journal homes views = ((homes ≡ some (book_of net journal) ∷ []) × NoTurn views)
     ⊎ ((homes ≡ none ∷ []) × ((id : ℕ) × (v : View) × (get_elem? views id ≡ some v) × (v.turn ≡ true)))
 
--- no caller above the number of passes made has an account
-abbrev pub NoAccountAboveMade : List View → Type 0
-NoAccountAboveMade views = (id : ℕ) (v : View) → get_elem? views id ≡ some v → v.steers ≡ true → (x : ℕ) → v.made < x
-    → total (has_caller x) views ≡ 0
+-- each caller from 1 to the number of passes made has one account, and no other caller has any
+abbrev pub OneAccountEach : List View → Type 0
+OneAccountEach views = (id : ℕ) (v : View) → get_elem? views id ≡ some v → v.steers ≡ true → (x : ℕ)
+    → total (has_caller x) views ≡ in_line x 1 (v.made + 1)
+
+-- some seat steers
+abbrev pub SomeHelm : List View → Type 0
+SomeHelm views = (id : ℕ) × (v : View) × (get_elem? views id ≡ some v) × (v.steers ≡ true)
 
 -- one seat at most steers
 abbrev pub OneHelm : List View → Type 0
@@ -133,9 +137,9 @@ pub record IsDesk (s : State Slot View) : Type 0 where
   pub each_once : (x : ℕ) → total (has_ticket x) s.views ≡ in_line x serve next
   pub fits : EachFits net serve journal s.views
   pub home : BookIsHomeOrInTurn net journal s.homes s.views
-  pub once : (x : ℕ) → total (has_caller x) s.views ≤ 1
+  pub once : OneAccountEach s.views
   pub others : (x : ℕ) → total (has_caller x) s.views ≡ 0 → calls_by x journal ≡ []
-  pub unmade : NoAccountAboveMade s.views
+  pub some_helm : SomeHelm s.views
   pub one_helm : OneHelm s.views
 
 -- ---- steps
