@@ -5,3 +5,4 @@ pub mod Legals
 pub mod Comings
 pub mod Leasts
 pub mod NewPasses
+pub mod Lates

@@ -4,3 +4,4 @@ pub mod Legal
 pub mod Leasts
 pub mod Passes
 pub mod Desks
+pub mod Laws

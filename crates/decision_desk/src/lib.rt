@@ -33,6 +33,7 @@
 pub mod desk;
 pub mod examples;
 pub mod helm;
+pub mod laws;
 pub mod legal;
 mod next_front;
 pub mod pass;
