@@ -12,6 +12,7 @@ mod OtherStations
 mod NewSends
 mod ServerTurns
 mod ServerRuns
-mod ServerLogs
 mod ServiceOrder
+mod VisitOrder
 mod OrderedRuns
+mod ServerLogs

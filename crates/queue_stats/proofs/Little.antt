@@ -21,7 +21,7 @@ use Rattle.queue_stats.proofs.Pushes.{last_in_system-push}
 -- ---- same_job
 
 -- a job is the same job as itself
-same_job-itself : (j : JobOf) → same_job j j ≡ true
+pub same_job-itself : (j : JobOf) → same_job j j ≡ true
 same_job-itself j =
     and_from (j.source == j.source && j.count == j.count) (j.born == j.born)
     (and_from (j.source == j.source) (j.count == j.count) (eq-eqb j.source j.source refl) (eq-eqb j.count j.count refl))

@@ -36,6 +36,16 @@ times-push p ms m =
     ∙ map-append (λ m. m.time) (filter (λ m. p m.event) ms) (cond (p m.event) (m ∷ []) [])
     ∙ ap (λ l. times p ms ++ l) (times-if (p m.event) m)
 
+-- the same for one moment more in front
+pub times-cons : (p : Event → Bool) (m : Moment) (ms : List Moment)
+    → times p (m ∷ ms) ≡ cond (p m.event) (m.time ∷ []) [] ++ times p ms
+times-cons p m ms = by (p m.event)
+  where
+    by : (b : Bool) → map (λ m. m.time) (cond b (m ∷ filter (λ m. p m.event) ms) (filter (λ m. p m.event) ms))
+        ≡ cond b (m.time ∷ []) [] ++ times p ms
+    by true = refl
+    by false = refl
+
 -- there is one time for each moment that counts
 pub times-length : (p : Event → Bool) (ms : List Moment) → length (times p ms) ≡ count p ms
 times-length p ms = length-map (filter (λ m. p m.event) ms) (λ m. m.time)

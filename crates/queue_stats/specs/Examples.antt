@@ -1,9 +1,11 @@
--- Networks of the worked examples that `stations` does not have.
-use Rattle.std.specs.Prelude.{ℕ, [], ◌∷◌, codes, Bool, true, false, Some}
+-- Networks of the worked examples that `stations` does not have, and texts.
+use Rattle.std.specs.Prelude.{ℕ, List, [], ◌∷◌, ◌++◌, codes, Bool, true, false, Some, None}
 use Rattle.sim_base.specs.Clones.{Clone}
 use Rattle.net_model.specs.declared.station.Kind.TheVariants.{Source, Server, Router, Sink}
 use Rattle.net_model.specs.declared.limits.TheConstants.{USUAL_LIMIT}
 use Rattle.net_model.specs.Net.{Net, link}
+use Rattle.stations.specs.Examples.OneDesk.{desk}
+use Rattle.queue_stats.specs.declared.text.StatRow.{StatRow}
 
 -- a clone that ends before it has handled anything
 abbrev pub gone : Clone
@@ -47,3 +49,31 @@ feedback = record {
       ∷ record { name = codes "again"; kind = Router true; stream = 3; links = link first_desk 2 ∷ link 4 2 ∷ [] }
       ∷ record { name = codes "out"; kind = Sink; stream = 4; links = [] } ∷ [];
 }
+
+-- the rows of one desk in two clones, the second with faster service
+abbrev pub two_rows : List StatRow
+two_rows =
+    record {
+      who = codes "base";
+      station = desk;
+      stats = record {
+        arrived = 2;
+        lost = 0;
+        done = 2;
+        most = 1;
+        present = 9;
+        waits = Some (record { waited = 1; longest = 1 });
+      };
+    }
+    ∷ record {
+      who = codes "fast";
+      station = desk;
+      stats = record { arrived = 2; lost = 0; done = 2; most = 1; present = 7; waits = None };
+    } ∷ []
+
+-- their text
+abbrev pub two_rows_text : List ℕ
+two_rows_text =
+    codes "stats\n"
+    ++ codes "base desk arrived=2 lost=0 done=2 most=1 present=9 waited=1 longest=1\n"
+    ++ codes "fast desk arrived=2 lost=0 done=2 most=1 present=7 waited=- longest=-\n"

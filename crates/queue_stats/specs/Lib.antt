@@ -5,6 +5,7 @@ pub mod Lindley
 pub mod Tallies
 pub mod Trails
 pub mod Stats
+pub mod StatsText
 pub mod Laws
 pub mod Orders
 pub mod Examples

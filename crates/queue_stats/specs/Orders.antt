@@ -1,12 +1,12 @@
--- The order of service: in which order jobs arrive and depart.
-use Rattle.std.specs.Prelude.{ℕ, ◌≡◌, ◌++◌, List, [], ◌∷◌, false}
+-- The order of service: in which order jobs arrive and depart, and when each visit ends.
+use Rattle.std.specs.Prelude.{ℕ, ◌≡◌, ◌<◌, ◌≤◌, ◌++◌, List, [], ◌∷◌, Some, false, slice_get}
 use Rattle.sim_base.specs.Clones.{Clone}
 use Rattle.sim_base.specs.declared.message.Job.{Job as JobOf}
 use Rattle.net_model.specs.declared.station.Kind.TheVariants as kind
 use Rattle.net_model.specs.Net.{Net, HasStation, site_of}
 use Rattle.stations.specs.Runs.{log_at}
 use Rattle.queue_stats.specs.Moments.{Event, visit, departure, Moment, moments, is_change}
-use Rattle.queue_stats.specs.Figures.{count}
+use Rattle.queue_stats.specs.Figures.{count, Visit, visits, visit_end, arrival_time, departure_time, departure_count}
 
 -- the job whose visit an event begins, if any
 abbrev pub visiting_job : Event → List JobOf
@@ -33,8 +33,24 @@ pub record DepartInOrder (ms : List Moment) : Type 0 where
   pub rest : List JobOf
   pub is : visiting_jobs ms ≡ departing_jobs ms ++ rest
 
+-- visits end in order of arrival: the n-th visit begins at the n-th arrival and ends at the n-th departure, which is its
+-- own job's. So the wait and the service time of the n-th visit in Lindley's equation are its own
+pub record VisitsEndInOrder (ms : List Moment) : Type 0 where
+  pub begins : (n : ℕ) (v : Visit) → slice_get (visits ms) n ≡ Some v → v.time ≡ arrival_time n ms
+  pub ends : (n : ℕ) (v : Visit) → slice_get (visits ms) n ≡ Some v → n < departure_count ms
+      → (h : ℕ) → visit_end h ms v ≡ departure_time n ms
+  -- without an n-th departure, the n-th visit has not ended before h
+  pub not_ended : (n : ℕ) (v : Visit) → slice_get (visits ms) n ≡ Some v → departure_count ms ≤ n
+      → (h : ℕ) → visit_end h ms v ≡ h
+
 -- jobs depart in order in every run, at a single server that serves by arrival, until a parameter changes
 abbrev pub RunsServeInOrder : Net → Type 0
 RunsServeInOrder net = (c : Clone) (s front room lo hi : ℕ) → HasStation net s
     → (site_of net s).kind ≡ kind.Server 1 room lo hi false → count is_change (moments (log_at net c s front)) ≡ 0
     → DepartInOrder (moments (log_at net c s front))
+
+-- visits end in order in every run, at such a server until a parameter changes
+abbrev pub RunsEndVisitsInOrder : Net → Type 0
+RunsEndVisitsInOrder net = (c : Clone) (s front room lo hi : ℕ) → HasStation net s
+    → (site_of net s).kind ≡ kind.Server 1 room lo hi false → count is_change (moments (log_at net c s front)) ≡ 0
+    → VisitsEndInOrder (moments (log_at net c s front))

@@ -2,7 +2,7 @@
 //!
 //! Each function's contract is a theorem; there is nothing to run. The log of each is one that `stations::examples` or
 //! `specs/Examples.antt` describes.
-ghost use Rattle.std.specs.Prelude.{◌≡◌, [], ◌∷◌, Some, None, true, false};
+ghost use Rattle.std.specs.Prelude.{◌≡◌, [], ◌∷◌, Some, None, codes, true, false};
 ghost use Rattle.sim_base.specs.Clones.{base};
 ghost use Rattle.stations.specs.Runs.{log_at};
 ghost use Rattle.stations.specs.Examples.OneDesk.{one_desk, fast, brief, desk};
@@ -10,7 +10,9 @@ ghost use Rattle.stations.specs.Examples.FullRoom.{three_sources, desk as full_d
 ghost use Rattle.queue_stats.specs.Moments.{moments};
 ghost use Rattle.queue_stats.specs.Figures.{time_in_system, waits};
 ghost use Rattle.queue_stats.specs.Stats.{server_stats};
-ghost use Rattle.queue_stats.specs.Examples.{gone, low_and_high, shared_desk, feedback, first_desk};
+ghost use Rattle.queue_stats.specs.StatsText.{stats_text};
+ghost use Rattle.queue_stats.specs.Examples.{gone, low_and_high, shared_desk, feedback, first_desk, two_rows};
+ghost use Rattle.queue_stats.specs.Examples.{two_rows_text};
 
 /// One server; the second job waits from 8 to 9.
 pub fn one_job_at_a_time()
@@ -117,4 +119,10 @@ pub fn jobs_that_return()
       waits = Some (record { waited = 7; longest = 4 });
     } }
     ensures little { time_in_system 30 (moments (log_at feedback base first_desk 30)) ≡ 28 }
+{}
+
+/// The text of the first two examples, and the text of no rows.
+pub fn texts()
+    ensures two_rows { stats_text one_desk two_rows ≡ two_rows_text }
+    ensures no_rows { stats_text one_desk [] ≡ codes "stats\n" }
 {}

@@ -4,7 +4,7 @@
 ghost use Rattle.net_model.specs.Net.{Net};
 ghost use Rattle.net_model.specs.Rules.{IsNet};
 ghost use Rattle.queue_stats.specs.Laws.{LogsAreQueues, RunsKeepLindley, RunsKeepLittle};
-ghost use Rattle.queue_stats.specs.Orders.{RunsServeInOrder};
+ghost use Rattle.queue_stats.specs.Orders.{RunsEndVisitsInOrder, RunsServeInOrder};
 
 /// The log of a server in any run is the history of a queue: each visitor has departed or is in the system.
 pub fn logs_are_queues()
@@ -12,9 +12,11 @@ pub fn logs_are_queues()
 {}
 
 /// Every run keeps Little's law in its finite form. Until a parameter changes, a station of one server also keeps
-/// Lindley's equation, and if it serves by arrival, jobs depart in order of arrival.
+/// Lindley's equation. If it serves by arrival, jobs depart in order of arrival, and the n-th visit ends at the n-th
+/// departure, so the service times in Lindley's equation are the visits' own.
 pub fn runs_keep_the_laws_of_queues()
     ensures little { (net : Net) → IsNet net → RunsKeepLittle net }
     ensures lindley { (net : Net) → IsNet net → RunsKeepLindley net }
     ensures order { (net : Net) → IsNet net → RunsServeInOrder net }
+    ensures visits { (net : Net) → IsNet net → RunsEndVisitsInOrder net }
 {}

@@ -7,6 +7,7 @@ ghost use Rattle.queue_stats.specs.Moments.{moments};
 ghost use Rattle.queue_stats.specs.Figures.{time_in_system};
 ghost use Rattle.queue_stats.specs.Queues.{IsServerQueue};
 ghost use Rattle.queue_stats.specs.Lindley.{IsLindley};
+ghost use Rattle.queue_stats.specs.Orders.{VisitsEndInOrder};
 ghost use Rattle.queue_stats.specs.Tallies.{IsWithinLimits};
 ghost use Rattle.queue_stats.specs.Trails.{waits_along_log};
 ghost use Rattle.queue_stats.specs.Stats.{stats, server_stats};
@@ -87,7 +88,8 @@ fn stats_until(single: bool, log: &Log, until: u64) -> Stats
 
 /// The statistics of a server from its log in a clone, until a front or the clone's end, whichever is earlier.
 ///
-/// Their `present` keeps Little's law, and waits that are reported keep Lindley's equation.
+/// Their `present` keeps Little's law. Waits that are reported keep Lindley's equation, in which the n-th arrival and
+/// the n-th departure are then those of one visit.
 pub fn stats_of(model: &Model, station: u32, log: &Log, until: u64) -> Stats
     requires is_station { HasStation model.now station }
     requires server { is_server (site_of model.now station).kind ≡ true }
@@ -96,6 +98,7 @@ pub fn stats_of(model: &Model, station: u32, log: &Log, until: u64) -> Stats
     ensures value { result ≡ server_stats model.now station until log.now }
     ensures little { result.present ≡ time_in_system until (moments log.now) }
     ensures lindley { IsSome result.waits → IsLindley (moments log.now) }
+    ensures order { IsSome result.waits → VisitsEndInOrder (moments log.now) }
 {
     stats_until(
         is_single_by_arrival(&model.station(station).kind),

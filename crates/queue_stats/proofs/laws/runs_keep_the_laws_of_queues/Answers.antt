@@ -7,6 +7,7 @@ use Rattle.queue_stats.proofs.Little.{little}
 use Rattle.queue_stats.proofs.Lindley.{lindley}
 use Rattle.queue_stats.proofs.ServerRuns.{logs-are_queues}
 use Rattle.queue_stats.proofs.OrderedRuns.{runs-serve_in_order}
+use Rattle.queue_stats.proofs.VisitOrder.{visits-end_in_order}
 use Rattle.queue_stats.proofs.laws.runs_keep_the_laws_of_queues.Goals as goal
 
 pub returns : goal.returns
@@ -20,4 +21,7 @@ returns c = record {
   lindley = λ net valid clone s front room lo hi by_class there is unchanged.
       let q = logs-are_queues net valid clone s front 1 room lo hi by_class there is in lindley q.queue unchanged;
   order = λ net valid. runs-serve_in_order net valid;
+  visits = λ net valid clone s front room lo hi there is unchanged.
+      visits-end_in_order (moments (log_at net clone s front))
+      (runs-serve_in_order net valid clone s front room lo hi there is unchanged);
 }

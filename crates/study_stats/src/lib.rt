@@ -1,0 +1,27 @@
+//! The statistics of a study: the queue statistics of every clone and server, from a world at the horizon.
+//!
+//! A world at the horizon has the log of each clone at each station. Each log of a server becomes one row. Rows come
+//! clone by clone in order of making, and within a clone in file order. A clone that ends before the horizon has the
+//! statistics until its end.
+//!
+//! ```text
+//! world at the horizon                        stats
+//!   base:  gate  desk  out       row          base desk arrived=2 lost=0 done=2 most=1 present=9 waited=1 longest=1
+//!   fast:  gate  desk  out       row          fast desk arrived=2 lost=0 done=2 most=1 present=7 waited=- longest=-
+//! ```
+//!
+//! ```text
+//! let text = make_statistics(alloc, &model, &world)?;
+//! ```
+//!
+//! A row costs one walk along its log, or three if waits are reported, and takes no memory but its place in the list.
+//! The rows and their text take memory; out of memory is the only error.
+//!
+//! The promise that it carries: **the text is the definition's**. It is the text of `specs/Rows.antt`: each figure is
+//! that of the log which the clone has if it runs alone, so it keeps the laws of queues that `queue_stats` proves.
+#![tactic(auto)]
+
+pub mod examples;
+pub mod rows;
+
+pub use rows::make_statistics;
