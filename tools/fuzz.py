@@ -5,8 +5,8 @@
 
 Of each case: `run` against `solo` of each clone; 1 against 4 and 16 workers, where the program knows
 `--workers`; the report against counts out of the traces; `live` against its journal under `run`, what its
-analysts asked, and its looks against the traces; the traces' order; the form of error lines,
-and no output beside one; the refusal of the model, the script or a decision, or the clones, against
+analysts asked, and its looks against the traces; `stats`, where the program knows it, against figures
+out of the traces; the traces' order; the form of error lines, and no output beside one; the refusal of the model, the script or a decision, or the clones, against
 the formats written once more. With --plain also the traces of the plain simulator of bench/. A case
 that fails is kept in a folder, with its model, its script and what was found. Status 1 where one failed.
 """
@@ -24,7 +24,8 @@ from pathlib import Path
 from fuzz_cases import made_case
 from fuzz_live import Difference, check_live
 from fuzz_model import expected_model
-from fuzz_script import expected
+from fuzz_script import decided, expected
+from fuzz_stats import expected_stats
 
 TOP = Path(__file__).resolve().parent.parent
 BUILT = TOP / "crates" / "cloner_cli" / "out" / "cloner_cli"
@@ -63,7 +64,7 @@ class Runner:
         self.program, self.plain = str(program.resolve()), plain and str(plain.resolve())
         self.model, self.script, self.plainest = (str(folder / name) for name in ("model", "script", "plainest"))
         self.out, self.err, self.runs = str(folder / "out"), str(folder / "err"), 0
-        self.workers = []
+        self.workers, self.knows_stats = [], False
         signal.signal(signal.SIGALRM, rung)
 
     def started(self, words):
@@ -96,16 +97,21 @@ class Runner:
         """`cloner live` of the present case."""
         return self.started([self.program, "live", self.model, self.script, *more])
 
+    def stats(self, *more):
+        """`cloner stats` of the present case."""
+        return self.started([self.program, "stats", self.model, self.script, *more])
+
     def run_script(self, script):
         """`cloner run` of the present model with another script."""
         write(self.plainest, script)
         return self.started([self.program, "run", self.model, self.plainest])
 
-    def find_workers(self):
-        """Notes which numbers of workers the program knows."""
+    def find_abilities(self):
+        """Notes which numbers of workers the program knows, and if it knows `stats`."""
         write(self.model, (TOP / "examples" / "small.toml").read_bytes())
         write(self.script, (TOP / "examples" / "small.txt").read_bytes())
         self.workers = [number for number in ("4", "16") if self.run("--workers", number).status == 0]
+        self.knows_stats = self.stats().status == 0
 
 
 def write(path, data):
@@ -246,6 +252,21 @@ def check_lives(runner, case, ended):
             raise Difference(f"`live` {' '.join(more)}: {why}") from None
 
 
+def check_stats(runner, case, ended):
+    """`stats` of the present case: refused as `run` is, or the figures of the traces; unsure models are left out."""
+    if not ended.status:
+        model = expected_model(case.model)[1]
+        if not model:
+            return
+        ends = decided(case.script, model)[1].ends
+        ended = Ended(0, expected_stats(split(ended.out)[0], model, ends, log_entries), b"")
+    for more in [[]] + [["--workers", number] for number in runner.workers[:1]]:
+        stats = runner.stats(*more)
+        if stats != ended:
+            raise Difference(f"`stats` {' '.join(more)}: status {stats.status} {stats.err[:200]!r}, "
+                             f"{stats.out[:400]!r} in place of {ended.out[:400]!r}")
+
+
 def check_case(runner, case):
     """All comparisons of the present case; gives the status of its run."""
     ended = runner.run()
@@ -256,6 +277,8 @@ def check_case(runner, case):
         if other != ended:
             raise Difference(f"{number} workers: status {other.status} {other.err[:200]!r}; not as 1 worker")
     check_lives(runner, case, ended)
+    if runner.knows_stats:
+        check_stats(runner, case, ended)
     if ended.status:
         check_refused(runner, ended)
         return ended.status
@@ -299,15 +322,16 @@ def main():
     folder = Path(tempfile.mkdtemp(dir=memory if memory.is_dir() else None))
     try:
         runner = Runner(chosen.bin, chosen.plain, folder)
-        runner.find_workers()
+        runner.find_abilities()
         statuses, failures = fuzz(chosen, runner)
     finally:
         shutil.rmtree(folder)
     cases = sum(statuses.values()) + failures
     counts = ", ".join(f"status {status}: {count}" for status, count in sorted(statuses.items()))
     workers = "1, " + ", ".join(runner.workers) if runner.workers else "no --workers"
+    stats = "with" if runner.knows_stats else "without"
     print(f"{cases} cases, {runner.runs} runs in {time.perf_counter() - begin:.0f} s; {counts}; "
-          f"workers: {workers}; {failures} differences")
+          f"workers: {workers}; {stats} stats; {failures} differences")
     sys.exit(bool(failures))
 
 

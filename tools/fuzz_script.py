@@ -72,11 +72,11 @@ def in_range(station, parameter, values):
 
 
 class Book:
-    """The clones: how many sets each has, and which have an end."""
+    """The clones: how many sets each has, and the ends of those that have one."""
 
     def __init__(self, model):
         self.stations = {station.name: station for station in model.stations}
-        self.horizon, self.sets, self.ended = model.top["horizon"], {"base": 0}, set()
+        self.horizon, self.sets, self.ends = model.top["horizon"], {"base": 0}, {}
 
     def fork(self, new, old):
         """Makes a clone."""
@@ -106,7 +106,7 @@ class Book:
         clone = words[3] if words[0] == "fork" else words[1]
         if clone not in self.sets:
             raise Refused(3)
-        if clone in self.ended:
+        if clone in self.ends:
             raise Refused(12)
         if words[0] == "fork":
             self.fork(words[1], clone)
@@ -115,11 +115,11 @@ class Book:
         else:
             if int(words[3]) >= self.horizon:
                 raise Refused(10)
-            self.ended.add(clone)
+            self.ends[clone] = int(words[3])
 
 
-def expected(data, model):
-    """The error line that a script must get on this model, or the names of its clones."""
+def decided(data, model):
+    """The error line that a script must get on this model, or the clones with their ends."""
     if len(data) > 1048576:
         return "cloner: script: refusal 1 at line 0\n", None
     script = Script()
@@ -134,4 +134,10 @@ def expected(data, model):
             book.decide(words)
         except Refused as why:
             return f"cloner: decision: refusal {why} at line {number}\n", None
-    return None, list(book.sets)
+    return None, book
+
+
+def expected(data, model):
+    """The error line that a script must get on this model, or the names of its clones."""
+    line, book = decided(data, model)
+    return line, book and list(book.sets)
