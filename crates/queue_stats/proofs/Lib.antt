@@ -16,3 +16,4 @@ mod ServiceOrder
 mod VisitOrder
 mod OrderedRuns
 mod ServerLogs
+mod CommonLogs

@@ -100,7 +100,7 @@ module _ (single : Bool) (h : ℕ) (log : List (Entry Msg Line)) (q : IsServerQu
       q.early) (omega (arith, long, short)))
 
   -- no moment is after h
-  all-until_end : AllByRecursion (λ x. x.time ≤ h) (moments log)
+  pub all-until_end : AllByRecursion (λ x. x.time ≤ h) (moments log)
   all-until_end =
       all_weaker (λ x. x.time < h) (λ x. x.time ≤ h) (moments log) (λ x l. omega (arith, l)) q.early
 

@@ -1,4 +1,4 @@
--- The log of a server in a run meets the conditions of its statistics, and its visits end in order if waits are reported.
+-- The log of a server in a run meets the conditions of its statistics. Its visits end in order if waits are reported.
 use Rattle.std.proofs.Common.{◌≡◌, ℕ, ◌<◌, ◌≤◌, ◌==◌, ◌&&◌, ◌∙◌, not, List, Bool, true, false, Some, None, IsSome, refl}
 use Rattle.std.proofs.Common.{sym, ap, subst, arith, eqb-true, if◌then◌else◌}
 use Rattle.std.specs.List.{AllByRecursion}

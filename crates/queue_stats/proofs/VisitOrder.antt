@@ -121,7 +121,8 @@ nth_departure j (m ∷ ms) n h is =
     ∙ ap (λ l. get_or l n h) (sym (times-cons is_departure m ms))
 
 -- a job departs once for each time that it is among the departing jobs
-departures-occurrences : (j : JobOf) (ms : List Moment) → count (is_departure_of j) ms ≡ occurrences j (departing_jobs ms)
+departures-occurrences : (j : JobOf) (ms : List Moment)
+    → count (is_departure_of j) ms ≡ occurrences j (departing_jobs ms)
 departures-occurrences j [] = refl
 departures-occurrences j (m ∷ ms) = count-cons (is_departure_of j) m ms
     ∙ ap (λ k. one_if (is_departure_of j m.event) + k) (departures-occurrences j ms) ∙ sym (by m.event)

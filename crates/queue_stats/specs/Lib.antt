@@ -7,5 +7,6 @@ pub mod Trails
 pub mod Stats
 pub mod StatsText
 pub mod Laws
+pub mod CommonLogs
 pub mod Orders
 pub mod Examples

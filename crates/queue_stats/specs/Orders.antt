@@ -33,8 +33,8 @@ pub record DepartInOrder (ms : List Moment) : Type 0 where
   pub rest : List JobOf
   pub is : visiting_jobs ms ≡ departing_jobs ms ++ rest
 
--- visits end in order of arrival: the n-th visit begins at the n-th arrival and ends at the n-th departure, which is its
--- own job's. So the wait and the service time of the n-th visit in Lindley's equation are its own
+-- visits end in order of arrival: the n-th visit begins at the n-th arrival and ends at the n-th departure, which is
+-- its own job's. So the wait and the service time of the n-th visit in Lindley's equation are its own
 pub record VisitsEndInOrder (ms : List Moment) : Type 0 where
   pub begins : (n : ℕ) (v : Visit) → slice_get (visits ms) n ≡ Some v → v.time ≡ arrival_time n ms
   pub ends : (n : ℕ) (v : Visit) → slice_get (visits ms) n ≡ Some v → n < departure_count ms

@@ -17,11 +17,13 @@
 //! let stats = stats_of(&model, station, &log, until);
 //! let row = StatRow { who, station, stats };
 //! let text = stats_text(alloc, &model, &[row])?;   // base desk arrived=2 lost=0 done=2 most=1 present=9 ..
+//! let other = stats.with_end(until, earlier);      // of a clone that has the same log and ends earlier
 //! ```
 //!
 //! One walk along the log adds up all figures but the waits. The waits take two more walks at once, the second of which
 //! goes from arrival to arrival, so the jobs that wait need no list. An entry costs a few additions, and nothing is
-//! allocated. A text is one list of bytes that grows; out of memory is its only error.
+//! allocated. Clones with the same log share the walks: `with_end` moves the statistics to another end without one. A
+//! text is one list of bytes that grows; out of memory is its only error.
 //!
 //! The promise that it carries: **the statistics are right**. Each is a figure that `specs/Figures.antt` defines, and
 //! every run keeps the laws of queues:
@@ -30,11 +32,11 @@
 //! |---|---|---|
 //! | Little's law, finite form | the area under the number in the system is the sum of all times in the system | all |
 //! | Lindley's equation | each wait follows from the wait before it | one, until a parameter changes |
-//! | order of service | jobs depart in order of arrival, so the n-th visit ends at the n-th departure | the same, by arrival |
+//! | order of service | jobs depart in order of arrival: the n-th visit ends at the n-th departure | the same, by arrival |
 //!
 //! In Lindley's equation the n-th visit has the n-th arrival, the n-th service start and the n-th departure. At a
-//! server by arrival these are the visit's own. At a server by class they may be of different jobs: the equation is then
-//! about visits by count, not one job's wait. Statistics report waits only at a server by arrival.
+//! server by arrival these are the visit's own. At a server by class they may be of different jobs: the equation is
+//! then about visits by count, not one job's wait. Statistics report waits only at a server by arrival.
 //!
 //! All three laws rest on one, `laws::logs_are_queues`: the log of every server in every run is the history of a queue.
 #![tactic(auto)]

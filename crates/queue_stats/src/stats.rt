@@ -1,5 +1,6 @@
 //! The statistics of a server in the run of a clone.
-ghost use Rattle.std.specs.Prelude.{◌≡◌, ◌≤◌, length, IsSome, Some, None, true, if◌then◌else◌, ◌&&◌, ◌==◌};
+ghost use Rattle.std.specs.Prelude.{◌≡◌, ◌≤◌, ◌<◌, ◌+◌, ◌-◌, ◌*◌, length, IsSome, Some, None, true, if◌then◌else◌};
+ghost use Rattle.std.specs.Prelude.{◌&&◌, ◌==◌};
 ghost use Rattle.sim_base.specs.declared.limits.TheConstants.{MOST_HANDLED};
 ghost use Rattle.net_model.specs.declared.limits.TheConstants.{MOST_HORIZON};
 ghost use Rattle.net_model.specs.Net.{HasStation, site_of};
@@ -11,6 +12,7 @@ ghost use Rattle.queue_stats.specs.Orders.{VisitsEndInOrder};
 ghost use Rattle.queue_stats.specs.Tallies.{IsWithinLimits};
 ghost use Rattle.queue_stats.specs.Trails.{waits_along_log};
 ghost use Rattle.queue_stats.specs.Stats.{stats, server_stats};
+ghost use Rattle.queue_stats.specs.CommonLogs.{HaveCommonLog};
 ghost use Rattle.queue_stats.specs.Laws.{IsLogOf, is_server, is_single_by_arrival as is_single_by_arrival_of};
 
 use crate::tally::{Tally, tally_of};
@@ -33,6 +35,39 @@ pub struct Stats {
     pub present: u64,
     /// The waits. None unless one server serves by arrival, no parameter changed, and no job was lost.
     pub waits: Option<Waits>,
+}
+
+// The sum over another time, of a number in the system that stays the same from the earlier of the two times on.
+fn present_until(present: u64, in_system: u64, from: u64, until: u64) -> u64
+    requires later_max { from ≤ until → present + (until - from) * in_system ≤ MOST_HANDLED * MOST_HORIZON }
+    requires earlier_max { until < from → (from - until) * in_system ≤ present }
+    ensures later { from ≤ until → result ≡ present + (until - from) * in_system }
+    ensures earlier { until < from → result + (from - until) * in_system ≡ present }
+{
+    if from <= until {
+        present + (until - from) * in_system
+    } else {
+        present - (from - until) * in_system
+    }
+}
+
+impl Stats {
+    /// The statistics of the same log until the time `until`, from these, which are until `from`. Only `present`
+    /// differs, since neither time is before an entry. It takes no walk.
+    pub fn with_end(self, from: u64, until: u64) -> Stats
+        requires common { HaveCommonLog self from until }
+        ensures value { (c : HaveCommonLog self from until) → result ≡ server_stats c.net c.station until c.log }
+    {
+        let in_system = self.arrived - self.lost - self.done;
+        Stats {
+            arrived: self.arrived,
+            lost: self.lost,
+            done: self.done,
+            most: self.most,
+            present: present_until(self.present, in_system, from, until),
+            waits: self.waits,
+        }
+    }
 }
 
 // Whether a station is a single server that serves by arrival.
