@@ -1,12 +1,13 @@
 -- The statistics of a study: a row for each clone and server, and their text.
-use Rattle.std.specs.Prelude.{ℕ, zero, suc, ◌≡◌, ◌++◌, List, [], ◌∷◌, length, min, if◌then◌else◌}
+use Rattle.std.specs.Prelude.{ℕ, zero, suc, ◌≡◌, ◌+◌, ◌++◌, List, [], ◌∷◌, length, take, min, if◌then◌else◌}
 use Rattle.std.specs.List.{flat_map}
-use Rattle.sim_base.specs.Clones.{Clone}
+use Rattle.sim_base.specs.Clones.{Clone, clone_at}
 use Rattle.run_laws.specs.Runs.{end_of}
 use Rattle.net_model.specs.Net.{Net, site_of}
 use Rattle.stations.specs.Runs.{simulation, log_at}
 use Rattle.world_core.specs.Worlds.{WorldView}
 use Rattle.queue_stats.specs.Laws.{is_server}
+use Rattle.queue_stats.specs.Figures.{one_if}
 use Rattle.queue_stats.specs.Stats.{server_stats}
 use Rattle.queue_stats.specs.StatsText.{stats_text}
 use Rattle.queue_stats.specs.declared.text.StatRow.{StatRow}
@@ -36,6 +37,15 @@ clone_rows net c = first_rows net c (length net.sites)
 -- the rows of some clones, clone by clone
 abbrev pub rows : Net → List Clone → List StatRow
 rows net cs = flat_map (clone_rows net) cs
+
+-- the number of servers among the first n stations
+abbrev pub server_count : Net → ℕ → ℕ
+server_count net zero = 0
+server_count net (suc n) = server_count net n + one_if (is_server (site_of net (suc n)).kind)
+
+-- the rows of all clones before clone c, and those of its first s stations
+abbrev pub rows_before : Net → List Clone → ℕ → ℕ → List StatRow
+rows_before net cs c s = rows net (take c cs) ++ first_rows net (clone_at cs c) s
 
 -- the text of the statistics of some clones
 abbrev pub statistics : Net → List Clone → List ℕ

@@ -14,8 +14,9 @@
 //! let text = make_statistics(alloc, &model, &world)?;
 //! ```
 //!
-//! A row costs one walk along its log, or three if waits are reported, and takes no memory but its place in the list.
-//! The rows and their text take memory; out of memory is the only error.
+//! The first clone with a log costs one walk along it, or three if waits are reported. Each later clone with the same
+//! log takes the figures from the first one's row, and moves them to its own end in a few steps. The rows and their
+//! text take memory; out of memory is the only error.
 //!
 //! The promise that it carries: **the text is the definition's**. It is the text of `specs/Rows.antt`: each figure is
 //! that of the log which the clone has if it runs alone, so it keeps the laws of queues that `queue_stats` proves.

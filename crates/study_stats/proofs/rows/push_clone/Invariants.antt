@@ -1,10 +1,9 @@
-use Rattle.std.proofs.Common.{◌≡◌, ◌++◌, ◌≤◌, length}
-use Rattle.sim_base.specs.Clones.{clone_at}
-use Rattle.study_stats.specs.Rows.{first_rows}
+use Rattle.std.proofs.Common.{◌≡◌, ◌≤◌, length}
+use Rattle.study_stats.specs.Rows.{rows_before}
 use Rattle.study_stats.proofs.rows.push_clone.Given as goal
 
 abbrev pub invariant-loop-s : goal.invariant-loop-s
 invariant-loop-s l = record {
-  rows : l.out.items ≡ l.fn.out.items ++ first_rows l.model (clone_at l.world.clones l.clone) l.s;
+  so_far : l.out.items ≡ rows_before l.model l.world.clones l.clone l.s;
   within : l.s ≤ length l.model.sites;
 }
