@@ -1,8 +1,8 @@
 -- Rows, clone by clone, and where an earlier clone's row of a server is.
 use Rattle.std.proofs.Common.{◌≡◌, ℕ, zero, suc, ◌+◌, ◌-◌, ◌*◌, ◌<◌, ◌≤◌, List, [], ◌∷◌, ◌++◌, Bool, true, false}
 use Rattle.std.proofs.Common.{if◌then◌else◌, length, take, refl, sym, ap, ◌∙◌, subst, arith, append_assoc, append-nil}
-use Rattle.std.proofs.Common.{length-append, Option, Some, ◌⊎◌, inl, inr}
-use Rattle.std.specs.List.{All, flat_map, slice_get}
+use Rattle.std.proofs.Common.{length-append, Some, ◌⊎◌, inl, inr}
+use Rattle.std.specs.List.{All, slice_get}
 use Rattle.std.proofs.Math.Nat.{add-mul, suc-mul}
 use Rattle.std.proofs.Math.Seq.{take-length}
 use Rattle.std.proofs.lemmas.Bool.{cases_lt}
@@ -156,6 +156,7 @@ first_rows-has net c (suc n) s low server = by (cases_lt s n) (λ lt. first_rows
       is = ap (λ b. first_rows net c n ++ (if b then row net c (suc n) ∷ [] else [])) is;
       place = first_rows-length net c n;
     }
+
     by : (s < n) ⊎ (n ≤ s) → (s < n → HasRow (first_rows net c n) (server_count net s) (row net c (suc s)))
         → HasRow (first_rows net c (suc n)) (server_count net s) (row net c (suc s))
     by (inl lt) earlier = has_row-end (first_rows net c n) (station_rows net c (suc n)) (server_count net s)

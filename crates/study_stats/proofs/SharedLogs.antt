@@ -1,5 +1,5 @@
 -- The statistics of a clone, from those of another clone with the same log.
-use Rattle.std.proofs.Common.{◌≡◌, ℕ, ◌≤◌, List, Bool, true, length, min, refl, sym, ap, ◌∙◌, arith}
+use Rattle.std.proofs.Common.{◌≡◌, ℕ, ◌≤◌, true, length, min, refl, sym, ap, ◌∙◌, arith}
 use Rattle.sim_base.specs.Clones.{Clone}
 use Rattle.net_model.specs.Net.{Net, HasStation, site_of}
 use Rattle.net_model.specs.Rules.{IsNet}
