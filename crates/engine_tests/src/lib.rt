@@ -7,6 +7,7 @@
 //! crews     crew_pool         desks           decision_desk
 //! copies    phys_proc         shelves         shelf
 //! worlds    world_core        live_studies    live_study
+//! statistics    study_stats, and of queue_stats what it calls
 //! ```
 //!
 //! They show what is not proved: that calls find memory, and that clauses mean what they should, by values from
@@ -23,5 +24,7 @@ mod desks;
 mod live_studies;
 #[cfg(test)]
 mod shelves;
+#[cfg(test)]
+mod statistics;
 #[cfg(test)]
 mod worlds;

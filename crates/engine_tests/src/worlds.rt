@@ -104,14 +104,15 @@ fn take_decision(alloc: Global, book: &mut Book, world: World, decision: &Decisi
     Some(world)
 }
 
-fn fork(new: &str) -> Option<Decision> {
+/// A fork of the base clone.
+pub(crate) fn fork(new: &str) -> Option<Decision> {
     let new = Name::read(new.as_bytes())?;
     let old = Name::read(b"base")?;
     Some(Decision::Fork { new, old })
 }
 
 /// From a time on the desk of `fast` serves for 2.
-fn faster(at: u64) -> Option<Decision> {
+pub(crate) fn faster(at: u64) -> Option<Decision> {
     let who = Name::read(b"fast")?;
     let station = Name::read(b"desk")?;
     let change = Change {
@@ -409,7 +410,7 @@ fn run_all(alloc: Global, world: World, length: u64) -> Option<World> {
 }
 
 /// The world of a model's text with these decisions, at its end.
-fn run_of(alloc: Global, text: &str, decisions: &[Decision]) -> Option<World> {
+pub(crate) fn run_of(alloc: Global, text: &str, decisions: &[Decision]) -> Option<World> {
     let world = begin_with(alloc, text, decisions)?;
     run_all(alloc, world, 20)
 }
