@@ -26,7 +26,7 @@
 //! ```
 //!
 //! Cost: a window looks at one time of each station, and steps the copies of those with something due. After a window of
-//! [`LARGE_WINDOW`] messages the next one goes to the crew, which takes two lists with a place for each station. Other
+//! [`LARGE_WINDOW`] messages the next one goes to the crew, which takes four lists with a place for each station. Other
 //! windows run in the caller's thread. A message costs one step of its copy, whatever the number of its clones.
 //!
 //! The promise: **at every front the copies of each station represent the clones**. Each clone is in one copy, whose
