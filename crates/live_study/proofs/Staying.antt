@@ -35,7 +35,7 @@ use Rattle.live_study.specs.Laws.{KeepLogs, LogsStay}
 -- ---- KeepLogs
 module _ (net : Net) (front : ℕ) where
   -- clones keep their own names and logs
-  keep_logs-refl : (clones : List Clone) → KeepLogs net front clones clones
+  pub keep_logs-refl : (clones : List Clone) → KeepLogs net front clones clones
   keep_logs-refl clones = record {
     many = omega arith;
     names = λ c l. refl;
@@ -44,7 +44,7 @@ module _ (net : Net) (front : ℕ) where
   }
 
   -- clones that keep the logs of clones which keep those of others keep the logs of these others
-  keep_logs-trans : (a b c : List Clone) → KeepLogs net front a b → KeepLogs net front b c
+  pub keep_logs-trans : (a b c : List Clone) → KeepLogs net front a b → KeepLogs net front b c
       → KeepLogs net front a c
   keep_logs-trans a b c p q = record {
     many = omega (arith, p.many, q.many);
@@ -104,7 +104,7 @@ module _ (net : Net) (front : ℕ) where
 -- ---- accepted decisions
 module _ (net : Net) (valid : IsNet net) (front : ℕ) where
   -- an accepted decision keeps the logs at each front up to the one that stands
-  keep_logs-decided : (clones : List Clone) (now : ℕ) (d : Decision) → front ≤ now → IsAccepted net clones now d
+  pub keep_logs-decided : (clones : List Clone) (now : ℕ) (d : Decision) → front ≤ now → IsAccepted net clones now d
       → KeepLogs net front clones (clones_after net clones d)
   keep_logs-decided clones now (Fork new old) late accepted =
       let o = IsOpen-accepted (situation net clones now) (Fork new old) accepted in

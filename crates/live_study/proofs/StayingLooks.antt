@@ -4,16 +4,17 @@ use Rattle.std.proofs.Common.{Option, Some, None, position, refl, sym, ap, ap₂
 use Rattle.std.proofs.lemmas.List.{length-take-le}
 use Rattle.std.specs.Str.{bytes_eq}
 use Rattle.sim_base.specs.Clones.{Clone, clone_at, place_of}
+use Rattle.sim_base.specs.declared.decision.Decision.{Decision}
 use Rattle.sim_base.proofs.ListLaws.{position-map}
 use Rattle.net_model.specs.Net.{Net}
 use Rattle.net_model.specs.Rules.{IsNet}
 use Rattle.stations.specs.Runs.{log_at}
 use Rattle.phys_proc.specs.Racks.{FindsClone, IsSeen}
 use Rattle.phys_proc.specs.declared.rack.Found.{Found}
-use Rattle.decision_book.specs.Journal.{after}
-use Rattle.live_study.specs.Laws.{KeepLogs, LooksStayTrue}
+use Rattle.decision_book.specs.Journal.{after, clones_after}
+use Rattle.live_study.specs.Laws.{ComeOf, GlancesStayTrue, KeepLogs, LooksStayTrue}
 use Rattle.decision_book.proofs.ClonesByName.{place_of-bounds}
-use Rattle.live_study.proofs.Staying.{logs_stay}
+use Rattle.live_study.proofs.Staying.{keep_logs-decided, keep_logs-refl, keep_logs-trans, logs_stay}
 
 -- ---- the first of some clones
 -- a clone at a place below n is the one there among the first n
@@ -98,4 +99,24 @@ looks_stay_true net valid events s who g right t =
       few = omega (arith, keep.many, many);
       found = subst (λ (n : ℕ). FindsClone net (take n final) s g.front who g.found) many
           (first_found net g.front t.clones final keep s who g.found t.found);
+    }
+
+-- ---- ComeOf
+-- clones that come of others from a front on keep the logs of these at the front
+come_of-keep : (net : Net) → IsNet net → (front : ℕ) (ds : List Decision) (old new : List Clone)
+    → ComeOf net front old ds new → KeepLogs net front old new
+come_of-keep net valid front [] old new come = subst (KeepLogs net front old) (sym come) (keep_logs-refl net front old)
+come_of-keep net valid front (d ∷ ds) old new come =
+    let next = clones_after net old d in
+    keep_logs-trans net front old next new (keep_logs-decided net valid front old come.0 d come.1 come.2)
+    (come_of-keep net valid front ds next new come.3)
+
+-- over a valid network, what a glance tells is true of the clones that come of those of its rack
+pub glances_stay_true : (net : Net) → IsNet net → GlancesStayTrue net
+glances_stay_true net valid old new ds s who g come many found =
+    let keep = come_of-keep net valid g.front ds old new come in
+    record {
+      few = omega (arith, keep.many, many);
+      found = subst (λ (n : ℕ). FindsClone net (take n new) s g.front who g.found) (sym many)
+          (first_found net g.front old new keep s who g.found found);
     }

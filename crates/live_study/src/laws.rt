@@ -1,11 +1,13 @@
 //! The law that later decisions change no past, so looks stay true: the contract is the law, there is nothing to run.
 ghost use Rattle.net_model.specs.Net.{Net};
 ghost use Rattle.net_model.specs.Rules.{IsNet};
-ghost use Rattle.live_study.specs.Laws.{LogsStay, LooksStayTrue};
+ghost use Rattle.live_study.specs.Laws.{GlancesStayTrue, LogsStay, LooksStayTrue};
 
 /// What comes behind a front changes no log before it: a later set or end has a time from the front on, and a later
-/// fork begins as its origin. So what a look tells is true of the clones that the journal leaves.
+/// fork begins as its origin. So what a look tells is true of the clones that the journal leaves, and of all clones that
+/// come of those of its rack by decisions that are accepted from its front on.
 pub fn looks_stay_true()
     ensures logs { (net : Net) → IsNet net → LogsStay net }
     ensures looks { (net : Net) → IsNet net → LooksStayTrue net }
+    ensures glances { (net : Net) → IsNet net → GlancesStayTrue net }
 {}
