@@ -136,6 +136,16 @@ fn changed_models<L: Ledger>(alloc: Global, steps: &mut Steps<L>) -> bool {
         && changed_comes_to(alloc, &BY_ARRIVAL, None, &by_arrival_trace(), steps)
 }
 
+/// Whether the desk's log of the branch whose desk is faster has the five entries that the trace has of it.
+fn desk_log_is<L: Ledger>(alloc: Global, steps: &mut Steps<L>) -> Option<bool> {
+    let model = read_model(alloc, ONE_DESK.as_bytes()).ok()?;
+    let solo = begin_solo(alloc, &model, plan(8, 2, Param::Service, 2, 2))?;
+    let solo = solo.run_to(&model, model.horizon(), steps).ok()?;
+    let log = solo.log(alloc, 2).ok()?;
+    let [_, first, _, change, second, done, _, last, _] = fast_trace();
+    Some(log.as_slice() == [first, change, second, done, last].as_slice())
+}
+
 fn with_steps<L: Ledger>(alloc: Global, blank: Blank) -> bool
     requires name { blank.name ≡ L.name }
     requires parts { blank.parts ≡ L.parts }
@@ -144,6 +154,7 @@ fn with_steps<L: Ledger>(alloc: Global, blank: Blank) -> bool
     let mut steps = Steps::<L>::new(blank);
     whole_models(alloc, &mut steps)
         && changed_models(alloc, &mut steps)
+        && desk_log_is(alloc, &mut steps) == Some(true)
         && resumed_runs(alloc, &mut steps)
 }
 

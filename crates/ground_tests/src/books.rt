@@ -221,3 +221,14 @@ fn a_full_book(rt: HostRuntime) -> Result<(), Fail> {
     assert!(rt; is_full(&mut book, &fork));
     Ok(())
 }
+
+/// A decision that a book would accept finds no place behind 4,096 that it refused.
+#[test]
+fn a_book_full_of_refusals(rt: HostRuntime) -> Result<(), Fail> {
+    let unknown = decision(rt.alloc(), "fork fresh from nobody").expect(&rt, "a decision");
+    let fork = decision(rt.alloc(), "fork fresh from base").expect(&rt, "a decision");
+    let mut book = begin_book(rt.alloc()).ok_or(NoMemory)?;
+    assert!(rt; repeat(&mut book, &unknown, 4096, Reply::UnknownClone));
+    assert!(rt; is_full(&mut book, &fork) && book.lists().len() == 1);
+    Ok(())
+}

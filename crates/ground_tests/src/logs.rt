@@ -142,6 +142,23 @@ fn a_long_log_has_few_segments(rt: HostRuntime) {
     }
 }
 
+/// Whether a log grows by 20,000 entries, and is shared behind each.
+fn grows_shared(log: &mut Log, alloc: Global) -> bool {
+    for number in 0..20_000 {
+        if log.push(entry(number)).is_err() || !shares(log, alloc) {
+            return false;
+        }
+    }
+    true
+}
+
+#[test]
+fn a_log_shared_behind_each_entry_has_few_segments(rt: HostRuntime) {
+    let mut log = Log::new(rt.alloc());
+    assert!(rt; grows_shared(&mut log, rt.alloc()));
+    assert!(rt; log.len() == 20_000 && log.segments() <= 16);
+}
+
 /// Pushes a thousand entries.
 fn push_thousand(log: &mut Log) -> bool {
     for number in 0..1_000 {
