@@ -14,6 +14,7 @@ use sample_models::ONE_DESK;
 use sim_base::{Change, Decision, Name, NoMemory, Param};
 use std::alloc::Global;
 use std::process::Abort;
+use std::sync::atomic::{AtomicU64, Ordering};
 use std::sync::{Arc, Wait};
 use std::thread;
 use std::thread::Threads;
@@ -30,9 +31,9 @@ fn fork<R: Abort>(rt: &R, new: &[u8], old: &[u8]) -> Decision {
     }
 }
 
-fn set<R: Abort>(rt: &R, at: u64) -> Decision {
+fn set_of<R: Abort>(rt: &R, who: &[u8], at: u64) -> Decision {
     Decision::Set {
-        who: name(rt, b"base"),
+        who: name(rt, who),
         at,
         station: name(rt, b"desk"),
         change: Change {
@@ -41,6 +42,10 @@ fn set<R: Abort>(rt: &R, at: u64) -> Decision {
             b: 2,
         },
     }
+}
+
+fn set<R: Abort>(rt: &R, at: u64) -> Decision {
+    set_of(rt, b"base", at)
 }
 
 /// The first time that is due in a network, where its horizon is not 0.
@@ -55,9 +60,10 @@ fn first_due(alloc: Global, model: Arc<Model>) -> Result<Option<u64>, NoMemory>
     Ok(world.least_of(0))
 }
 
-/// A desk of so many analysts, with the first time that is due in its network.
+/// A desk of so many analysts over the model of this text, with the first time that is due in its network.
 fn begin_desk(
     alloc: Global,
+    text: &str,
     analysts: u32,
 ) -> Result<(Desk, Vec<Pass>, Helm, Option<u64>), NoMemory>
     requires some { 1 ≤ analysts }
@@ -67,7 +73,7 @@ fn begin_desk(
     ensures least { IfOk result (λ r. r.3 ≡ least_of (simulation r.2.net) base 0) }
     ensures horizon { IfOk result (λ r. 0 < r.2.net.horizon) }
 {
-    let Ok(model) = read_model(alloc, ONE_DESK.as_bytes()) else {
+    let Ok(model) = read_model(alloc, text.as_bytes()) else {
         return Err(NoMemory);
     };
     let model = Arc::new(alloc, model)?;
@@ -83,7 +89,7 @@ fn begin_desk_alone(alloc: Global) -> Result<(Desk, Pass, Helm, Option<u64>), No
     ensures least { IfOk result (λ r. r.3 ≡ least_of (simulation r.2.net) base 0) }
     ensures horizon { IfOk result (λ r. 0 < r.2.net.horizon) }
 {
-    let (desk, mut passes, helm, least) = begin_desk(alloc, 1)?;
+    let (desk, mut passes, helm, least) = begin_desk(alloc, ONE_DESK, 1)?;
     let Some(pass) = passes.pop() else {
         return Err(NoMemory);
     };
@@ -224,6 +230,75 @@ fn is_late_by_another<R: Threads + Wait + Abort + Sync>(
     Ok(front == Some(5) && is_late_by_a_hair(rt, &desk, &mut pass))
 }
 
+/// The receipt of a call that is in the journal.
+fn entered(entry: u32, reply: Reply) -> Receipt {
+    Receipt {
+        entry: Some(entry),
+        reply,
+    }
+}
+
+/// Whether a pass has the receipts of the worked book at front 10, and sees this front.
+fn asks_at_ten<R: Wait + Abort>(rt: &R, desk: &Desk, pass: &mut Pass) -> bool
+    requires desk { pass.old.desk ≡ desk_id desk.now }
+{
+    let forked = desk.decide(rt, pass, fork(rt, b"fast", b"base"));
+    let timely = desk.decide(rt, pass, set_of(rt, b"fast", 10));
+    let late = desk.decide(rt, pass, set_of(rt, b"fast", 9));
+    forked == entered(0, Reply::Accepted)
+        && timely == entered(1, Reply::Accepted)
+        && late == entered(2, Reply::Late { front: 10 })
+        && desk.is_late(pass, 9) == Some(10)
+        && desk.is_late(pass, 10).is_none()
+}
+
+/// Whether the pass at a place does so, or where it is asked nothing before, sees front 10.
+fn sees_ten<R: Wait + Abort>(rt: &R, desk: &Desk, pass: &mut Pass, place: usize) -> bool
+    requires desk { pass.old.desk ≡ desk_id desk.now }
+{
+    match place {
+        0 => asks_at_ten(rt, desk, pass),
+        1 => desk.front(pass) == 10,
+        _ => desk.is_late(pass, 9) == Some(10),
+    }
+}
+
+/// How many of the passes do so.
+fn count_who_see_ten<R: Threads + Wait + Abort + Sync>(
+    rt: &R,
+    desk: &Desk,
+    passes: &mut Vec<Pass>,
+) -> u64
+    requires desk { All (λ p. p.desk ≡ desk_id desk.now) passes.old.items }
+{
+    let count = AtomicU64::new(0);
+    thread::for_each_mut(
+        rt,
+        passes.as_mut_slice(),
+        16,
+        &|i: usize, pass: &mut Pass|
+            requires { pass.old.desk ≡ desk_id desk.now }
+        {
+            if sees_ten(rt, desk, pass, i) {
+                count.fetch_add(1, Ordering::SeqCst);
+            }
+        },
+    );
+    count.load(Ordering::SeqCst)
+}
+
+/// Whether three passes see front 10, the first of the worked example whose first job comes at 8.
+#[tactic(auto, using(decision_desk::proofs::NewPasses::new_passes_desks))]
+fn three_see_ten<R: Threads + Wait + Abort + Sync>(
+    rt: &R,
+    alloc: Global,
+) -> Result<bool, NoMemory> {
+    let text = ONE_DESK.replacen(alloc, "[3, 3]", "[8, 8]", 1)?;
+    let (desk, mut passes, mut helm, least) = begin_desk(alloc, text.as_str(), 3)?;
+    let front = first_turn(rt, alloc, &desk, &mut helm, least);
+    Ok(front == Some(10) && count_who_see_ten(rt, &desk, &mut passes) == 3)
+}
+
 /// All passes ask for this, side by side, fifty times each.
 fn ask_all<R: Threads + Wait + Sync>(rt: &R, desk: &Desk, passes: &mut Vec<Pass>, d: &Decision)
     requires desk { All (λ p. p.desk ≡ desk_id desk.now) passes.old.items }
@@ -260,7 +335,7 @@ fn one_of_sixteen_forks<R: Threads + Wait + Abort + Sync>(
     rt: &R,
     alloc: Global,
 ) -> Result<bool, NoMemory> {
-    let (desk, mut passes, helm, _least) = begin_desk(alloc, 16)?;
+    let (desk, mut passes, helm, _least) = begin_desk(alloc, ONE_DESK, 16)?;
     ask_all(rt, &desk, &mut passes, &fork(rt, b"x", b"base"));
     let closed = desk.close(passes, helm);
     let calls = closed.book().calls();
@@ -275,6 +350,11 @@ fn a_full_desk(rt: HostRuntime) {
 #[test]
 fn late_by_another_thread(rt: HostRuntime) {
     assert!(rt; is_late_by_another(&rt, rt.alloc()) == Ok(true));
+}
+
+#[test]
+fn three_passes_at_ten(rt: HostRuntime) {
+    assert!(rt; three_see_ten(&rt, rt.alloc()) == Ok(true));
 }
 
 #[test]

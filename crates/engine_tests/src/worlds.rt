@@ -513,10 +513,39 @@ const LOOKED: [(u32, &str, Option<Found>); 5] = [
     (2, "slow", None),
 ];
 
+/// What looks at the two clones find at 10.
+const LOOKED_AT_TEN: [(u32, &str, Option<Found>); 4] = [
+    (
+        2,
+        "fast",
+        Some(Found {
+            handled: 4,
+            shared: 1,
+        }),
+    ),
+    (
+        2,
+        "base",
+        Some(Found {
+            handled: 3,
+            shared: 1,
+        }),
+    ),
+    (2, "ghost", None),
+    (
+        1,
+        "base",
+        Some(Found {
+            handled: 2,
+            shared: 2,
+        }),
+    ),
+];
+
 /// Whether all looks find what stands in the table.
-fn has_glances(alloc: Global, world: &mut World) -> bool {
-    for i in 0..LOOKED.len() {
-        let (station, who, found) = LOOKED[i];
+fn has_glances(alloc: Global, world: &mut World, table: &[(u32, &str, Option<Found>)]) -> bool {
+    for i in 0..table.len() {
+        let (station, who, found) = table[i];
         if !has_glance(alloc, world, station, who, found) {
             return false;
         }
@@ -528,7 +557,16 @@ fn has_glances(alloc: Global, world: &mut World) -> bool {
 fn looks_find_three(alloc: Global) -> Option<bool> {
     let decisions = [fork("fast")?, fork("like_base")?, faster(8)?];
     let mut world = run_of(alloc, ONE_DESK, &decisions)?;
-    Some(has_glances(alloc, &mut world))
+    Some(has_glances(alloc, &mut world, &LOOKED))
+}
+
+/// Whether looks at 10 find the two clones and no third.
+fn looks_find_two_at_ten(alloc: Global) -> Option<bool> {
+    let mut world = two_clones(alloc, ONE_DESK)?;
+    for _ in 0..3 {
+        world = window(alloc, world, 20).ok()?;
+    }
+    Some(world.front() == 10 && has_glances(alloc, &mut world, &LOOKED_AT_TEN))
 }
 
 /// The world with `fast`, forked from `base` and served faster from its front on.
@@ -614,7 +652,8 @@ fn clones_that_are_alike(rt: HostRuntime) {
 }
 
 #[test]
-fn looks_at_three_clones(rt: HostRuntime) {
+fn looks_at_clones(rt: HostRuntime) {
+    assert!(rt; looks_find_two_at_ten(rt.alloc()) == Some(true));
     assert!(rt; looks_find_three(rt.alloc()) == Some(true));
 }
 
