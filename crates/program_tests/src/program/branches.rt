@@ -1,5 +1,5 @@
 //! Branches, and what they share.
-use super::{FAST, PLAIN, Row, texts};
+use super::{FAST, PLAIN, Row, models, texts};
 use sample_models::{EQUAL_SCRIPT, OWN_SCRIPT_OF_B};
 use std::test::Fail;
 
@@ -12,6 +12,11 @@ fork b from base
 set a at 15 desk room 9
 set a at 8 desk service 2 2
 set b at 8 desk service 2 2
+";
+
+/// A branch that splits from its base between two draws.
+const ROOMY: &str = "fork b from base
+set b at 10 desk room 9
 ";
 
 const SOLO_B: &[&str] = &["solo", "m", "s", "--clone", "b"];
@@ -49,6 +54,14 @@ const ROWS: &[Row] = &[
         script: APART,
         traces: texts::BRANCHES_APART,
         report: texts::BRANCHES_APART_REPORT,
+        ..PLAIN
+    },
+    Row {
+        shows: "both halves of a split draw what each draws alone",
+        model: models::DRAWN_DESK,
+        script: ROOMY,
+        traces: texts::DRAWN_BRANCHES,
+        report: texts::DRAWN_BRANCHES_REPORT,
         ..PLAIN
     },
     Row {

@@ -3,6 +3,21 @@ use super::{PLAIN, Row, models, texts};
 use sample_models::{CLASSES, DRAWN_GATE, FAN_BY_TURN, NO_ROOM};
 use std::test::Fail;
 
+/// The gate's jobs and the router's order, as they are in the model, and changed.
+const THREE_BY_TURN: &str = r#"jobs = 3
+link = [{ to = "fan", delay = 2 }]
+[[station]]
+name = "fan"
+kind = "router"
+by = "turn""#;
+
+const TWO_BY_WEIGHTS: &str = r#"jobs = 2
+link = [{ to = "fan", delay = 2 }]
+[[station]]
+name = "fan"
+kind = "router"
+by = "weights""#;
+
 const ROWS: &[Row] = &[
     Row {
         shows: "a set at time 0",
@@ -70,6 +85,40 @@ const ROWS: &[Row] = &[
         model: CLASSES,
         traces: texts::CLASSES,
         report: texts::CLASSES_REPORT,
+        ..PLAIN
+    },
+    Row {
+        shows: "a router by turn for two jobs",
+        model: FAN_BY_TURN,
+        old: "jobs = 3",
+        new: "jobs = 2",
+        traces: texts::FAN_OF_TWO,
+        report: texts::FAN_OF_TWO_REPORT,
+        ..PLAIN
+    },
+    Row {
+        shows: "a router by weights for two jobs",
+        model: FAN_BY_TURN,
+        old: THREE_BY_TURN,
+        new: TWO_BY_WEIGHTS,
+        traces: texts::FAN_OF_TWO,
+        report: texts::FAN_OF_TWO_REPORT,
+        ..PLAIN
+    },
+    Row {
+        shows: "a job of the lesser class goes before one that waits",
+        model: models::LATE_HIGH,
+        traces: texts::LATE_HIGH,
+        report: texts::LATE_HIGH_REPORT,
+        ..PLAIN
+    },
+    Row {
+        shows: "the same jobs by arrival",
+        model: models::LATE_HIGH,
+        old: "order = \"class\"\n",
+        new: "",
+        traces: texts::LATE_HIGH_BY_ARRIVAL,
+        report: texts::LATE_HIGH_REPORT,
         ..PLAIN
     },
     Row {

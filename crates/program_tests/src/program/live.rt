@@ -1,5 +1,7 @@
 //! Live studies: analysts who decide and look while the engine runs.
-use super::{CUT, GOOD, LIMIT_3, LIVE, Outcome, Outside, RUN, comes, is_both, run_program, texts};
+use super::{
+    CUT, GOOD, LIMIT_3, LIVE, Outcome, Outside, RUN, comes, is_both, models, run_program, texts,
+};
 use crew_pool::{Gate, NoGate};
 use sample_models::{BUSY, CLINIC, ONE_DESK, QUIET_JOURNAL};
 use sim_base::NoMemory;
@@ -353,12 +355,38 @@ fn split_journal(output: &[u8]) -> Option<(&[u8], &[u8])> {
     Some((events, behind))
 }
 
-/// Whether `run` with these lines of a journal writes this.
-fn repeats<R: Threads + Wait + Sync>(rt: &R, alloc: Global, events: &[u8], behind: &[u8]) -> bool {
-    let Ok(script) = std::str::from_utf8(events) else {
+/// The lines of a journal that are no comments.
+fn without_comments(alloc: Global, events: &[u8]) -> Result<Vec<u8>, NoMemory> {
+    let mut script = Vec::new(alloc);
+    let mut begins = true;
+    let mut comment = false;
+    for byte in events {
+        if begins {
+            comment = *byte == b'#';
+        }
+        begins = *byte == b'\n';
+        if !comment {
+            script.push(*byte)?;
+        }
+    }
+    Ok(script)
+}
+
+/// Whether `run` of the model writes this, with the lines of a journal that are no comments as its script.
+fn repeats<R: Threads + Wait + Sync>(
+    rt: &R,
+    alloc: Global,
+    model: &str,
+    events: &[u8],
+    behind: &[u8],
+) -> bool {
+    let Ok(script) = without_comments(alloc, events) else {
         return false;
     };
-    match run_program(rt, alloc, &NoGate, RUN, ONE_DESK, script, &GOOD) {
+    let Ok(script) = std::str::from_utf8(script.as_slice()) else {
+        return false;
+    };
+    match run_program(rt, alloc, &NoGate, RUN, model, script, &GOOD) {
         Ok(again) => again.is(0, behind, ""),
         Err(_) => false,
     }
@@ -370,7 +398,9 @@ fn is_repeated<R: Threads + Wait + Sync>(rt: &R, alloc: Global, workers: &str) -
         return false;
     };
     match split_journal(live.output()) {
-        Some((events, behind)) => live.status == 0 && repeats(rt, alloc, events, behind),
+        Some((events, behind)) => {
+            live.status == 0 && repeats(rt, alloc, ONE_DESK, events, behind)
+        }
         None => false,
     }
 }
@@ -390,6 +420,25 @@ fn journals_are_repeated(rt: HostRuntime) -> Result<(), Fail> {
     for workers in ["1", "4"] {
         assert!(rt; are_repeated(&rt, rt.alloc(), workers), "{}", workers);
     }
+    Ok(())
+}
+
+/// A journal that is longer than a script may be: all of it is comments.
+#[test]
+fn a_long_journal_is_repeated(rt: HostRuntime) -> Result<(), Fail> {
+    let ended = run_program(
+        &rt,
+        rt.alloc(),
+        &NoGate,
+        LIVE,
+        models::MANY_FRONTS,
+        "",
+        &GOOD,
+    )?;
+    assert!(rt; ended.status == 0 && ended.errors().is_empty());
+    let (events, behind) = split_journal(ended.output()).ok_or(NoMemory)?;
+    assert!(rt; events.len() > 1_048_576);
+    assert!(rt; repeats(&rt, rt.alloc(), models::MANY_FRONTS, events, behind));
     Ok(())
 }
 
@@ -445,14 +494,23 @@ fn full_journal(rt: HostRuntime) -> Result<(), Fail> {
     Ok(())
 }
 
-/// The clinic's three analysts: one of them looks, and every fork and set stands in the journal.
+/// Whether the clinic's three analysts, of whom one looks, have every fork and set in the journal.
+fn clinic_is_whole<R: Threads + Wait + Sync>(rt: &R, alloc: Global, workers: &str) -> bool {
+    let words = ["live", "m", "s", "--workers", workers];
+    let script = texts::CLINIC_SCRIPT;
+    let Ok(ended) = run_program(rt, alloc, &NoGate, &words, CLINIC, script, &GOOD) else {
+        return false;
+    };
+    ended.status == 0
+        && ended.errors().is_empty()
+        && ended.output().starts_with(b"journal 14 ")
+        && has(ended.output(), "\nlooks 1\nlook ada night doctor front=")
+}
+
 #[test]
 fn clinic_live(rt: HostRuntime) -> Result<(), Fail> {
-    let words = ["live", "m", "s", "--workers", "2"];
-    let script = texts::CLINIC_SCRIPT;
-    let ended = run_program(&rt, rt.alloc(), &NoGate, &words, CLINIC, script, &GOOD)?;
-    assert!(rt; ended.status == 0 && ended.errors().is_empty());
-    assert!(rt; ended.output().starts_with(b"journal 14 "));
-    assert!(rt; has(ended.output(), "\nlooks 1\nlook ada night doctor front="));
+    for workers in ["1", "4"] {
+        assert!(rt; clinic_is_whole(&rt, rt.alloc(), workers), "{}", workers);
+    }
     Ok(())
 }

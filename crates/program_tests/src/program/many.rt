@@ -1,5 +1,5 @@
 //! Many branches and many lines, and many workers.
-use super::{FAST, GOOD, PLAIN, REFUSED, RUN, Row, comes, is_both, run_program, texts};
+use super::{FAST, GOOD, PLAIN, REFUSED, RUN, Row, comes, is_both, models, run_program, texts};
 use crew_pool::{Gate, NoGate};
 use sample_models::{BUSY, CLINIC, ONE_DESK};
 use sim_base::NoMemory;
@@ -131,6 +131,28 @@ fn a_4097th_look(rt: HostRuntime) -> Result<(), Fail> {
     Ok(())
 }
 
+const SPUN: &str = "report
+gate copies=1 handled=1 alone=1
+spin copies=1 handled=16384 alone=16384
+total handled=16385 alone=16385
+";
+
+/// A router that spins until it has handled as many messages as the limit, and no more.
+#[test]
+fn a_limit_just_kept_by_a_router(rt: HostRuntime) -> Result<(), Fail> {
+    let row = Row {
+        model: models::SPINNING,
+        old: "100000",
+        new: "16386",
+        ..PLAIN
+    };
+    let model = row.changed_model(rt.alloc())?;
+    let ended = run_program(&rt, rt.alloc(), &NoGate, RUN, model.as_str(), "", &GOOD)?;
+    assert!(rt; ended.status == 0 && ended.errors().is_empty());
+    assert!(rt; ended.output().ends_with(SPUN.as_bytes()));
+    Ok(())
+}
+
 /// Whether the bytes are the same with one worker and with more, and the status is 0.
 fn same_for_all<R: Threads + Wait + Sync>(
     rt: &R,
@@ -169,8 +191,8 @@ fn busy_by_four_workers(rt: HostRuntime) -> Result<(), Fail> {
 }
 
 #[test]
-fn clinic_by_two_workers(rt: HostRuntime) -> Result<(), Fail> {
-    assert!(rt; same_for_all(&rt, rt.alloc(), "2", CLINIC, texts::CLINIC_SCRIPT));
+fn clinic_by_four_workers(rt: HostRuntime) -> Result<(), Fail> {
+    assert!(rt; same_for_all(&rt, rt.alloc(), "4", CLINIC, texts::CLINIC_SCRIPT));
     Ok(())
 }
 

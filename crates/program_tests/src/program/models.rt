@@ -37,6 +37,75 @@ by = "turn"
 link = [{ to = "spin", delay = 1 }]
 "#;
 
+/// A source whose jobs raise more fronts than the text of a script has room for.
+pub const MANY_FRONTS: &str = r#"lookahead = 1
+horizon = 130000
+limit = 65536
+[[station]]
+name = "gate"
+kind = "source"
+every = [2, 2]
+jobs = 64000
+link = [{ to = "out", delay = 1 }]
+[[station]]
+name = "out"
+kind = "sink"
+"#;
+
+/// A desk that draws its service times.
+pub const DRAWN_DESK: &str = r#"lookahead = 2
+horizon = 30
+seed = 42
+[[station]]
+name = "gate"
+kind = "source"
+every = [3, 3]
+jobs = 3
+link = [{ to = "desk", delay = 2 }]
+[[station]]
+name = "desk"
+kind = "server"
+servers = 1
+room = 5
+service = [1, 10]
+stream = 54
+link = [{ to = "out", delay = 2 }]
+[[station]]
+name = "out"
+kind = "sink"
+"#;
+
+/// A job of the lesser class comes while two of the greater are there.
+pub const LATE_HIGH: &str = r#"format = 2
+lookahead = 2
+horizon = 20
+[[station]]
+name = "low"
+kind = "source"
+every = [3, 3]
+jobs = 2
+class = 2
+link = [{ to = "desk", delay = 2 }]
+[[station]]
+name = "high"
+kind = "source"
+every = [7, 7]
+jobs = 1
+class = 1
+link = [{ to = "desk", delay = 2 }]
+[[station]]
+name = "desk"
+kind = "server"
+servers = 1
+room = 5
+service = [4, 4]
+order = "class"
+link = [{ to = "out", delay = 2 }]
+[[station]]
+name = "out"
+kind = "sink"
+"#;
+
 /// A sink that nothing reaches.
 pub const ONLY_OUT: &str = r#"lookahead = 1
 horizon = 1

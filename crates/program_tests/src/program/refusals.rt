@@ -1,5 +1,5 @@
 //! What is refused, and the limit.
-use super::{LIMIT_3, PLAIN, REFUSED, Row, SOLO_BASE, models};
+use super::{FAST, LIMIT_3, PLAIN, REFUSED, Row, SOLO_BASE, models, texts};
 use std::test::Fail;
 
 const SOLO_GHOST: &[&str] = &["solo", "m", "s", "--clone", "ghost"];
@@ -143,6 +143,15 @@ const LIMITS: &[Row] = &[
     Row {
         shows: "a limit that is just not met",
         ..LIMIT_4
+    },
+    Row {
+        shows: "a limit that each clone keeps by itself, and both together would not",
+        old: "lookahead",
+        new: "limit = 5\nlookahead",
+        script: FAST,
+        traces: texts::BASE_AND_FAST,
+        report: texts::BASE_AND_FAST_REPORT,
+        ..PLAIN
     },
     Row {
         shows: "solo meets it",

@@ -263,6 +263,79 @@ pub const CLASSES: &str = r#"clone base
 18 out desk 5 job high.2:1 got=3 stay=30
 "#;
 
+/// The first two jobs of a router, by turn or by weights.
+pub const FAN_OF_TWO: &str = r#"clone base
+3 gate gate 0 tick sent=1
+5 fan gate 1 job gate.0 passed=1
+6 gate gate 2 tick sent=2
+7 slow fan 0 job gate.0 passed=1
+8 fan gate 3 job gate.1 passed=2
+10 out slow 0 job gate.0 got=1 stay=7
+11 out fan 1 job gate.1 got=2 stay=12
+"#;
+
+/// A job of the lesser class goes before one that has waited longer.
+pub const LATE_HIGH: &str = r#"clone base
+3 low low 0 tick sent=1
+5 desk low 1 job low.0:2 busy=1 wait=0 done=0 lost=0
+6 low low 2 tick sent=2
+7 high high 0 tick sent=1
+8 desk low 3 job low.1:2 busy=1 wait=1 done=0 lost=0
+9 desk high 1 job high.0:1 busy=1 wait=2 done=0 lost=0
+9 desk desk 0 done low.0:2 busy=1 wait=1 done=1 lost=0
+11 out desk 1 job low.0:2 got=1 stay=8
+13 desk desk 2 done high.0:1 busy=1 wait=0 done=2 lost=0
+15 out desk 3 job high.0:1 got=2 stay=16
+17 desk desk 4 done low.1:2 busy=0 wait=0 done=3 lost=0
+19 out desk 5 job low.1:2 got=3 stay=29
+"#;
+
+/// The same jobs by arrival.
+pub const LATE_HIGH_BY_ARRIVAL: &str = r#"clone base
+3 low low 0 tick sent=1
+5 desk low 1 job low.0:2 busy=1 wait=0 done=0 lost=0
+6 low low 2 tick sent=2
+7 high high 0 tick sent=1
+8 desk low 3 job low.1:2 busy=1 wait=1 done=0 lost=0
+9 desk high 1 job high.0:1 busy=1 wait=2 done=0 lost=0
+9 desk desk 0 done low.0:2 busy=1 wait=1 done=1 lost=0
+11 out desk 1 job low.0:2 got=1 stay=8
+13 desk desk 2 done low.1:2 busy=1 wait=0 done=2 lost=0
+15 out desk 3 job low.1:2 got=2 stay=17
+17 desk desk 4 done high.0:1 busy=0 wait=0 done=3 lost=0
+19 out desk 5 job high.0:1 got=3 stay=29
+"#;
+
+/// The service times drawn are 4, 8 and 5, in both halves of the desk that splits at 10.
+pub const DRAWN_BRANCHES: &str = r#"clone base
+3 gate gate 0 tick sent=1
+5 desk gate 1 job gate.0 busy=1 wait=0 done=0 lost=0
+6 gate gate 2 tick sent=2
+8 desk gate 3 job gate.1 busy=1 wait=1 done=0 lost=0
+9 gate gate 4 tick sent=3
+9 desk desk 0 done gate.0 busy=1 wait=0 done=1 lost=0
+11 desk gate 5 job gate.2 busy=1 wait=1 done=1 lost=0
+11 out desk 1 job gate.0 got=1 stay=8
+17 desk desk 2 done gate.1 busy=1 wait=0 done=2 lost=0
+19 out desk 3 job gate.1 got=2 stay=21
+22 desk desk 4 done gate.2 busy=0 wait=0 done=3 lost=0
+24 out desk 5 job gate.2 got=3 stay=36
+clone b
+3 gate gate 0 tick sent=1
+5 desk gate 1 job gate.0 busy=1 wait=0 done=0 lost=0
+6 gate gate 2 tick sent=2
+8 desk gate 3 job gate.1 busy=1 wait=1 done=0 lost=0
+9 gate gate 4 tick sent=3
+9 desk desk 0 done gate.0 busy=1 wait=0 done=1 lost=0
+10 desk analyst 0 set room 9 busy=1 wait=0 done=1 lost=0
+11 desk gate 5 job gate.2 busy=1 wait=1 done=1 lost=0
+11 out desk 1 job gate.0 got=1 stay=8
+17 desk desk 2 done gate.1 busy=1 wait=0 done=2 lost=0
+19 out desk 3 job gate.1 got=2 stay=21
+22 desk desk 4 done gate.2 busy=0 wait=0 done=3 lost=0
+24 out desk 5 job gate.2 got=3 stay=36
+"#;
+
 /// A branch that ends at 9.
 pub const BRIEF: &str = r#"clone base
 3 gate gate 0 tick sent=1
@@ -416,6 +489,32 @@ high copies=1 handled=3 alone=3
 desk copies=1 handled=7 alone=7
 out copies=1 handled=3 alone=3
 total handled=14 alone=14
+"#;
+
+/// The report behind `FAN_OF_TWO`.
+pub const FAN_OF_TWO_REPORT: &str = r#"report
+gate copies=1 handled=2 alone=2
+fan copies=1 handled=2 alone=2
+slow copies=1 handled=1 alone=1
+out copies=1 handled=2 alone=2
+total handled=7 alone=7
+"#;
+
+/// The report behind `LATE_HIGH`.
+pub const LATE_HIGH_REPORT: &str = r#"report
+low copies=1 handled=2 alone=2
+high copies=1 handled=1 alone=1
+desk copies=1 handled=6 alone=6
+out copies=1 handled=3 alone=3
+total handled=12 alone=12
+"#;
+
+/// The report behind `DRAWN_BRANCHES`.
+pub const DRAWN_BRANCHES_REPORT: &str = r#"report
+gate copies=1 handled=3 alone=6
+desk copies=2 handled=10 alone=13
+out copies=1 handled=3 alone=6
+total handled=16 alone=25
 "#;
 
 /// The report of a sink that nothing reaches.
