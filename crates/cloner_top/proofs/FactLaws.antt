@@ -1,122 +1,193 @@
 -- The facts of an answer.
 use Rattle.std.proofs.Common.{◌≡◌, ◌≢◌, ◌⊎◌, inl, inr, refl, sym, subst, ◌∙◌, ℕ}
-use Rattle.std.proofs.Common.{◌≤◌, ◌+◌, arith, List, [], ◌∷◌, length, Option, Some, None, Ok}
+use Rattle.std.proofs.Common.{◌≤◌, ◌+◌, arith, List, [], ◌∷◌, length, Option, Some, None, Result, Ok}
 use Rattle.sim_base.specs.Clones.{Clone}
-use Rattle.sim_outer.specs.Counts.{HasRisen}
 use Rattle.sim_outer.specs.Files.{Files}
-use Rattle.trace_report.specs.Outputs.{report}
 use Rattle.net_model.specs.Net.{Net}
 use Rattle.net_model.specs.Text.{model}
 use Rattle.decision_script.specs.Reading.{script}
 use Rattle.decision_script.specs.Stating.{ScriptView}
 use Rattle.command_words.specs.declared.request.Mode.{Mode}
-use Rattle.command_words.specs.declared.request.Mode.TheVariants.{All, One, Live}
-use Rattle.command_words.specs.Requests.{Assignment, FileNames, Number, SourceView}
-use Rattle.cloner_top.specs.declared.reading.Text.{Text}
-use Rattle.cloner_top.specs.declared.reading.Text.TheVariants.{Model, Script}
+use Rattle.command_words.specs.declared.request.Mode.TheVariants.{Solo}
+use Rattle.command_words.specs.Requests.{AssignmentView, Live, Study}
+use Rattle.cloner_top.specs.declared.excess.Excess.{Excess}
+use Rattle.cloner_top.specs.declared.excess.Excess.TheVariants.{LimitMet}
 use Rattle.cloner_top.specs.declared.refusal.Refusal.{Refusal}
-use Rattle.cloner_top.specs.declared.refusal.Refusal.TheVariants.{OutOfMemory, Usage, NoModel}
-use Rattle.cloner_top.specs.declared.refusal.Refusal.TheVariants.{NoScript, Stopped, CannotWrite}
+use Rattle.cloner_top.specs.declared.refusal.Refusal.TheVariants.{OutOfMemory, Usage, NotRead}
+use Rattle.cloner_top.specs.declared.refusal.Refusal.TheVariants.{Stopped, Exceeded, CannotWrite}
+use Rattle.cloner_top.specs.declared.refusal.Text.{Text}
+use Rattle.cloner_top.specs.declared.refusal.Text.TheVariants.{Model, Script}
 use Rattle.cloner_top.specs.declared.stop.Stop.{Stop}
-use Rattle.cloner_top.specs.declared.stop.Stop.TheVariants.{BadModel, BadScript, BadDecision, NoClone, LimitMet}
-use Rattle.cloner_top.specs.Answers.{InputsFailed, IsAnswer, IsLawfulEnding, Outside, cut, memory}
-use Rattle.cloner_top.specs.Answers.{no_model, no_script, study_stop, success, usage}
+use Rattle.cloner_top.specs.declared.stop.Stop.TheVariants.{BadModel, BadScript, BadDecision, NoClone}
+use Rattle.cloner_top.specs.Answers.{InputsFailed, IsAnswer, IsLawfulEnding, Outside, cut, exceeded, memory}
+use Rattle.cloner_top.specs.Answers.{stopped, success, unread, usage}
 use Rattle.cloner_top.specs.Deciding.{clones_of}
-use Rattle.cloner_top.specs.Endings.{Ending, MayEnd, MayEndByTexts, MayLive, MayRun, MayRunAlone, MaySimulate}
-use Rattle.cloner_top.specs.Endings.{StoppedFor, early_stop, overrun, run_texts, study_texts, whole_output}
+use Rattle.cloner_top.specs.Endings.{Ending, IsExcessOf, MayDecide, MayEnd, MayEndByTexts, MayFollow, MayLive, MayRun}
+use Rattle.cloner_top.specs.Endings.{MayRunAlone, MaySimulate, MayStudy, early_stop, mode_meets, mode_texts, overrun}
+use Rattle.cloner_top.specs.Endings.{solo_text, whole, whole_output}
 use Rattle.cloner_top.specs.Endings as ends
+use Rattle.cloner_top.specs.Facts.{ArePreceded, Completes, IsCutFor, IsLive, IsStoppedFor, IsStudy, IsToldFor}
+use Rattle.cloner_top.specs.Facts.{IsUnreadFor, IsWritten, Writes, WritesAll, WritesIn, WritesLive, WritesOne}
+use Rattle.cloner_top.specs.Facts.{at_limit, at_once}
 use Rattle.cloner_top.specs.Outsides.{ArePut, ArePutOrCut}
-use Rattle.cloner_top.specs.Plans.{IsReadStudy}
 use Rattle.cloner_top.specs.Refusals.{error_line, status_of}
-use Rattle.cloner_top.specs.Facts.{ArePreceded, Completes, IsCutFor, IsStoppedFor, IsStudy, IsToldFor, IsUnreadFor}
-use Rattle.cloner_top.specs.Facts.{IsWritten, IsStatusOf, Writes, WritesAll, WritesLive, WritesOne}
-use Rattle.cloner_top.specs.Stops.{stop_status}
-use Rattle.cloner_top.specs.Texts.{AreTexts, IsUnread}
+use Rattle.cloner_top.specs.Stops.{excess_status, stop_status}
+use Rattle.cloner_top.specs.Texts.{AreTexts, IsUnreadFrom, Origin, in_file, made, origin_of}
 
--- ---- IsAnswer, of a command line of no known form
-module _ (words : Option Assignment) (before after : Outside) where
+-- ---- the statuses of stops and of excesses
+
+-- a stop has at least 4
+stop_status-low : (s : Stop) → 4 ≤ stop_status s
+stop_status-low (BadModel fault) = omega arith
+stop_status-low (BadScript fault) = omega arith
+stop_status-low (BadDecision reply line) = omega arith
+stop_status-low (NoClone name) = omega arith
+
+-- but not 8
+stop_status-other : (s : Stop) → stop_status s ≢ 8
+stop_status-other (BadModel fault) = λ e. omega (arith, e)
+stop_status-other (BadScript fault) = λ e. omega (arith, e)
+stop_status-other (BadDecision reply line) = λ e. omega (arith, e)
+stop_status-other (NoClone name) = λ e. omega (arith, e)
+
+-- an excess has 7
+excess_status-is : (e : Excess) → excess_status e ≡ 7
+excess_status-is (LimitMet limit station clone) = refl
+
+-- so at least 7
+excess_status-low : (e : Excess) → 7 ≤ excess_status e
+excess_status-low (LimitMet limit station clone) = omega arith
+
+-- but not 8
+excess_status-other : (e : Excess) → excess_status e ≢ 8
+excess_status-other (LimitMet limit station clone) = λ h. omega (arith, h)
+
+-- ---- what is told before the line
+
+-- in a run of all clones nothing is
+run_told : (net : Net) (clones : List Clone) (meets : ℕ → ℕ → Type 0) (texts told : List (List ℕ)) (e : Excess)
+    (most : ℕ) → MayRun net clones meets texts (overrun told e most) → told ≡ []
+run_told net clones meets texts told e most (ends.over station who met) = refl
+
+-- nor in the run of one clone alone
+alone_told : (net : Net) (clones : List Clone) (name : List ℕ) (part : Clone → Clone)
+    (written : Clone → Result (List ℕ) Excess) (told : List (List ℕ)) (e : Excess) (most : ℕ)
+    → MayRunAlone net clones name part written (overrun told e most) → told ≡ []
+alone_told net clones name part written told e most (ends.too_long k too_much is within long) = refl
+alone_told net clones name part written told e most (ends.limit_met k station is meets) = refl
+
+-- nor in a simulation of decided clones
+simulation_told : (mode : Mode) (net : Net) (clones : List Clone) (told : List (List ℕ)) (e : Excess) (most : ℕ)
+    → MaySimulate mode net clones (overrun told e most) → told ≡ []
+simulation_told (Solo name) net clones told e most h = alone_told net clones name whole (solo_text net) told e most h
+simulation_told mode net clones told e most h =
+    run_told net clones (mode_meets mode net clones) (mode_texts mode net clones) told e most h
+
+-- nor where all decisions are made first
+decide_told : (simulates : List Clone → Ending → Type 0) (net : Net) (s : ScriptView) (told : List (List ℕ))
+    (e : Excess) (most : ℕ) → ((clones : List Clone) → simulates clones (overrun told e most) → told ≡ [])
+    → MayDecide simulates net s (overrun told e most) → told ≡ []
+decide_told simulates net s told e most each (ends.simulation end none may) = each (clones_of net s) may
+
+-- in a live study one text is, and the status is 7
+live_told : (net : Net) (s : ScriptView) (told : List (List ℕ)) (e : Excess) (most : ℕ)
+    → MayLive net s (overrun told e most) → (length told ≡ 1) × (excess_status e ≡ 7)
+live_told net s told e most (ends.over_live book looks station who journal are_made meets) = (refl, refl)
+
+-- nothing is told, or the study is live, one text is told, and the status is 7
+abbrev AreToldFor : AssignmentView → List (List ℕ) → Excess → Type 0
+AreToldFor a told e = (told ≡ []) ⊎ ((length told ≡ 1) × (excess_status e ≡ 7) × IsLive a)
+
+-- in a study of which there is the script's text
+study_told : (ends_so : ScriptView → Ending → Type 0) (T : Type 0) (s : List ℕ) (told : List (List ℕ)) (e : Excess)
+    (most : ℕ) → ((stated : ScriptView) → ends_so stated (overrun told e most) → T)
+    → MayStudy ends_so s (overrun told e most) → T
+study_told ends_so T s told e most each (ends.study stated end is may) = each stated may
+
+-- in an assignment over a model
+follow_told : (a : AssignmentView) (t : Text → List ℕ) (net : Net) (told : List (List ℕ)) (e : Excess) (most : ℕ)
+    → MayFollow a t net (overrun told e most) → AreToldFor a told e
+follow_told (Study source mode) t net told e most h = study_told (MayEnd mode net) _ (t Script) told e most
+    (λ stated may. inl (decide_told (MaySimulate mode net) net stated told e most
+    (λ cs. simulation_told mode net cs told e most) may)) h
+follow_told (Live m s) t net told e most h = study_told (MayLive net) _ (t Script) told e most
+    (λ stated may. let l = live_told net stated told e most may in inr (l.0, l.1, tt)) h
+
+-- in an assignment
+come_told : (a : AssignmentView) (t : Text → List ℕ) (told : List (List ℕ)) (e : Excess) (most : ℕ)
+    → MayEndByTexts a t (overrun told e most) → AreToldFor a told e
+come_told a t told e most (ends.read net end is may) = follow_told a t net told e most may
+
+-- what is told before the line of an excess
+preceded : (words : Option AssignmentView) (files : Option Files) (a : AssignmentView) (old new : ℕ)
+    (told : List (List ℕ)) (e : Excess) → words ≡ Some a → IsExcessOf (IsLawfulEnding files a) old new told e
+    → ArePreceded words (excess_status e) told
+preceded words files a old new told e is why = by (come_told a why.may.t told e why.most why.may.may)
+  where
+    by : AreToldFor a told e → ArePreceded words (excess_status e) told
+    by (inl nothing) = inl nothing
+    by (inr one) = inr (one.1, (one.0, (a, (is, one.2))))
+
+-- ---- IsAnswer, by its status
+
+module _ (words : Option AssignmentView) (before after : Outside) where
+  -- where something is asked, the command line has a known form
+  none_is : (a : AssignmentView) → words ≡ Some a → words ≡ None → ⊥
+  none_is a is none = let h = sym is ∙ none in cc
+
   -- status 2 means that the command line has no known form
   pub usage_cause : (status : ℕ) → IsAnswer words before after status → status ≡ 2 → words ≡ None
   usage_cause _ (success a is finished fetches quiet) two = absurd (omega (arith, two))
   usage_cause _ (memory refused) two = absurd (omega (arith, two))
   usage_cause _ (usage none refused inputs steps) two = none
-  usage_cause _ (no_model a is unread refused steps) two = absurd (omega (arith, two))
-  usage_cause _ (no_script a is has unread refused steps) two = absurd (omega (arith, two))
-  usage_cause _ (study_stop a is told stop why refused) two = absurd (not_two stop two)
-    where
-      not_two : (s : Stop) → stop_status s ≡ 2 → ⊥
-      not_two (BadModel fault) h = omega (arith, h)
-      not_two (BadScript fault) h = omega (arith, h)
-      not_two (BadDecision reply line) h = omega (arith, h)
-      not_two (NoClone name) h = omega (arith, h)
-      not_two (LimitMet limit station clone) h = omega (arith, h)
+  usage_cause _ (unread a text is due not refused steps) two = absurd (omega (arith, two))
+  usage_cause _ (stopped a s is may refused steps) two = absurd (let l = stop_status-low s in omega (arith, two, l))
+  usage_cause _ (exceeded a told e is why refused) two = absurd (let l = excess_status-low e in omega (arith, two, l))
   usage_cause _ (cut a is off told) two = absurd (omega (arith, two))
-
-  -- where something is asked, the command line has a known form
-  none_is : (a : Assignment) → words ≡ Some a → words ≡ None → ⊥
-  none_is a is none = let h = sym is ∙ none in cc
 
   -- a command line of no known form gets status 1 or 2
   pub formless : (status : ℕ) → IsAnswer words before after status → words ≡ None → (status ≡ 1) ⊎ (status ≡ 2)
   formless _ (success a is finished fetches quiet) none = absurd (none_is a is none)
   formless _ (memory refused) none = inl refl
   formless _ (usage n refused inputs steps) none = inr refl
-  formless _ (no_model a is unread refused steps) none = absurd (none_is a is none)
-  formless _ (no_script a is has unread refused steps) none = absurd (none_is a is none)
-  formless _ (study_stop a is told stop why refused) none = absurd (none_is a is none)
+  formless _ (unread a text is due not refused steps) none = absurd (none_is a is none)
+  formless _ (stopped a s is may refused steps) none = absurd (none_is a is none)
+  formless _ (exceeded a told e is why refused) none = absurd (none_is a is none)
   formless _ (cut a is off told) none = absurd (none_is a is none)
 
--- ---- stop_status
--- the status of a stop is at least 4
-stop_status-low : (s : Stop) → 4 ≤ stop_status s
-stop_status-low (BadModel fault) = omega arith
-stop_status-low (BadScript fault) = omega arith
-stop_status-low (BadDecision reply line) = omega arith
-stop_status-low (NoClone name) = omega arith
-stop_status-low (LimitMet limit station clone) = omega arith
-
--- and at most 7
-stop_status-high : (s : Stop) → stop_status s ≤ 7
-stop_status-high (BadModel fault) = omega arith
-stop_status-high (BadScript fault) = omega arith
-stop_status-high (BadDecision reply line) = omega arith
-stop_status-high (NoClone name) = omega arith
-stop_status-high (LimitMet limit station clone) = omega arith
-
--- ---- IsAnswer, by its status
-module _ (words : Option Assignment) (before after : Outside) where
-  -- status 3 means that a text was not read
+  -- status 3 means that a text that was due was not read
   pub unread_cause : (status : ℕ) → IsAnswer words before after status → status ≡ 3 → IsUnreadFor words before after
   unread_cause _ (success a is finished fetches quiet) three = absurd (omega (arith, three))
   unread_cause _ (memory refused) three = absurd (omega (arith, three))
   unread_cause _ (usage none refused inputs steps) three = absurd (omega (arith, three))
-  unread_cause _ (no_model a is unread refused steps) three = record { a = a; asks = is; unread = inl unread }
-  unread_cause _ (no_script a is has unread refused steps) three = record { a = a; asks = is; unread = inr unread }
-  unread_cause _ (study_stop a is told stop why refused) three =
-      absurd (let l = stop_status-low stop in omega (arith, three, l))
+  unread_cause _ (unread a text is due not refused steps) three =
+      record { a = a; asks = is; text = text; due = due; unread = not }
+  unread_cause _ (stopped a s is may refused steps) three = absurd (let l = stop_status-low s in omega (arith, three, l))
+  unread_cause _ (exceeded a told e is why refused) three =
+      absurd (let l = excess_status-low e in omega (arith, three, l))
   unread_cause _ (cut a is off told) three = absurd (omega (arith, three))
 
-  -- statuses 4 to 7 mean that the study stopped, and that a line tells why
-  pub stop_cause : (status : ℕ) → IsAnswer words before after status → 4 ≤ status → status ≤ 7
+  -- the statuses from 4 on but 8 mean that it stopped, or that there was too much of something
+  pub stop_cause : (status : ℕ) → IsAnswer words before after status → 4 ≤ status → status ≢ 8
       → IsStoppedFor words before after status
   stop_cause _ (success a is finished fetches quiet) l h = absurd (omega (arith, l))
   stop_cause _ (memory refused) l h = absurd (omega (arith, l))
   stop_cause _ (usage none refused inputs steps) l h = absurd (omega (arith, l))
-  stop_cause _ (no_model a is unread refused steps) l h = absurd (omega (arith, l))
-  stop_cause _ (no_script a is has unread refused steps) l h = absurd (omega (arith, l))
-  stop_cause _ (study_stop a is told stop why refused) l h =
-      record { a = a; asks = is; told = told; stop = stop; is = refl; stops = why; told_is = refused.told_is }
-  stop_cause _ (cut a is off told) l h = absurd (omega (arith, h))
+  stop_cause _ (unread a text is due not refused steps) l h = absurd (omega (arith, l))
+  stop_cause _ (stopped a s is may refused steps) l h =
+      record { told = []; line = _; cause = at_once a s is may steps; told_is = refused.told_is }
+  stop_cause _ (exceeded a told e is why refused) l h =
+      record { told = told; line = _; cause = at_limit a told e is why; told_is = refused.told_is }
+  stop_cause _ (cut a is off told) l h = absurd (h refl)
 
   -- status 8 means that a prefix of the output was written, and that the output had a fault
   pub cut_cause : (status : ℕ) → IsAnswer words before after status → status ≡ 8 → IsCutFor words before after
   cut_cause _ (success a is finished fetches quiet) eight = absurd (omega (arith, eight))
   cut_cause _ (memory refused) eight = absurd (omega (arith, eight))
   cut_cause _ (usage none refused inputs steps) eight = absurd (omega (arith, eight))
-  cut_cause _ (no_model a is unread refused steps) eight = absurd (omega (arith, eight))
-  cut_cause _ (no_script a is has unread refused steps) eight = absurd (omega (arith, eight))
-  cut_cause _ (study_stop a is told stop why refused) eight =
-      absurd (let h = stop_status-high stop in omega (arith, eight, h))
+  cut_cause _ (unread a text is due not refused steps) eight = absurd (omega (arith, eight))
+  cut_cause _ (stopped a s is may refused steps) eight = absurd (stop_status-other s eight)
+  cut_cause _ (exceeded a told e is why refused) eight = absurd (excess_status-other e eight)
   cut_cause _ (cut a is off told) eight = record { a = a; asks = is; cut = off }
 
   -- where the status is neither 0 nor 8, the output is as before
@@ -125,105 +196,22 @@ module _ (words : Option Assignment) (before after : Outside) where
   output_same _ (success a is finished fetches quiet) not_0 not_8 = absurd (not_0 refl)
   output_same _ (memory refused) not_0 not_8 = refused.output
   output_same _ (usage none refused inputs steps) not_0 not_8 = refused.output
-  output_same _ (no_model a is unread refused steps) not_0 not_8 = refused.output
-  output_same _ (no_script a is has unread refused steps) not_0 not_8 = refused.output
-  output_same _ (study_stop a is told stop why refused) not_0 not_8 = refused.output
+  output_same _ (unread a text is due not refused steps) not_0 not_8 = refused.output
+  output_same _ (stopped a s is may refused steps) not_0 not_8 = refused.output
+  output_same _ (exceeded a told e is why refused) not_0 not_8 = refused.output
   output_same _ (cut a is off told) not_0 not_8 = absurd (not_8 refl)
 
--- ---- only status 7 comes after work
+  -- where the status is 2 to 6, no message was handled
+  pub idle : (status : ℕ) → IsAnswer words before after status → 2 ≤ status → status ≢ 7 → status ≢ 8
+      → after.steps ≡ before.steps
+  idle _ (success a is finished fetches quiet) l not_7 not_8 = absurd (omega (arith, l))
+  idle _ (memory refused) l not_7 not_8 = absurd (omega (arith, l))
+  idle _ (usage none refused inputs steps) l not_7 not_8 = steps
+  idle _ (unread a text is due not refused steps) l not_7 not_8 = steps
+  idle _ (stopped a s is may refused steps) l not_7 not_8 = steps
+  idle _ (exceeded a told e is why refused) l not_7 not_8 = absurd (not_7 (excess_status-is e))
+  idle _ (cut a is off told) l not_7 not_8 = absurd (not_8 refl)
 
--- in a run of all clones
-run_7 : (net : Net) (clones : List Clone) (texts told : List (List ℕ)) (stop : Stop) (most : ℕ)
-    → MayRun net clones texts (overrun told stop most) → stop_status stop ≡ 7
-run_7 net clones texts told stop most (ends.over station who meets) = refl
-
--- in the run of one clone by itself
-alone_7 : (net : Net) (clones : List Clone) (name : List ℕ) (told : List (List ℕ)) (stop : Stop) (most : ℕ)
-    → MayRunAlone net clones name (overrun told stop most) → stop_status stop ≡ 7
-alone_7 net clones name told stop most (ends.limit_met k station is meets) = refl
-
--- in a live study
-live_7 : (net : Net) (s : ScriptView) (told : List (List ℕ)) (stop : Stop) (most : ℕ)
-    → MayLive net s (overrun told stop most) → stop_status stop ≡ 7
-live_7 net s told stop most (ends.over book looks station who journal all meets) = refl
-
--- in a simulation of decided clones
-simulation_7 : (mode : Mode) (source : SourceView) (net : Net) (clones : List Clone) (told : List (List ℕ))
-    (stop : Stop) (most : ℕ) → MaySimulate mode source net clones (overrun told stop most) → stop_status stop ≡ 7
-simulation_7 All source net clones told stop most h = run_7 net clones (study_texts source net clones) told stop most h
-simulation_7 (One name) source net clones told stop most h = alone_7 net clones name told stop most h
-simulation_7 Live source net clones told stop most h = absurd h
-
--- in a study that was read
-end_7 : (a : Assignment) (net : Net) (s : ScriptView) (told : List (List ℕ)) (stop : Stop) (most : ℕ)
-    → MayEnd a net s (overrun told stop most) → stop_status stop ≡ 7
-end_7 a net s told stop most (ends.simulation end none may) =
-    simulation_7 a.mode a.source net (clones_of net s) told stop most may
-end_7 a net s told stop most (ends.live end is may) = live_7 net s told stop most may
-
--- in the study of two texts
-come_7 : (a : Assignment) (m s : List ℕ) (told : List (List ℕ)) (stop : Stop) (most : ℕ)
-    → MayEndByTexts a m s (overrun told stop most) → stop_status stop ≡ 7
-come_7 a m s told stop most (ends.study net stated end is_model is_script may) = end_7 a net stated told stop most may
-
--- so a stop with a status up to 6 comes before any work
-idle_stop : (files : Option Files) (a : Assignment) (old new : ℕ) (told : List (List ℕ)) (stop : Stop)
-    → StoppedFor (IsLawfulEnding files a) old new told stop → stop_status stop ≤ 6 → new ≡ old
-idle_stop files a old new told stop (ends.at_once none may same) h = same
-idle_stop files a old new told stop (ends.at_limit most may few) h =
-    absurd (let s = come_7 a may.m may.s told stop most may.may in omega (arith, s, h))
-
--- ---- what is told before the line
-
--- in a run of all clones nothing is
-run_told : (net : Net) (clones : List Clone) (texts told : List (List ℕ)) (stop : Stop) (most : ℕ)
-    → MayRun net clones texts (overrun told stop most) → told ≡ []
-run_told net clones texts told stop most (ends.over station who meets) = refl
-
--- nor in the run of one clone by itself
-alone_told : (net : Net) (clones : List Clone) (name : List ℕ) (told : List (List ℕ)) (stop : Stop) (most : ℕ)
-    → MayRunAlone net clones name (overrun told stop most) → told ≡ []
-alone_told net clones name told stop most (ends.limit_met k station is meets) = refl
-
--- nor in a simulation of decided clones
-simulation_told : (mode : Mode) (source : SourceView) (net : Net) (clones : List Clone) (told : List (List ℕ))
-    (stop : Stop) (most : ℕ) → MaySimulate mode source net clones (overrun told stop most) → told ≡ []
-simulation_told All source net clones told stop most h =
-    run_told net clones (study_texts source net clones) told stop most h
-simulation_told (One name) source net clones told stop most h = alone_told net clones name told stop most h
-simulation_told Live source net clones told stop most h = absurd h
-
--- in a live study one text is
-live_told : (net : Net) (s : ScriptView) (told : List (List ℕ)) (stop : Stop) (most : ℕ)
-    → MayLive net s (overrun told stop most) → length told ≡ 1
-live_told net s told stop most (ends.over book looks station who journal all meets) = refl
-
--- so in a study that was read nothing is, or one text if it is a live one
-end_told : (a : Assignment) (net : Net) (s : ScriptView) (told : List (List ℕ)) (stop : Stop) (most : ℕ)
-    → MayEnd a net s (overrun told stop most) → (told ≡ []) ⊎ ((length told ≡ 1) × (a.mode ≡ Live))
-end_told a net s told stop most (ends.simulation end none may) =
-    inl (simulation_told a.mode a.source net (clones_of net s) told stop most may)
-end_told a net s told stop most (ends.live end is may) = inr (live_told net s told stop most may, is)
-
--- and so in the study of two texts
-come_told : (a : Assignment) (m s : List ℕ) (told : List (List ℕ)) (stop : Stop) (most : ℕ)
-    → MayEndByTexts a m s (overrun told stop most) → (told ≡ []) ⊎ ((length told ≡ 1) × (a.mode ≡ Live))
-come_told a m s told stop most (ends.study net stated end is_model is_script may) =
-    end_told a net stated told stop most may
-
--- what is told before the line of a stop, by its status
-preceded : (words : Option Assignment) (files : Option Files) (a : Assignment) (old new : ℕ) (told : List (List ℕ))
-    (stop : Stop)
-    → words ≡ Some a → StoppedFor (IsLawfulEnding files a) old new told stop → ArePreceded words (stop_status stop) told
-preceded words files a old new told stop is (ends.at_once none may same) = inl none
-preceded words files a old new told stop is (ends.at_limit most may few) =
-    by_kind (come_told a may.m may.s told stop most may.may)
-  where
-    by_kind : (told ≡ []) ⊎ ((length told ≡ 1) × (a.mode ≡ Live)) → ArePreceded words (stop_status stop) told
-    by_kind (inl none) = inl none
-    by_kind (inr one) = inr (come_7 a may.m may.s told stop most may.may, (one.0, (a, (is, one.1))))
-
-module _ (words : Option Assignment) (before after : Outside) where
   -- a line alone, by its cause
   one_line : (r : Refusal) → ArePutOrCut (error_line r ∷ []) before.errors after.errors
       → IsToldFor words before after (status_of r)
@@ -234,165 +222,163 @@ module _ (words : Option Assignment) (before after : Outside) where
   told_for _ (success a is finished fetches quiet) not_0 = absurd (not_0 refl)
   told_for _ (memory refused) not_0 = one_line OutOfMemory refused.told_is
   told_for _ (usage none refused inputs steps) not_0 = one_line Usage refused.told_is
-  told_for _ (no_model a is unread refused steps) not_0 = one_line NoModel refused.told_is
-  told_for _ (no_script a is has unread refused steps) not_0 = one_line NoScript refused.told_is
-  told_for _ (study_stop a is told stop why refused) not_0 = record {
+  told_for _ (unread a text is due not refused steps) not_0 = one_line (NotRead text) refused.told_is
+  told_for _ (stopped a s is may refused steps) not_0 = one_line (Stopped s) refused.told_is
+  told_for _ (exceeded a told e is why refused) not_0 = record {
     told = told;
-    refusal = Stopped stop;
+    refusal = Exceeded e;
     is = refl;
-    preceded = preceded words before.inputs.files a before.steps after.steps told stop is why;
+    preceded = preceded words before.inputs.files a before.steps after.steps told e is why;
     told_is = refused.told_is;
   }
   told_for _ (cut a is off told) not_0 = one_line CannotWrite told
 
-module _ (words : Option Assignment) (before after : Outside) where
-  -- where the status is 2 to 6, no message was handled
-  pub idle : (status : ℕ) → IsAnswer words before after status → 2 ≤ status → status ≤ 6 → after.steps ≡ before.steps
-  idle _ (success a is finished fetches quiet) l h = absurd (omega (arith, l))
-  idle _ (memory refused) l h = absurd (omega (arith, l))
-  idle _ (usage none refused inputs steps) l h = steps
-  idle _ (no_model a is unread refused steps) l h = steps
-  idle _ (no_script a is has unread refused steps) l h = steps
-  idle _ (study_stop a is told stop why refused) l h =
-      idle_stop before.inputs.files a before.steps after.steps told stop why h
-  idle _ (cut a is off told) l h = absurd (omega (arith, h))
-
 -- ---- what is written
 
--- a run of all clones writes the texts of all
-writes_all : (before after : Outside) (a : Assignment) (net : Net) (s : ScriptView) (texts : Net → List Clone
-    → List (List ℕ)) (put : List (List ℕ)) (work : ℕ)
-    → IsStudy before.inputs.files a net s
-    → MayRun net (clones_of net s) (texts net (clones_of net s)) (whole_output put work)
-    → ArePut put before.output after.output → after.steps ≡ before.steps + work → WritesAll texts before after a
-writes_all before after a net s texts put work study (ends.within within) are steps =
-    record { net = net; stated = s; study = study; within = within; put = are; steps = steps }
+-- these texts were put, for which so many messages were handled
+record ArePutFor (before after : Outside) (texts : List (List ℕ)) (work : ℕ) : Type 0 where
+  are : ArePut texts before.output after.output
+  steps : after.steps ≡ before.steps + work
 
--- the run of one clone by itself writes the text of that clone
-writes_one : (before after : Outside) (a : Assignment) (net : Net) (s : ScriptView) (name : List ℕ)
-    (put : List (List ℕ))
-    (work : ℕ)
-    → IsStudy before.inputs.files a net s → MayRunAlone net (clones_of net s) name (whole_output put work)
-    → ArePut put before.output after.output → after.steps ≡ before.steps + work → WritesOne name before after a
-writes_one before after a net s name put work study (ends.fits k is within) are steps =
-    record { net = net; stated = s; study = study; place = k; named = is; within = within; put = are; steps = steps }
+module _ (before after : Outside) where
+  -- a run of all clones writes the texts of all
+  writes_all : (a : AssignmentView) (net : Net) (s : ScriptView) (meets : ℕ → ℕ → Type 0)
+      (texts : Net → List Clone → List (List ℕ)) (put : List (List ℕ)) (work : ℕ) → IsStudy before.inputs.files a net s
+      → ArePutFor before after put work
+      → MayRun net (clones_of net s) meets (texts net (clones_of net s)) (whole_output put work)
+      → WritesAll texts before after a
+  writes_all a net s meets texts put work study p (ends.within within) =
+      record { net = net; stated = s; study = study; within = within; put = p.are; steps = p.steps }
 
--- a simulation of decided clones writes what its mode and its source ask for
-writes_by : (before after : Outside) (a : Assignment) (net : Net) (s : ScriptView) (put : List (List ℕ)) (work : ℕ)
-    (mode : Mode) (source : SourceView)
-    → IsStudy before.inputs.files a net s → MaySimulate mode source net (clones_of net s) (whole_output put work)
-    → ArePut put before.output after.output → after.steps ≡ before.steps + work → Writes mode source before after a
-writes_by before after a net s put work All (FileNames m t) study may are steps =
-    writes_all before after a net s run_texts put work study may are steps
-writes_by before after a net s put work All (Number n) study may are steps =
-    writes_all before after a net s (λ k cs. report k cs ∷ []) put work study may are steps
-writes_by before after a net s put work (One name) source study may are steps =
-    writes_one before after a net s name put work study may are steps
-writes_by before after a net s put work Live source study may are steps = absurd may
+  -- the run of one clone alone writes the text of that clone
+  writes_one : (a : AssignmentView) (net : Net) (s : ScriptView) (name : List ℕ) (part : Net → Clone → Clone)
+      (written : Net → Clone → Result (List ℕ) Excess) (put : List (List ℕ)) (work : ℕ)
+      → IsStudy before.inputs.files a net s → ArePutFor before after put work
+      → MayRunAlone net (clones_of net s) name (part net) (written net) (whole_output put work)
+      → WritesOne name part written before after a
+  writes_one a net s name part written put work study p (ends.fits k text is within text_is) = record {
+    net = net;
+    stated = s;
+    study = study;
+    place = k;
+    named = is;
+    within = within;
+    text = text;
+    text_is = text_is;
+    put = p.are;
+    steps = p.steps;
+  }
 
--- a live study writes its journal and the texts of all clones
-writes_live : (before after : Outside) (a : Assignment) (net : Net) (s : ScriptView) (put : List (List ℕ)) (work : ℕ)
-    → IsReadStudy a.source before.inputs.files net s → MayLive net s (whole_output put work)
-    → ArePut put before.output after.output → after.steps ≡ before.steps + work → WritesLive before after a
-writes_live before after a net s put work read (ends.finished book looks journal last seen within) are steps = record {
-  net = net;
-  stated = s;
-  read = read;
-  book = book;
-  looks = looks;
-  journal = journal;
-  at_horizon = last;
-  looks_are = seen;
-  within = within;
-  put = are;
-  steps = steps;
-}
+  -- a simulation of decided clones writes what its mode asks for
+  writes_by : (mode : Mode) (a : AssignmentView) (net : Net) (s : ScriptView) (put : List (List ℕ)) (work : ℕ)
+      → IsStudy before.inputs.files a net s → ArePutFor before after put work
+      → MaySimulate mode net (clones_of net s) (whole_output put work) → WritesIn mode before after a
+  writes_by (Solo name) a net s put work study p may =
+      writes_one a net s name (λ n. whole) solo_text put work study p may
+  writes_by mode a net s put work study p may =
+      writes_all a net s (mode_meets mode net (clones_of net s)) (mode_texts mode) put work study p may
 
--- a study that was read writes what is asked
-writes_end : (before after : Outside) (a : Assignment) (m s : List ℕ) (net : Net) (stated : ScriptView)
-    (put : List (List ℕ)) (work : ℕ)
-    → AreTexts a.source before.inputs.files m s → model m ≡ Ok net → script s ≡ Ok stated
-    → MayEnd a net stated (whole_output put work)
-    → ArePut put before.output after.output → after.steps ≡ before.steps + work → Writes a.mode a.source before after a
-writes_end before after a m s net stated put work texts is_model is_script (ends.simulation end none may) are steps =
-    writes_by before after a net stated put work a.mode a.source (record {
-      read = record { m = m; s = s; texts = texts; is_model = is_model; is_script = is_script };
-      accepted = none;
-    }) may are steps
-writes_end before after a m s net stated put work texts is_model is_script (ends.live end is may) are steps =
-    subst (λ mode. Writes mode a.source before after a) (sym is)
-    (writes_live before after a net stated put work
-    (record { m = m; s = s; texts = texts; is_model = is_model; is_script = is_script }) may are steps)
+  -- a study of which there is the script's text
+  writes_study : (ends_so : ScriptView → Ending → Type 0) (W : Type 0) (s : List ℕ) (put : List (List ℕ)) (work : ℕ)
+      → ((stated : ScriptView) → script s ≡ Ok stated → ends_so stated (whole_output put work) → W)
+      → MayStudy ends_so s (whole_output put work) → W
+  writes_study ends_so W s put work each (ends.study stated _ is may) = each stated is may
 
--- and so does the study of two texts
-writes_come : (before after : Outside) (a : Assignment) (m s : List ℕ) (put : List (List ℕ)) (work : ℕ)
-    → AreTexts a.source before.inputs.files m s → MayEndByTexts a m s (whole_output put work)
-    → ArePut put before.output after.output → after.steps ≡ before.steps + work → Writes a.mode a.source before after a
-writes_come before after a m s put work texts (ends.study net stated end is_model is_script may) are steps =
-    writes_end before after a m s net stated put work texts is_model is_script may are steps
+  module _ (a : AssignmentView) (t : Text → List ℕ) (net : Net) (texts : AreTexts a before.inputs.files t)
+      (is_model : model (t Model) ≡ Ok net) where
+    -- a live study writes its journal and the texts of all clones
+    writes_live : (s : ScriptView) (put : List (List ℕ)) (work : ℕ) → script (t Script) ≡ Ok s
+        → ArePutFor before after put work → MayLive net s (whole_output put work) → WritesLive before after a
+    writes_live s put work is_script p (ends.finished book looks journal last seen within) = record {
+      net = net;
+      stated = s;
+      read = record { t = t; texts = texts; is_model = is_model; is_script = is_script };
+      book = book;
+      looks = looks;
+      journal = journal;
+      at_horizon = last;
+      looks_are = seen;
+      within = within;
+      put = p.are;
+      steps = p.steps;
+    }
 
-module _ (words : Option Assignment) (before after : Outside) where
+    -- a study whose decisions are all made first writes what its clones come to
+    writes_decided : (mode : Mode) (s : ScriptView) (put : List (List ℕ)) (work : ℕ) → script (t Script) ≡ Ok s
+        → ArePutFor before after put work → MayDecide (MaySimulate mode net) net s (whole_output put work)
+        → WritesIn mode before after a
+    writes_decided mode s put work is_script p (ends.simulation _ accepted may) = writes_by mode a net s put work
+        (record {
+          read = record { t = t; texts = texts; is_model = is_model; is_script = is_script };
+          accepted = accepted;
+        }) p may
+
+  -- an assignment over a model
+  writes_follow : (a : AssignmentView) (t : Text → List ℕ) (net : Net) (put : List (List ℕ)) (work : ℕ)
+      → AreTexts a before.inputs.files t → model (t Model) ≡ Ok net → ArePutFor before after put work
+      → MayFollow a t net (whole_output put work) → Writes a before after
+  writes_follow (Study source mode) t net put work texts is_model p may =
+      writes_study (MayEnd mode net) _ (t Script) put work
+      (λ s is m. writes_decided (Study source mode) t net texts is_model mode s put work is p m) may
+  writes_follow (Live m s) t net put work texts is_model p may = writes_study (MayLive net) _ (t Script) put work
+      (λ stated is h. writes_live (Live m s) t net texts is_model stated put work is p h) may
+
+  -- an assignment
+  writes_come : (a : AssignmentView) (t : Text → List ℕ) (put : List (List ℕ)) (work : ℕ)
+      → AreTexts a before.inputs.files t → ArePutFor before after put work → MayEndByTexts a t (whole_output put work)
+      → Writes a before after
+  writes_come a t put work texts p (ends.read net _ is_model may) = writes_follow a t net put work texts is_model p may
+
+module _ (words : Option AssignmentView) (before after : Outside) where
   -- status 0 means that the whole output is written, and nothing told
   pub finished : (status : ℕ) → IsAnswer words before after status → status ≡ 0 → IsWritten words before after
   finished _ (success a is done fetches quiet) is_0 = record {
     a = a;
     asks = is;
-    writes = writes_come before after a done.wrote.may.m done.wrote.may.s done.texts done.wrote.work
-        done.wrote.may.texts done.wrote.may.may
-        done.put done.wrote.steps;
+    writes = writes_come before after a done.wrote.may.t done.texts done.wrote.work done.wrote.may.texts
+        (record { are = done.put; steps = done.wrote.steps }) done.wrote.may.may;
     fetches = fetches;
     quiet = quiet;
   }
   finished _ (memory refused) is_0 = absurd (omega (arith, is_0))
   finished _ (usage none refused inputs steps) is_0 = absurd (omega (arith, is_0))
-  finished _ (no_model a is unread refused steps) is_0 = absurd (omega (arith, is_0))
-  finished _ (no_script a is has unread refused steps) is_0 = absurd (omega (arith, is_0))
-  finished _ (study_stop a is told stop why refused) is_0 =
-      absurd (let l = stop_status-low stop in omega (arith, is_0, l))
+  finished _ (unread a text is due not refused steps) is_0 = absurd (omega (arith, is_0))
+  finished _ (stopped a s is may refused steps) is_0 = absurd (let l = stop_status-low s in omega (arith, is_0, l))
+  finished _ (exceeded a told e is why refused) is_0 = absurd (let l = excess_status-low e in omega (arith, is_0, l))
   finished _ (cut a is off told) is_0 = absurd (omega (arith, is_0))
 
 -- ---- an ending comes
 
 module _ (before after : Outside) where
-  -- where a study stopped, a lawful ending with the status of the stop comes
-  comes_stopped : (a : Assignment) (told : List (List ℕ)) (stop : Stop)
-      → StoppedFor (IsLawfulEnding before.inputs.files a) before.steps after.steps told stop
-      → (end : Ending) × (IsLawfulEnding before.inputs.files a end × IsStatusOf end
-      (HasRisen before.output.faults after.output.faults)
-      (stop_status stop))
-  comes_stopped a told stop (ends.at_once none may same) = (early_stop stop, (may, refl))
-  comes_stopped a told stop (ends.at_limit most may few) = (overrun told stop most, (may, refl))
-
   -- where no input failed, a text that was not read is not there
-  unread-no_fault : (a : Assignment) (text : Text) (source : SourceView) → ¬ (InputsFailed before after)
-      → IsUnread (InputsFailed before after) source text before.inputs.files
-      → IsUnread ⊥ source text before.inputs.files
-  unread-no_fault a text (FileNames m s) none (inl failed) = absurd (none failed)
-  unread-no_fault a text (FileNames m s) none (inr lacks) = inr lacks
-  unread-no_fault a text (Number n) none h = h
+  unread-no_fault : (from : Origin) → ¬ (InputsFailed before after)
+      → IsUnreadFrom (InputsFailed before after) from before.inputs.files → IsUnreadFrom ⊥ from before.inputs.files
+  unread-no_fault (in_file name) well (inl failed) = absurd (well failed)
+  unread-no_fault (in_file name) well (inr lacks) = inr lacks
+  unread-no_fault (made text) well h = h
 
   -- out of memory is an answer to all that is asked
-  of_memory : (words : Option Assignment) → Completes words before after 1
+  of_memory : (words : Option AssignmentView) → Completes words before after 1
   of_memory None = inl refl
   of_memory (Some a) = λ well. inl refl
 
   -- where no input failed, the answer is out of memory, usage, a text that is not there, or a lawful ending
-  pub completes : (words : Option Assignment) (status : ℕ) → IsAnswer words before after status
+  pub completes : (words : Option AssignmentView) (status : ℕ) → IsAnswer words before after status
       → Completes words before after status
   completes words _ (success a is done fetches quiet) =
       subst (λ w. Completes w before after 0) (sym is)
       (λ well. inr (inr (whole_output done.texts done.wrote.work, (done.wrote.may, inl refl))))
   completes words _ (memory refused) = of_memory words
   completes words _ (usage none refused inputs steps) = subst (λ w. Completes w before after 2) (sym none) (inr refl)
-  completes words _ (no_model a is unread refused steps) =
+  completes words _ (unread a text is due not refused steps) =
       subst (λ w. Completes w before after 3) (sym is)
-      (λ well. inr (inl (refl, inl (unread-no_fault a Model a.source well unread))))
-  completes words _ (no_script a is has unread refused steps) =
-      subst (λ w. Completes w before after 3) (sym is)
-      (λ well. inr (inl (refl, inr (unread-no_fault a Script a.source well unread))))
-  completes words _ (study_stop a is told stop why refused) =
-      subst (λ w. Completes w before after (stop_status stop)) (sym is)
-      (λ well. inr (inr (comes_stopped a told stop why)))
+      (λ well. inr (inl (refl, (text, (due, unread-no_fault (origin_of a text) well not)))))
+  completes words _ (stopped a s is may refused steps) =
+      subst (λ w. Completes w before after (stop_status s)) (sym is)
+      (λ well. inr (inr (early_stop s, (may, refl))))
+  completes words _ (exceeded a told e is why refused) =
+      subst (λ w. Completes w before after (excess_status e)) (sym is)
+      (λ well. inr (inr (overrun told e why.most, (why.may, refl))))
   completes words _ (cut a is off told) =
       subst (λ w. Completes w before after 8) (sym is)
       (λ well. inr (inr (whole_output off.texts off.wrote.work, (off.wrote.may, inr (refl, off.cut.failed)))))

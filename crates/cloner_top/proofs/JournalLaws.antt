@@ -19,6 +19,7 @@ use Rattle.live_study.specs.Scripts.{acts_by}
 use Rattle.live_study.proofs.Texts.{callers_within}
 use Rattle.cloner_top.specs.Deciding.{by_line, decision_lines, first_refused}
 use Rattle.cloner_top.specs.Endings.{MayRun, run_texts, simulation, whole_output, within}
+use Rattle.study_run.specs.Limits.{MeetsLimit}
 use Rattle.cloner_top.specs.Journals.{JournalRunsTheSame}
 use Rattle.world_core.specs.Worlds.{total_handled}
 
@@ -76,7 +77,7 @@ calls_are many n (c ∷ calls) callers each = (
 
 -- within the limit, `run` of a journal read as a script may end by writing the texts of the clones that it leaves
 pub journal_runs : JournalRunsTheSame
-journal_runs net s book model text valid stated journal short =
+journal_runs net s book valid stated journal short =
     let many = length s.analysts in
     let items = recursion_from_All (IsItem many) s.items stated.valid in
     let callers = recursion_from_All (λ (c : Call). IsAnalyst many c.caller) (calls_of book.events)
@@ -96,7 +97,7 @@ journal_runs net s book model text valid stated journal short =
       read = r.read;
       may = simulation (whole_output (run_texts net (after net book.events).clones)
           (total_handled net (after net book.events).clones net.horizon)) none
-          (subst (λ (cs : List Clone). MayRun net cs (run_texts net cs)
+          (subst (λ (cs : List Clone). MayRun net cs (MeetsLimit net cs) (run_texts net cs)
           (whole_output (run_texts net (after net book.events).clones)
           (total_handled net (after net book.events).clones net.horizon))) (sym r.clones) (within short));
     }

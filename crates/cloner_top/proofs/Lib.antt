@@ -3,7 +3,7 @@ pub mod Puts
 pub mod Endings
 pub mod FactLaws
 pub mod Runs
-pub mod Obeying
+pub mod Preparing
 pub mod RunPuts
 pub mod OwnScriptLaws
 pub mod LiveRuns

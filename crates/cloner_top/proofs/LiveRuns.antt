@@ -22,13 +22,14 @@ use Rattle.live_study.specs.declared.run.LiveRun.{LiveRun}
 use Rattle.cloner_top.specs.declared.halt.Halt.{Halt}
 use Rattle.cloner_top.specs.declared.halt.Halt.TheVariants as halt
 use Rattle.cloner_top.specs.declared.refusal.Refusal.{Refusal}
-use Rattle.cloner_top.specs.declared.refusal.Refusal.TheVariants.{OutOfMemory, Usage, NoModel}
-use Rattle.cloner_top.specs.declared.refusal.Refusal.TheVariants.{NoScript, Stopped, CannotWrite}
+use Rattle.cloner_top.specs.declared.refusal.Refusal.TheVariants.{OutOfMemory, Usage, NotRead}
+use Rattle.cloner_top.specs.declared.refusal.Refusal.TheVariants.{Stopped, Exceeded, CannotWrite}
 use Rattle.cloner_top.specs.Deciding.{clones_of_book}
-use Rattle.cloner_top.specs.Endings.{MayLive, StoppedFor, at_limit, finished, limit_stop, over, run_texts, whole_output}
+use Rattle.cloner_top.specs.Endings.{HasWritten, IsExcessOf, MayLive, finished, limit_met_at, over_live, run_texts}
+use Rattle.cloner_top.specs.Endings.{whole_output}
 use Rattle.cloner_top.specs.LiveRuns.{HaltsFor, IsJournaledRun, IsLiveWorld, IsOverrun, StopsLive}
-use Rattle.cloner_top.specs.Outsides.{ArePut, IsFailed, IsHalted, IsNotPut, IsStudyPut}
-use Rattle.cloner_top.proofs.Endings.{all_put, not_put}
+use Rattle.cloner_top.specs.Outsides.{AreDone, IsDone, IsHalted}
+use Rattle.cloner_top.proofs.Endings.{put_done}
 use Rattle.cloner_top.proofs.Runs.{short_planned}
 
 -- ---- IsJournaledRun
@@ -100,16 +101,19 @@ module _ (net : Net) (s : ScriptView) (old_steps new_steps : ℕ) (live : LiveRu
     where
       told_limit : (station who : ℕ) (h : Halt) → StopsEngine net live.book.events (LimitMet station who)
           → new_steps ≡ old_steps
-          → IsOverrun text (limit_stop net station (clone_at (after net live.book.events).clones who).name) h
+          → IsOverrun text (limit_met_at net station (clone_at (after net live.book.events).clones who).name) h
           → StopsLive net s old_steps new_steps h
       told_limit station who (halt.Refused refusal) stopped idle is = absurd is
-      told_limit station who (halt.Overrun journal stop) stopped idle is =
-          subst (λ x. StoppedFor (MayLive net s) old_steps new_steps (x ∷ []) stop) (sym (is.0 ∙ ran.text_is))
-          (subst (λ x. StoppedFor (MayLive net s) old_steps new_steps
+      told_limit station who (halt.Overrun journal excess) stopped idle is =
+          subst (λ x. IsExcessOf (MayLive net s) old_steps new_steps (x ∷ []) excess) (sym (is.0 ∙ ran.text_is))
+          (subst (λ x. IsExcessOf (MayLive net s) old_steps new_steps
           (journal_text s.analysts live.book.events (all_looks live.looks.items) ∷ []) x) (sym is.1)
-          (at_limit (most_handled net (length (after net live.book.events).clones))
-          (over live.book (all_looks live.looks.items) station who ran.live_run.journal ran.live_run.made stopped)
-          (omega (arith, idle))))
+          (record {
+            most = most_handled net (length (after net live.book.events).clones);
+            may = over_live live.book (all_looks live.looks.items) station who ran.live_run.journal ran.live_run.made
+                stopped;
+            steps = omega (arith, idle);
+          }))
 
       by_fault : (e : StudyFault) (h : Halt) → StopsEngine net live.book.events e → new_steps ≡ old_steps
           → HaltsFor net live.book.events text e h → StopsLive net s old_steps new_steps h
@@ -121,30 +125,21 @@ module _ (net : Net) (s : ScriptView) (old_steps new_steps : ℕ) (live : LiveRu
 -- a live study without texts is not written
 pub stops_halted : (net : Net) (s : ScriptView) (old_steps new_steps : ℕ) (out : SinkView) (h : Halt)
     → StopsLive net s old_steps new_steps h → IsHalted (MayLive net s) old_steps new_steps out out h
-stops_halted net s old_steps new_steps out (halt.Overrun journal stop) h = (h, refl)
+stops_halted net s old_steps new_steps out (halt.Overrun journal excess) h = (h, refl)
 stops_halted net s old_steps new_steps out (halt.Refused OutOfMemory) h = refl
 stops_halted net s old_steps new_steps out (halt.Refused Usage) h = absurd h
-stops_halted net s old_steps new_steps out (halt.Refused NoModel) h = absurd h
-stops_halted net s old_steps new_steps out (halt.Refused NoScript) h = absurd h
+stops_halted net s old_steps new_steps out (halt.Refused (NotRead text)) h = absurd h
 stops_halted net s old_steps new_steps out (halt.Refused (Stopped stop)) h = absurd h
+stops_halted net s old_steps new_steps out (halt.Refused (Exceeded excess)) h = absurd h
 stops_halted net s old_steps new_steps out (halt.Refused CannotWrite) h = absurd h
 
--- the texts of a live study were put, or not
-module _ (net told : Net) (s : ScriptView) (old_steps new_steps : ℕ) (w : WorldView) (text put : List ℕ)
-    (is : IsLiveWorld net s old_steps new_steps w text) (same_net : told ≡ net) (same_text : put ≡ text)
-    (old new : SinkView) where
-  -- the texts, by other names of the network and of the journal
-  texts_same : put ∷ run_texts told w.clones ≡ text ∷ run_texts net w.clones
-  texts_same = ap₂ (λ t (n : Net). t ∷ run_texts n w.clones) same_text same_net
-
-  -- where the journal and the texts of the run were put, the live study is written
-  pub live_finished : ArePut (put ∷ run_texts told w.clones) old new
-      → IsStudyPut (MayLive net s) old_steps new_steps old new
-  live_finished are = all_put (MayLive net s) old_steps new_steps (total_handled net w.clones net.horizon)
-      (text ∷ run_texts net w.clones) is.may is.steps old new (subst (λ t. ArePut t old new) texts_same are)
-
-  -- where they were not put, the cause is why it is not written
-  pub live_unfinished : (r : Refusal) → IsNotPut (put ∷ run_texts told w.clones) old new r
-      → IsFailed (MayLive net s) old_steps new_steps old new r
-  live_unfinished r are = not_put (MayLive net s) old_steps new_steps (total_handled net w.clones net.horizon)
-      (text ∷ run_texts net w.clones) is.may is.steps old new r (subst (λ t. IsNotPut t old new r) texts_same are)
+-- the texts of a live study were put, or why not
+pub live_done : {T : Type 0} (net told : Net) (s : ScriptView) (old_steps new_steps : ℕ) (w : WorldView)
+    (text put : List ℕ) → IsLiveWorld net s old_steps new_steps w text → told ≡ net → put ≡ text
+    → (old new : SinkView) (r : Result T Refusal) → AreDone (put ∷ run_texts told w.clones) old new r
+    → IsDone (MayLive net s) old_steps new_steps old new r
+live_done net told s old_steps new_steps w text put is same_net same_text old new r h =
+    let wrote : HasWritten (MayLive net s) old_steps new_steps (text ∷ run_texts net w.clones) =
+    record { work = total_handled net w.clones net.horizon; may = is.may; steps = is.steps } in
+    put_done (MayLive net s) old_steps new_steps (text ∷ run_texts net w.clones) old new r wrote
+    (subst (λ t. AreDone t old new r) (ap₂ (λ t (n : Net). t ∷ run_texts n w.clones) same_text same_net) h)

@@ -53,7 +53,7 @@ count_both n zero before = let e : n ≡ n + 0 = omega arith in ap (λ j. counts
 count_both n (suc m) before = let e : suc (n + m) ≡ n + suc m = omega arith in
     ap next_count (count_both n m before) ∙ ap (λ j. counts_after j before) e
 
-counted_both : (n m : ℕ) (old mid new : Option ℕ) → AreCounted n old mid → AreCounted m mid new
+pub counted_both : (n m : ℕ) (old mid new : Option ℕ) → AreCounted n old mid → AreCounted m mid new
     → AreCounted (n + m) old new
 counted_both n m None mid new h k = let e : mid ≡ None = h in (rw e at k)
 counted_both n m (Some o) mid new h k = let e : mid ≡ Some (counts_after n o) = h in

@@ -1,7 +1,6 @@
 -- The texts of a run: each clone's trace text, put from one buffer, and then the report.
 use Rattle.std.proofs.Common.{◌≡◌, ◌≤◌, ℕ, refl, sym, ap, subst, ◌∙◌, List, []}
-use Rattle.std.proofs.Common.{◌∷◌, ◌++◌, length, map, Result, Ok, Err, IfErr, OnOk}
-use Rattle.std.proofs.lemmas.Result.{on_ok_weaker}
+use Rattle.std.proofs.Common.{◌∷◌, ◌++◌, length, map, Result, Ok, Err, IfErr}
 use Rattle.sim_base.specs.Clones.{Clone}
 use Rattle.sim_outer.specs.Bytes.{IsAppended}
 use Rattle.sim_outer.specs.Counts.{AreCounted}
@@ -12,7 +11,7 @@ use Rattle.rolling_text.specs.Puts.{AreCut}
 use Rattle.cloner_top.specs.declared.refusal.Refusal.{Refusal}
 use Rattle.cloner_top.specs.declared.refusal.Refusal.TheVariants.{CannotWrite}
 use Rattle.cloner_top.specs.Endings.{run_texts}
-use Rattle.cloner_top.specs.Outsides.{ArePut, IsNotPut}
+use Rattle.cloner_top.specs.Outsides.{AreDone, ArePut, IsNotPut}
 use Rattle.cloner_top.proofs.Puts.{cut_before, cut_last, cut_then, put_more, put_then}
 
 -- ---- run_texts, clone_texts
@@ -28,39 +27,28 @@ same_texts : (told net : Net) (those cs : List Clone) → told ≡ net → those
 same_texts told net those cs same_net same_clones = ap (λ (n : Net). clone_texts n those) same_net
     ∙ ap (clone_texts net) same_clones
 
--- ---- ArePut, IsNotPut, AreCut, of a run
+-- ---- AreDone, AreCut, of a run
 module _ (told net : Net) (those cs : List Clone) (same_net : told ≡ net) (same_clones : those ≡ cs) where
-  module _ (last : List ℕ) (last_is : last ≡ report net cs) (old mid new : SinkView) {T : Type 0}
-      (r : Result T Refusal) where
-    -- the traces were put, and then the report
-    pub all_texts_put : OnOk r (ArePut (last ∷ []) mid new) → IsAppended old.bytes (clone_texts told those) mid.bytes
-        → AreCounted (length those) old.calls mid.calls
-        → OnOk r (ArePut (run_texts net cs) old new)
-    all_texts_put h bytes calls =
-        on_ok_weaker r (λ put. subst (λ t. ArePut t old new) (texts_are net cs last last_is)
-        (put_more (clone_text net) cs last old mid new
-        (subst (λ t. IsAppended old.bytes t mid.bytes) (same_texts told net those cs same_net same_clones) bytes)
-        (subst (λ l. AreCounted (length l) old.calls mid.calls) same_clones calls) put)) h
+  module _ (last : List ℕ) (last_is : last ≡ report net cs) (old mid new : SinkView)
+      (bytes : IsAppended old.bytes (clone_texts told those) mid.bytes)
+      (calls : AreCounted (length those) old.calls mid.calls) where
+    -- the bytes of the traces, by other names of the network and of the clones
+    bytes_same : IsAppended old.bytes (clone_texts net cs) mid.bytes
+    bytes_same = subst (λ t. IsAppended old.bytes t mid.bytes) (same_texts told net those cs same_net same_clones) bytes
 
-    -- the report was cut off
-    pub report_cut : IfErr r (λ e. IsNotPut (last ∷ []) mid new e) → IfErr r (λ e. e ≡ CannotWrite)
-        → IsAppended old.bytes (clone_texts told those) mid.bytes
-        → AreCounted (length those) old.calls mid.calls → old.faults ≤ mid.faults
-        → IfErr r (λ e. IsNotPut (run_texts net cs) old new e)
-    report_cut h cause bytes calls later = of_result r h cause
-      where
-        cut : AreCut (last ∷ []) mid new → AreCut (run_texts net cs) old new
-        cut off = subst (λ t. AreCut t old new) (texts_are net cs last last_is)
-            (cut_last (clone_text net) cs last old mid new
-            (subst (λ t. IsAppended old.bytes t mid.bytes) (same_texts told net those cs same_net same_clones) bytes)
-            (subst (λ l. AreCounted (length l) old.calls mid.calls) same_clones calls) later off)
+    -- and their calls
+    calls_same : AreCounted (length cs) old.calls mid.calls
+    calls_same = subst (λ l. AreCounted (length l) old.calls mid.calls) same_clones calls
 
-        of_result : {T : Type 0} (r : Result T Refusal) → IfErr r (λ e. IsNotPut (last ∷ []) mid new e)
-            → IfErr r (λ e. e ≡ CannotWrite)
-            → IfErr r (λ e. IsNotPut (run_texts net cs) old new e)
-        of_result (Ok t) h k = tt
-        of_result (Err e) h k = subst (λ x. IsNotPut (run_texts net cs) old new x) (sym k)
-            (cut (subst (λ x. IsNotPut (last ∷ []) mid new x) k h))
+    -- the traces were put, and then the report, or it was cut off
+    pub run_texts_done : {T : Type 0} (r : Result T Refusal) → AreDone (last ∷ []) mid new r
+        → IfErr r (λ e. e ≡ CannotWrite) → old.faults ≤ mid.faults → AreDone (run_texts net cs) old new r
+    run_texts_done (Ok t) put cause later = subst (λ t. ArePut t old new) (texts_are net cs last last_is)
+        (put_more (clone_text net) cs last old mid new bytes_same calls_same put)
+    run_texts_done (Err e) cut cause later = subst (λ x. IsNotPut (run_texts net cs) old new x) (sym cause)
+        (subst (λ t. AreCut t old new) (texts_are net cs last last_is)
+        (cut_last (clone_text net) cs last old mid new bytes_same calls_same later
+        (subst (λ x. IsNotPut (last ∷ []) mid new x) cause cut)))
 
   -- the traces were cut off
   pub traces_cut : (old new : SinkView) → AreCut (map (clone_text told) those) old new
@@ -71,28 +59,19 @@ module _ (told net : Net) (those cs : List Clone) (same_net : told ≡ net) (sam
       same : map (clone_text told) those ≡ map (clone_text net) cs
       same = ap (λ (n : Net). map (clone_text n) those) same_net ∙ ap (map (clone_text net)) same_clones
 
--- ---- ArePut, IsNotPut, of a journal and a run
+-- ---- AreDone, of a journal and a run
 -- a journal was put, and then the texts of a run
 module _ (journal : List ℕ) (told net : Net) (those cs : List Clone) (same_net : told ≡ net) (same_clones : those ≡ cs)
-    (old mid new : SinkView) {T : Type 0} (r : Result T Refusal) (put : ArePut (journal ∷ []) old mid) where
+    (old mid new : SinkView) (put : ArePut (journal ∷ []) old mid) (later : old.faults ≤ mid.faults) where
   -- the texts of the run, by other names of the network and of the clones
   run_same : run_texts told those ≡ run_texts net cs
   run_same = ap (λ (n : Net). run_texts n those) same_net ∙ ap (run_texts net) same_clones
 
-  -- where the texts of the run were put after the journal, all of them were put
-  pub journal_put : OnOk r (ArePut (run_texts told those) mid new)
-      → OnOk r (ArePut (journal ∷ run_texts net cs) old new)
-  journal_put h = on_ok_weaker r (λ more. put_then journal (run_texts net cs) old mid new put
-      (subst (λ t. ArePut t mid new) run_same more)) h
-
-  -- or those were cut off
-  pub run_cut : old.faults ≤ mid.faults → IfErr r (λ e. IsNotPut (run_texts told those) mid new e)
-      → IfErr r (λ e. e ≡ CannotWrite) → IfErr r (λ e. IsNotPut (journal ∷ run_texts net cs) old new e)
-  run_cut later h cause = of_result r h cause
-    where
-      of_result : {T : Type 0} (r : Result T Refusal) → IfErr r (λ e. IsNotPut (run_texts told those) mid new e)
-          → IfErr r (λ e. e ≡ CannotWrite) → IfErr r (λ e. IsNotPut (journal ∷ run_texts net cs) old new e)
-      of_result (Ok t) h k = tt
-      of_result (Err e) h k = subst (λ x. IsNotPut (journal ∷ run_texts net cs) old new x) (sym k)
-          (cut_then journal (run_texts net cs) old mid new put later
-          (subst (λ t. AreCut t mid new) run_same (subst (λ x. IsNotPut (run_texts told those) mid new x) k h)))
+  -- the texts of the run were put after the journal, or they were cut off
+  pub journal_done : {T : Type 0} (r : Result T Refusal) → AreDone (run_texts told those) mid new r
+      → IfErr r (λ e. e ≡ CannotWrite) → AreDone (journal ∷ run_texts net cs) old new r
+  journal_done (Ok t) more cause = put_then journal (run_texts net cs) old mid new put
+      (subst (λ t. ArePut t mid new) run_same more)
+  journal_done (Err e) cut cause = subst (λ x. IsNotPut (journal ∷ run_texts net cs) old new x) (sym cause)
+      (cut_then journal (run_texts net cs) old mid new put later
+      (subst (λ t. AreCut t mid new) run_same (subst (λ x. IsNotPut (run_texts told those) mid new x) cause cut)))

@@ -3,23 +3,23 @@ use Rattle.std.specs.Prelude.{◌≡◌, ℕ, List, [], ◌∷◌, ◌++◌, Opt
 use Rattle.sim_outer.specs.Counts.{AreCounted, HasRisen}
 use Rattle.sim_outer.specs.Files.{Files}
 use Rattle.sim_outer.specs.Views.{InputsView, SinkView}
-use Rattle.command_words.specs.Requests.{Assignment, form}
-use Rattle.cloner_top.specs.declared.reading.Text.TheVariants.{Model, Script}
+use Rattle.command_words.specs.Requests.{AssignmentView, form}
+use Rattle.cloner_top.specs.declared.excess.Excess.{Excess}
 use Rattle.cloner_top.specs.declared.halt.Halt.{Halt}
 use Rattle.cloner_top.specs.declared.halt.Halt.TheVariants.{Refused, Overrun}
 use Rattle.cloner_top.specs.declared.refusal.Refusal.{Refusal}
-use Rattle.cloner_top.specs.declared.refusal.Refusal.TheVariants.{OutOfMemory, Usage, NoModel}
-use Rattle.cloner_top.specs.declared.refusal.Refusal.TheVariants.{NoScript, Stopped, CannotWrite}
+use Rattle.cloner_top.specs.declared.refusal.Refusal.TheVariants.{OutOfMemory, Usage, NotRead}
+use Rattle.cloner_top.specs.declared.refusal.Refusal.TheVariants.{Stopped, Exceeded, CannotWrite}
+use Rattle.cloner_top.specs.declared.refusal.Text.{Text}
 use Rattle.cloner_top.specs.declared.stop.Stop.{Stop}
-use Rattle.cloner_top.specs.Endings.{Ending, MayEndByTexts, StoppedFor}
+use Rattle.cloner_top.specs.Endings.{Ending, IsExcessOf, MayEndByTexts, early_stop}
 use Rattle.cloner_top.specs.Outsides.{ArePutOrCut, IsFailed, IsHalted, IsStudyCut, IsStudyPut}
-use Rattle.cloner_top.specs.Plans.{HasModel}
 use Rattle.cloner_top.specs.Refusals.{error_line}
-use Rattle.cloner_top.specs.Stops.{stop_status}
-use Rattle.cloner_top.specs.Texts.{AreTexts, IsUnread, all_fetches}
+use Rattle.cloner_top.specs.Stops.{excess_status, stop_status}
+use Rattle.cloner_top.specs.Texts.{AreTexts, IsDue, IsUnread, all_fetches}
 
 -- what the words ask for, whoever does it, if the command line has a known form
-abbrev pub assignment_of : List (List ℕ) → Option Assignment
+abbrev pub assignment_of : List (List ℕ) → Option AssignmentView
 assignment_of words = option_map (λ r. r.assignment) (form words)
 
 -- the inputs, the output, the error sink, and how many messages were handled
@@ -33,12 +33,11 @@ pub record Outside : Type 0 where
 abbrev pub outside_of : InputsView → SinkView → SinkView → ℕ → Outside
 outside_of inputs output errors steps = record { inputs = inputs; output = output; errors = errors; steps = steps }
 
--- a lawful ending of what is asked, by two texts that are those of the study as far as the files are known
-pub record IsLawfulEnding (files : Option Files) (a : Assignment) (end : Ending) : Type 0 where
-  pub m : List ℕ
-  pub s : List ℕ
-  pub texts : AreTexts a.source files m s
-  pub may : MayEndByTexts a m s end
+-- a lawful ending of what is asked, by texts that are those of the assignment as far as the files are known
+pub record IsLawfulEnding (files : Option Files) (a : AssignmentView) (end : Ending) : Type 0 where
+  pub t : Text → List ℕ
+  pub texts : AreTexts a files t
+  pub may : MayEndByTexts a t end
 
 -- nothing is written, and a line tells why, behind these texts
 pub record IsRefused (before after : Outside) (told : List (List ℕ)) (refusal : Refusal) : Type 0 where
@@ -50,45 +49,44 @@ abbrev pub InputsFailed : Outside → Outside → Type 0
 InputsFailed before after = HasRisen before.inputs.faults after.inputs.faults
 
 -- how the program ends, by its status
-pub data IsAnswer (words : Option Assignment) (before after : Outside) : ℕ → Type 0 where
+pub data IsAnswer (words : Option AssignmentView) (before after : Outside) : ℕ → Type 0 where
   -- all is written: each text was put, and each file was fetched, once
-  success : (a : Assignment) → words ≡ Some a
+  success : (a : AssignmentView) → words ≡ Some a
       → IsStudyPut (IsLawfulEnding before.inputs.files a) before.steps after.steps before.output after.output
-      → AreCounted (all_fetches a.source) before.inputs.calls after.inputs.calls → after.errors ≡ before.errors
+      → AreCounted (all_fetches a) before.inputs.calls after.inputs.calls → after.errors ≡ before.errors
       → IsAnswer words before after 0
   -- out of memory
   memory : IsRefused before after [] OutOfMemory → IsAnswer words before after 1
   -- the command line has no known form; nothing is fetched
   usage : words ≡ None → IsRefused before after [] Usage → after.inputs ≡ before.inputs → after.steps ≡ before.steps
       → IsAnswer words before after 2
-  -- the model's text was not read
-  no_model : (a : Assignment) → words ≡ Some a → IsUnread (InputsFailed before after) a.source Model before.inputs.files
-      → IsRefused before after [] NoModel → after.steps ≡ before.steps → IsAnswer words before after 3
-  -- the script's text was not read
-  no_script : (a : Assignment) → words ≡ Some a → HasModel a.source before.inputs.files
-      → IsUnread (InputsFailed before after) a.source Script before.inputs.files
-      → IsRefused before after [] NoScript → after.steps ≡ before.steps → IsAnswer words before after 3
-  -- the study stops; at the limit of a live one, its journal is told before the line
-  study_stop : (a : Assignment) → words ≡ Some a → (told : List (List ℕ)) (stop : Stop)
-      → StoppedFor (IsLawfulEnding before.inputs.files a) before.steps after.steps told stop
-      → IsRefused before after told (Stopped stop) → IsAnswer words before after (stop_status stop)
+  -- a text that was due was not read
+  unread : (a : AssignmentView) (text : Text) → words ≡ Some a → IsDue a before.inputs.files text
+      → IsUnread (InputsFailed before after) a before.inputs.files text
+      → IsRefused before after [] (NotRead text) → after.steps ≡ before.steps → IsAnswer words before after 3
+  -- it stops before any message is handled
+  stopped : (a : AssignmentView) (stop : Stop) → words ≡ Some a
+      → IsLawfulEnding before.inputs.files a (early_stop stop) → IsRefused before after [] (Stopped stop)
+      → after.steps ≡ before.steps → IsAnswer words before after (stop_status stop)
+  -- a limit is exceeded; of a live study, its journal is told before the line
+  exceeded : (a : AssignmentView) (told : List (List ℕ)) (excess : Excess) → words ≡ Some a
+      → IsExcessOf (IsLawfulEnding before.inputs.files a) before.steps after.steps told excess
+      → IsRefused before after told (Exceeded excess) → IsAnswer words before after (excess_status excess)
   -- the output was cut off
-  cut : (a : Assignment) → words ≡ Some a
+  cut : (a : AssignmentView) → words ≡ Some a
       → IsStudyCut (IsLawfulEnding before.inputs.files a) before.steps after.steps before.output after.output
       → ArePutOrCut (error_line CannotWrite ∷ []) before.errors after.errors → IsAnswer words before after 8
 
 -- why what is asked was not written
-abbrev pub IsFailedFor : Type 0 → Option Files → Assignment → ℕ → ℕ → SinkView → SinkView → Refusal → Type 0
-IsFailedFor rose files a old_steps new_steps old new NoModel = IsUnread rose a.source Model files × (new ≡ old)
-    × (new_steps ≡ old_steps)
-IsFailedFor rose files a old_steps new_steps old new NoScript =
-    HasModel a.source files × IsUnread rose a.source Script files × (new ≡ old) × (new_steps ≡ old_steps)
+abbrev pub IsFailedFor : Type 0 → Option Files → AssignmentView → ℕ → ℕ → SinkView → SinkView → Refusal → Type 0
+IsFailedFor rose files a old_steps new_steps old new (NotRead text) =
+    IsDue a files text × IsUnread rose a files text × (new ≡ old) × (new_steps ≡ old_steps)
 IsFailedFor rose files a old_steps new_steps old new refusal =
     IsFailed (IsLawfulEnding files a) old_steps new_steps old new refusal
 
 -- the same, with what is told before the line
-abbrev pub IsHaltedFor : Type 0 → Option Files → Assignment → ℕ → ℕ → SinkView → SinkView → Halt → Type 0
+abbrev pub IsHaltedFor : Type 0 → Option Files → AssignmentView → ℕ → ℕ → SinkView → SinkView → Halt → Type 0
 IsHaltedFor rose files a old_steps new_steps old new (Refused refusal) =
     IsFailedFor rose files a old_steps new_steps old new refusal
-IsHaltedFor rose files a old_steps new_steps old new (Overrun journal stop) =
-    IsHalted (IsLawfulEnding files a) old_steps new_steps old new (Overrun journal stop)
+IsHaltedFor rose files a old_steps new_steps old new (Overrun journal excess) =
+    IsHalted (IsLawfulEnding files a) old_steps new_steps old new (Overrun journal excess)

@@ -1,5 +1,5 @@
--- How a study may end.
-use Rattle.std.specs.Prelude.{◌≡◌, ℕ, ◌+◌, ◌≤◌, List, [], ◌∷◌, ◌++◌, map, length, Some, None, Ok, Err}
+-- How what is asked may end: the modes in one table.
+use Rattle.std.specs.Prelude.{◌≡◌, ℕ, ◌+◌, ◌≤◌, List, [], ◌∷◌, ◌++◌, map, length, Some, None, Result, Ok, Err}
 use Rattle.sim_base.specs.Clones.{Clone, clone_at, place_of}
 use Rattle.net_model.specs.Net.{Net, site_of}
 use Rattle.net_model.specs.Text.{model}
@@ -21,53 +21,84 @@ use Rattle.live_study.specs.Engines.{MeetsLimitLast}
 use Rattle.live_study.specs.Looks.{AreLooks, AreMadeLooks}
 use Rattle.live_study.specs.Scripts.{IsJournalOf}
 use Rattle.command_words.specs.declared.request.Mode.{Mode}
-use Rattle.command_words.specs.declared.request.Mode.TheVariants.{All, One, Live}
-use Rattle.command_words.specs.Requests.{Assignment, FileNames, Number, SourceView}
+use Rattle.command_words.specs.declared.request.Mode.TheVariants.{Report, Solo}
+use Rattle.command_words.specs.Requests.{AssignmentView, Live, Study}
+use Rattle.cloner_top.specs.declared.excess.Excess.{Excess}
+use Rattle.cloner_top.specs.declared.excess.Excess.TheVariants.{LimitMet}
+use Rattle.cloner_top.specs.declared.refusal.Text.{Text}
+use Rattle.cloner_top.specs.declared.refusal.Text.TheVariants.{Model, Script}
 use Rattle.cloner_top.specs.declared.stop.Stop.{Stop}
-use Rattle.cloner_top.specs.declared.stop.Stop.TheVariants.{BadModel, BadScript, BadDecision, NoClone, LimitMet}
+use Rattle.cloner_top.specs.declared.stop.Stop.TheVariants.{BadModel, BadScript, BadDecision, NoClone}
 use Rattle.cloner_top.specs.Deciding.{clones_of, first_refused}
 
--- an ending: these texts are written, for which so many messages were handled; nothing is, for this cause, and none was
--- handled; or the limit is met, of which these texts are told before the line, and at most so many were handled
+-- an ending: these texts are written, for which this number of messages was handled; nothing is, for this cause, and
+-- none was handled; or a limit is exceeded, these texts are told before the line, and at most this number was handled
 pub data Ending : Type 0 where
   whole_output : List (List ℕ) → ℕ → Ending
   early_stop : Stop → Ending
-  overrun : List (List ℕ) → Stop → ℕ → Ending
+  overrun : List (List ℕ) → Excess → ℕ → Ending
 
--- the stop where the limit is met: the limit, the name of the station of this number, and the clone's name
-abbrev pub limit_stop : Net → ℕ → List ℕ → Stop
-limit_stop net station clone = LimitMet net.limit (site_of net station).name clone
+-- where the limit is met: the limit, the name of the station of this number, and the clone's name
+abbrev pub limit_met_at : Net → ℕ → List ℕ → Excess
+limit_met_at net station clone = LimitMet net.limit (site_of net station).name clone
 
--- how a run of these clones may end, which is to write these texts
-pub data MayRun (net : Net) (clones : List Clone) (texts : List (List ℕ)) : Ending → Type 0 where
-  within : AreWithin net clones → MayRun net clones texts (whole_output texts (total_handled net clones net.horizon))
-  over : (station who : ℕ) → MeetsLimit net clones station who
-      → MayRun net clones texts (overrun [] (limit_stop net station (clone_at clones who).name)
+-- ---- all clones
+
+-- how a run of these clones may end, which is to write these texts; the limit is met at a station and a clone for which
+-- `meets` holds
+pub data MayRun (net : Net) (clones : List Clone) (meets : ℕ → ℕ → Type 0) (texts : List (List ℕ)) :
+    Ending → Type 0 where
+  within : AreWithin net clones
+      → MayRun net clones meets texts (whole_output texts (total_handled net clones net.horizon))
+  over : (station who : ℕ) → meets station who
+      → MayRun net clones meets texts (overrun [] (limit_met_at net station (clone_at clones who).name)
       (most_handled net (length clones)))
-
--- how a run of the clone of this name by itself may end
-pub data MayRunAlone (net : Net) (clones : List Clone) (name : List ℕ) : Ending → Type 0 where
-  no_clone : place_of name clones ≡ None → MayRunAlone net clones name (early_stop (NoClone name))
-  fits : (k : ℕ) → place_of name clones ≡ Some k → IsWithin net (clone_at clones k)
-      → MayRunAlone net clones name (whole_output (clone_text net (clone_at clones k) ∷ [])
-      (length (trace_of net (clone_at clones k))))
-  limit_met : (k station : ℕ) → place_of name clones ≡ Some k → MeetsLimitAlone net (clone_at clones k) station
-      → MayRunAlone net clones name (overrun [] (limit_stop net station name) (most_handled net 1))
 
 -- what a run of all clones writes: each one's trace text, in order of making, and then the report
 unfoldable pub run_texts : Net → List Clone → List (List ℕ)
 run_texts net clones = map (clone_text net) clones ++ report net clones ∷ []
 
--- what is written of a study: of a made one the report alone
-abbrev pub study_texts : SourceView → Net → List Clone → List (List ℕ)
-study_texts (FileNames model script) net clones = run_texts net clones
-study_texts (Number n) net clones = report net clones ∷ []
+-- what each mode of all clones writes: the report alone, or those texts
+abbrev pub mode_texts : Mode → Net → List Clone → List (List ℕ)
+mode_texts Report net clones = report net clones ∷ []
+mode_texts mode net clones = run_texts net clones
 
--- how the simulation of these clones may end: of all of them, or of one by itself
-abbrev pub MaySimulate : Mode → SourceView → Net → List Clone → Ending → Type 0
-MaySimulate All source net clones end = MayRun net clones (study_texts source net clones) end
-MaySimulate (One name) source net clones end = MayRunAlone net clones name end
-MaySimulate Live source net clones end = ⊥
+-- which station and which clone are told at the limit: in each mode of all clones the first
+abbrev pub mode_meets : Mode → Net → List Clone → ℕ → ℕ → Type 0
+mode_meets mode net clones = MeetsLimit net clones
+
+-- ---- one clone alone
+
+-- how a run of the clone of this name alone may end: this part of the clone is run, and this is written of the clone,
+-- unless it exceeds a limit
+pub data MayRunAlone (net : Net) (clones : List Clone) (name : List ℕ) (part : Clone → Clone)
+    (written : Clone → Result (List ℕ) Excess) : Ending → Type 0 where
+  no_clone : place_of name clones ≡ None → MayRunAlone net clones name part written (early_stop (NoClone name))
+  fits : (k : ℕ) (text : List ℕ) → place_of name clones ≡ Some k → IsWithin net (part (clone_at clones k))
+      → written (clone_at clones k) ≡ Ok text
+      → MayRunAlone net clones name part written (whole_output (text ∷ [])
+      (length (trace_of net (part (clone_at clones k)))))
+  too_long : (k : ℕ) (excess : Excess) → place_of name clones ≡ Some k → IsWithin net (part (clone_at clones k))
+      → written (clone_at clones k) ≡ Err excess
+      → MayRunAlone net clones name part written (overrun [] excess (length (trace_of net (part (clone_at clones k)))))
+  limit_met : (k station : ℕ) → place_of name clones ≡ Some k
+      → MeetsLimitAlone net (part (clone_at clones k)) station
+      → MayRunAlone net clones name part written (overrun [] (limit_met_at net station name) (most_handled net 1))
+
+-- `solo` runs the whole clone
+abbrev pub whole : Clone → Clone
+whole c = c
+
+-- and writes its trace text
+abbrev pub solo_text : Net → Clone → Result (List ℕ) Excess
+solo_text net c = Ok (clone_text net c)
+
+-- ---- the modes
+
+-- how the simulation of decided clones may end
+abbrev pub MaySimulate : Mode → Net → List Clone → Ending → Type 0
+MaySimulate (Solo name) net clones end = MayRunAlone net clones name whole (solo_text net) end
+MaySimulate mode net clones end = MayRun net clones (mode_meets mode net clones) (mode_texts mode net clones) end
 
 -- how a live study of a script may end: some journal of its analysts, and what they saw, are the first text; then comes
 -- what a run of the clones that the journal leaves writes; or the limit is met at the journal's last front, and the
@@ -79,34 +110,40 @@ pub data MayLive (net : Net) (s : ScriptView) : Ending → Type 0 where
       → MayLive net s
       (whole_output (journal_text s.analysts book.events looks ∷ run_texts net (after net book.events).clones)
       (total_handled net (after net book.events).clones net.horizon))
-  over : (book : BookView) (looks : List Looked) (station who : ℕ) → IsJournalOf net s book → AreMadeLooks net s looks
+  over_live : (book : BookView) (looks : List Looked) (station who : ℕ) → IsJournalOf net s book → AreMadeLooks net s looks
       → MeetsLimitLast net book.events station who
       → MayLive net s (overrun (journal_text s.analysts book.events looks ∷ [])
-      (limit_stop net station (clone_at (after net book.events).clones who).name)
+      (limit_met_at net station (clone_at (after net book.events).clones who).name)
       (most_handled net (length (after net book.events).clones)))
 
--- all decisions are made before the simulation begins
-abbrev pub DecidesFirst : Mode → Type 0
-DecidesFirst All = Unit {0}
-DecidesFirst (One name) = Unit {0}
-DecidesFirst Live = ⊥
+-- how a script's study of a model may end, if its decisions are all made first: one is refused, or the clones that
+-- they leave are simulated
+pub data MayDecide (simulates : List Clone → Ending → Type 0) (net : Net) (s : ScriptView) : Ending → Type 0 where
+  refused_decision : (reply : Reply) (line : ℕ) → first_refused net s ≡ Some (reply, line)
+      → MayDecide simulates net s (early_stop (BadDecision reply line))
+  simulation : (end : Ending) → first_refused net s ≡ None → simulates (clones_of net s) end
+      → MayDecide simulates net s end
 
--- how a script's study of a model may end
-pub data MayEnd (a : Assignment) (net : Net) (s : ScriptView) : Ending → Type 0 where
-  refused_decision : (reply : Reply) (line : ℕ) → DecidesFirst a.mode → first_refused net s ≡ Some (reply, line)
-      → MayEnd a net s (early_stop (BadDecision reply line))
-  simulation : (end : Ending) → first_refused net s ≡ None → MaySimulate a.mode a.source net (clones_of net s) end
-      → MayEnd a net s end
-  live : (end : Ending) → a.mode ≡ Live → MayLive net s end → MayEnd a net s end
+-- and in a mode
+abbrev pub MayEnd : Mode → Net → ScriptView → Ending → Type 0
+MayEnd mode net s end = MayDecide (MaySimulate mode net) net s end
 
--- how the study of two texts may end
-pub data MayEndByTexts (a : Assignment) (m s : List ℕ) : Ending → Type 0 where
-  bad_model : (fault : ModelFault) → model m ≡ Err fault → MayEndByTexts a m s (early_stop (BadModel fault))
-  bad_script : (net : Net) (fault : ScriptFault) → model m ≡ Ok net → script s ≡ Err fault
-      → MayEndByTexts a m s (early_stop (BadScript fault))
-  study : (net : Net) (stated : ScriptView) (end : Ending) → model m ≡ Ok net → script s ≡ Ok stated
-      → MayEnd a net stated end
-      → MayEndByTexts a m s end
+-- how a study may end whose script has this text
+pub data MayStudy (ends : ScriptView → Ending → Type 0) (s : List ℕ) : Ending → Type 0 where
+  bad_script : (fault : ScriptFault) → script s ≡ Err fault → MayStudy ends s (early_stop (BadScript fault))
+  study : (stated : ScriptView) (end : Ending) → script s ≡ Ok stated → ends stated end → MayStudy ends s end
+
+-- how an assignment over a model may end, by its other texts
+abbrev pub MayFollow : AssignmentView → (Text → List ℕ) → Net → Ending → Type 0
+MayFollow (Study source mode) t net end = MayStudy (MayEnd mode net) (t Script) end
+MayFollow (Live m s) t net end = MayStudy (MayLive net) (t Script) end
+
+-- how an assignment of these texts may end
+pub data MayEndByTexts (a : AssignmentView) (t : Text → List ℕ) : Ending → Type 0 where
+  bad_model : (fault : ModelFault) → model (t Model) ≡ Err fault → MayEndByTexts a t (early_stop (BadModel fault))
+  read : (net : Net) (end : Ending) → model (t Model) ≡ Ok net → MayFollow a t net end → MayEndByTexts a t end
+
+-- ---- what was written, and why it stopped
 
 -- what was written for an ending for which this holds; the steps are the messages handled
 pub record HasWritten (P : Ending → Type 0) (old_steps new_steps : ℕ) (texts : List (List ℕ)) : Type 0 where
@@ -114,9 +151,9 @@ pub record HasWritten (P : Ending → Type 0) (old_steps new_steps : ℕ) (texts
   pub may : P (whole_output texts work)
   pub steps : new_steps ≡ old_steps + work
 
--- a stop of an ending for which this holds, with what is told before its line: before anything is handled, or at the
--- limit
-pub data StoppedFor (P : Ending → Type 0) (old_steps new_steps : ℕ) (told : List (List ℕ)) (stop : Stop) : Type 0 where
-  at_once : told ≡ [] → P (early_stop stop) → new_steps ≡ old_steps → StoppedFor P old_steps new_steps told stop
-  at_limit : (most : ℕ) → P (overrun told stop most) → new_steps ≤ old_steps + most
-      → StoppedFor P old_steps new_steps told stop
+-- an excess of an ending for which this holds, with what is told before its line
+pub record IsExcessOf (P : Ending → Type 0) (old_steps new_steps : ℕ) (told : List (List ℕ)) (excess : Excess) :
+    Type 0 where
+  pub most : ℕ
+  pub may : P (overrun told excess most)
+  pub steps : new_steps ≤ old_steps + most

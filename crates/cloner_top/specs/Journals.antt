@@ -1,5 +1,5 @@
 -- The journal of a live study makes `run` write what the study wrote.
-use Rattle.std.specs.Prelude.{◌≡◌, ℕ, List, Ok}
+use Rattle.std.specs.Prelude.{◌≡◌, Ok}
 use Rattle.net_model.specs.Net.{Net}
 use Rattle.net_model.specs.Rules.{IsNet}
 use Rattle.decision_script.specs.Reading.{script}
@@ -11,20 +11,19 @@ use Rattle.journal_text.specs.JournalText.{events_text}
 use Rattle.journal_text.specs.Laws.{without_comments}
 use Rattle.study_run.specs.Limits.{AreWithin}
 use Rattle.live_study.specs.Scripts.{IsJournalOf}
-use Rattle.command_words.specs.declared.request.Mode.TheVariants.{All}
-use Rattle.command_words.specs.Requests.{FileNames}
+use Rattle.command_words.specs.declared.request.Mode.TheVariants.{Run}
 use Rattle.cloner_top.specs.Endings.{MayEnd, run_texts, whole_output}
 
 -- the lines of a journal's calls and fronts, without comments, are read as a script, with which `run` may end by
 -- writing the texts of the clones that the journal leaves
-pub record IsRunAgain (net : Net) (s : ScriptView) (book : BookView) (model text : List ℕ) : Type 0 where
+pub record IsRunAgain (net : Net) (s : ScriptView) (book : BookView) : Type 0 where
   pub again : ScriptView
   pub read : script (without_comments (events_text s.analysts book.events)) ≡ Ok again
-  pub may : MayEnd (record { mode = All; source = FileNames model text }) net again
+  pub may : MayEnd Run net again
       (whole_output (run_texts net (after net book.events).clones)
       (total_handled net (after net book.events).clones net.horizon))
 
 -- so it is of each journal of a script over a network, of which no log is beyond the limit
 abbrev pub JournalRunsTheSame : Type 0
-JournalRunsTheSame = (net : Net) (s : ScriptView) (book : BookView) (model text : List ℕ) → IsNet net → IsScript s
-    → IsJournalOf net s book → AreWithin net (after net book.events).clones → IsRunAgain net s book model text
+JournalRunsTheSame = (net : Net) (s : ScriptView) (book : BookView) → IsNet net → IsScript s
+    → IsJournalOf net s book → AreWithin net (after net book.events).clones → IsRunAgain net s book

@@ -5,9 +5,10 @@ pub mod Deciding
 pub mod Endings
 pub mod LiveRuns
 pub mod RunTexts
-pub mod Plans
+pub mod Reading
 pub mod Outsides
 pub mod Answers
+pub mod Prepared
 pub mod Facts
 pub mod OwnScripts
 pub mod Journals

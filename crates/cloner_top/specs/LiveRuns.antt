@@ -10,11 +10,11 @@ use Rattle.study_run.specs.declared.fault.StudyFault.TheVariants.{NoMemory, Limi
 use Rattle.journal_text.specs.JournalText.{journal_text}
 use Rattle.live_study.specs.Lives.{IsLiveRun, all_looks}
 use Rattle.live_study.specs.declared.run.LiveRun.{LiveRun}
+use Rattle.cloner_top.specs.declared.excess.Excess.{Excess}
 use Rattle.cloner_top.specs.declared.halt.Halt.{Halt}
 use Rattle.cloner_top.specs.declared.halt.Halt.TheVariants.{Refused, Overrun}
 use Rattle.cloner_top.specs.declared.refusal.Refusal.TheVariants.{OutOfMemory}
-use Rattle.cloner_top.specs.declared.stop.Stop.{Stop}
-use Rattle.cloner_top.specs.Endings.{MayLive, StoppedFor, limit_stop, run_texts, whole_output}
+use Rattle.cloner_top.specs.Endings.{IsExcessOf, MayLive, limit_met_at, run_texts, whole_output}
 use Rattle.cloner_top.specs.RunTexts.{MayPutRun}
 
 -- a live study of a script was run, and this is the text of its journal
@@ -31,16 +31,16 @@ NamesStationAndClone net events NoMemory = Unit {0}
 NamesStationAndClone net events (LimitMet station who) =
     HasStation net station × (who < length (after net events).clones)
 
--- it halts with this text and this stop
-abbrev pub IsOverrun : List ℕ → Stop → Halt → Type 0
-IsOverrun text stop (Refused refusal) = ⊥
-IsOverrun text stop (Overrun journal is) = (journal.items ≡ text) × (is ≡ stop)
+-- it halts with this text and this excess
+abbrev pub IsOverrun : List ℕ → Excess → Halt → Type 0
+IsOverrun text excess (Refused refusal) = ⊥
+IsOverrun text excess (Overrun journal is) = (journal.items ≡ text) × (is ≡ excess)
 
 -- how it halts where the run did
 abbrev pub HaltsFor : Net → List Event → List ℕ → StudyFault → Halt → Type 0
 HaltsFor net events text NoMemory halt = halt ≡ Refused OutOfMemory
 HaltsFor net events text (LimitMet station who) halt =
-    IsOverrun text (limit_stop net station (clone_at (after net events).clones who).name) halt
+    IsOverrun text (limit_met_at net station (clone_at (after net events).clones who).name) halt
 
 -- the world of a live study at the horizon, and the text of its journal
 pub record IsLiveWorld (net : Net) (s : ScriptView) (old_steps new_steps : ℕ) (world : WorldView) (text : List ℕ) :
@@ -54,5 +54,5 @@ pub record IsLiveWorld (net : Net) (s : ScriptView) (old_steps new_steps : ℕ) 
 abbrev pub StopsLive : Net → ScriptView → ℕ → ℕ → Halt → Type 0
 StopsLive net s old_steps new_steps (Refused OutOfMemory) = Unit {0}
 StopsLive net s old_steps new_steps (Refused refusal) = ⊥
-StopsLive net s old_steps new_steps (Overrun journal stop) =
-    StoppedFor (MayLive net s) old_steps new_steps (journal.items ∷ []) stop
+StopsLive net s old_steps new_steps (Overrun journal excess) =
+    IsExcessOf (MayLive net s) old_steps new_steps (journal.items ∷ []) excess

@@ -1,4 +1,4 @@
--- Why a study is not written: its status, and the line that tells it.
+-- Why a study is not written, before any message is handled or after some were: its status, and the line that tells it.
 use Rattle.std.specs.Prelude.{ℕ, ◌++◌, List, [], Option, Some, None, codes, decimal}
 use Rattle.net_model.specs.declared.fault.ModelFault.{ModelFault}
 use Rattle.net_model.specs.Faults.{fault_key, fault_number, fault_place}
@@ -7,7 +7,9 @@ use Rattle.decision_script.specs.Faults as script
 use Rattle.decision_book.specs.declared.call.Reply.{Reply}
 use Rattle.decision_book.specs.Numbers.{reply_number}
 use Rattle.cloner_top.specs.declared.stop.Stop.{Stop}
-use Rattle.cloner_top.specs.declared.stop.Stop.TheVariants.{BadModel, BadScript, BadDecision, NoClone, LimitMet}
+use Rattle.cloner_top.specs.declared.stop.Stop.TheVariants.{BadModel, BadScript, BadDecision, NoClone}
+use Rattle.cloner_top.specs.declared.excess.Excess.{Excess}
+use Rattle.cloner_top.specs.declared.excess.Excess.TheVariants.{LimitMet}
 
 -- the status for each stop
 abbrev pub stop_status : Stop → ℕ
@@ -15,7 +17,10 @@ stop_status (BadModel fault) = 4
 stop_status (BadScript fault) = 5
 stop_status (BadDecision reply line) = 6
 stop_status (NoClone name) = 6
-stop_status (LimitMet limit station clone) = 7
+
+-- and for each excess
+abbrev pub excess_status : Excess → ℕ
+excess_status (LimitMet limit station clone) = 7
 
 -- what a line says of a key, nothing where there is none
 abbrev pub key_part : Option (List ℕ) → List ℕ
@@ -57,4 +62,7 @@ stop_line (BadModel fault) = model_line fault
 stop_line (BadScript fault) = script_line fault
 stop_line (BadDecision reply line) = decision_line reply line
 stop_line (NoClone name) = no_clone_line name
-stop_line (LimitMet limit station clone) = limit_line limit station clone
+
+-- and for each excess
+abbrev pub excess_line : Excess → List ℕ
+excess_line (LimitMet limit station clone) = limit_line limit station clone

@@ -1,5 +1,5 @@
--- The two texts of a study, and what is known of them.
-use Rattle.std.specs.Prelude.{◌≡◌, ◌⊎◌, ℕ, List, Option, Some, None, Ok, Err}
+-- The texts that an assignment asks for, where each comes from, and what is known of it.
+use Rattle.std.specs.Prelude.{◌≡◌, ◌⊎◌, ℕ, ◌+◌, List, Option, Some, None, Ok}
 use Rattle.std.specs.FinMap as map
 use Rattle.sim_outer.specs.Files.{Files, Lacks, prefix_of}
 use Rattle.net_model.specs.Net.{Net}
@@ -7,14 +7,30 @@ use Rattle.net_model.specs.Text.{model}
 use Rattle.decision_script.specs.Printing.{canonical_text}
 use Rattle.made_study.specs.Scripts.{made_script}
 use Rattle.made_study.specs.Texts.{model_text}
-use Rattle.decision_script.specs.Reading.{script}
-use Rattle.cloner_top.specs.declared.refusal.Refusal.{Refusal}
-use Rattle.cloner_top.specs.declared.refusal.Refusal.TheVariants.{OutOfMemory, NoModel, NoScript}
-use Rattle.cloner_top.specs.declared.stop.Stop.{Stop}
-use Rattle.cloner_top.specs.declared.stop.Stop.TheVariants.{BadModel, BadScript}
-use Rattle.cloner_top.specs.declared.reading.Text.{Text}
-use Rattle.cloner_top.specs.declared.reading.Text.TheVariants.{Model, Script}
-use Rattle.command_words.specs.Requests.{FileNames, Number, SourceView}
+use Rattle.command_words.specs.Requests.{AssignmentView, FileNames, Live, Number, SourceView, Study}
+use Rattle.cloner_top.specs.declared.refusal.Text.{Text}
+use Rattle.cloner_top.specs.declared.refusal.Text.TheVariants.{Model, Script}
+
+-- where a text comes from: a file by its name, or these bytes that are made
+pub data Origin : Type 0 where
+  in_file : List ℕ → Origin
+  made : List ℕ → Origin
+
+-- the text that is made of a number
+abbrev pub made_text : Text → ℕ → List ℕ
+made_text Model n = model_text n
+made_text Script n = canonical_text made_script
+
+-- of a study: its model and its script are in two files, or made of a number
+abbrev pub study_origin : SourceView → Text → Origin
+study_origin (FileNames model script) Model = in_file model
+study_origin (FileNames model script) Script = in_file script
+study_origin (Number n) text = made (made_text text n)
+
+-- of an assignment
+abbrev pub origin_of : AssignmentView → Text → Origin
+origin_of (Study source mode) text = study_origin source text
+origin_of (Live model script) text = study_origin (FileNames model script) text
 
 -- what is known of a text: nothing, that it is not there, or its bytes
 pub data KnownText : Type 0 where
@@ -22,7 +38,7 @@ pub data KnownText : Type 0 where
   no_file : KnownText
   bytes : List ℕ → KnownText
 
--- a file, where the files are known: there is none, or its bytes as far as a fetch gives them
+-- a file, if the files are known: there is none, or its bytes as far as a fetch gives them
 abbrev pub known_file : Option (List ℕ) → KnownText
 known_file None = no_file
 known_file (Some file) = bytes (prefix_of file)
@@ -32,20 +48,10 @@ abbrev pub known_in : Option Files → List ℕ → KnownText
 known_in None name = unknown
 known_in (Some files) name = known_file (map.get files name)
 
--- the name of a text's file
-abbrev pub name_of : Text → List ℕ → List ℕ → List ℕ
-name_of Model model script = model
-name_of Script model script = script
-
--- the text that is made of a number
-abbrev pub made_text : Text → ℕ → List ℕ
-made_text Model n = model_text n
-made_text Script n = canonical_text made_script
-
--- what is known of a text of a study: it is in a file, or made of a number
-abbrev pub known_text : SourceView → Text → Option Files → KnownText
-known_text (FileNames model script) text files = known_in files (name_of text model script)
-known_text (Number n) text files = bytes (made_text text n)
+-- a text, by where it comes from
+abbrev pub known_from : Origin → Option Files → KnownText
+known_from (in_file name) files = known_in files name
+known_from (made text) files = bytes text
 
 -- these bytes may be the text
 abbrev pub IsText : KnownText → List ℕ → Type 0
@@ -53,44 +59,42 @@ IsText unknown found = Unit {0}
 IsText no_file found = ⊥
 IsText (bytes known) found = found ≡ known
 
--- the model's text, and where that is a model the script's
-pub record AreTexts (source : SourceView) (files : Option Files) (m s : List ℕ) : Type 0 where
-  pub model_is : IsText (known_text source Model files) m
-  pub script_is : (net : Net) → model m ≡ Ok net → IsText (known_text source Script files) s
+-- these bytes may be the text of an assignment
+abbrev pub IsTextOf : AssignmentView → Option Files → Text → List ℕ → Type 0
+IsTextOf a files text found = IsText (known_from (origin_of a text) files) found
+
+-- the texts of an assignment, each as far as those before it ask for it: the model's, and if that is a model the
+-- script's
+pub record AreTexts (a : AssignmentView) (files : Option Files) (t : Text → List ℕ) : Type 0 where
+  pub model_is : IsTextOf a files Model (t Model)
+  pub script_is : (net : Net) → model (t Model) ≡ Ok net → IsTextOf a files Script (t Script)
 
 -- a text was not read: the inputs had a fault, or the files are known and lack it; a made text is always there
-abbrev pub IsUnread : Type 0 → SourceView → Text → Option Files → Type 0
-IsUnread rose (FileNames model script) text files = rose ⊎ Lacks files (name_of text model script)
-IsUnread rose (Number n) text files = ⊥
+abbrev pub IsUnreadFrom : Type 0 → Origin → Option Files → Type 0
+IsUnreadFrom rose (in_file name) files = rose ⊎ Lacks files name
+IsUnreadFrom rose (made text) files = ⊥
 
--- how many fetches one text takes
-abbrev pub fetches_of : SourceView → ℕ
-fetches_of (FileNames model script) = 1
-fetches_of (Number n) = 0
+-- a text of an assignment, likewise
+abbrev pub IsUnread : Type 0 → AssignmentView → Option Files → Text → Type 0
+IsUnread rose a files text = IsUnreadFrom rose (origin_of a text) files
 
--- and how many both take
-abbrev pub all_fetches : SourceView → ℕ
-all_fetches (FileNames model script) = 2
-all_fetches (Number n) = 0
+-- how many fetches a text takes
+abbrev pub fetches_of : Origin → ℕ
+fetches_of (in_file name) = 1
+fetches_of (made text) = 0
 
--- the refusal where a text was not read
-abbrev pub unread_refusal : Text → Refusal
-unread_refusal Model = NoModel
-unread_refusal Script = NoScript
+-- and how many all take
+abbrev pub all_fetches : AssignmentView → ℕ
+all_fetches a = fetches_of (origin_of a Model) + fetches_of (origin_of a Script)
 
--- out of memory, or a text was not read
-abbrev pub IsNotRead : Type 0 → SourceView → Text → Option Files → Refusal → Type 0
-IsNotRead rose source text files OutOfMemory = Unit {0}
-IsNotRead rose source Model files NoModel = IsUnread rose source Model files
-IsNotRead rose source Script files NoScript = IsUnread rose source Script files
-IsNotRead rose source text files refusal = ⊥
+-- the model's text is a model
+pub record HasModel (a : AssignmentView) (files : Option Files) : Type 0 where
+  pub m : List ℕ
+  pub net : Net
+  pub text : IsTextOf a files Model m
+  pub is_model : model m ≡ Ok net
 
--- the rule of models that a text breaks
-abbrev pub IsBadModel : List ℕ → Stop → Type 0
-IsBadModel text (BadModel fault) = model text ≡ Err fault
-IsBadModel text stop = ⊥
-
--- and the rule of scripts
-abbrev pub IsBadScript : List ℕ → Stop → Type 0
-IsBadScript text (BadScript fault) = script text ≡ Err fault
-IsBadScript text stop = ⊥
+-- when a text is due: the model's always, the script's if the model's is a model
+abbrev pub IsDue : AssignmentView → Option Files → Text → Type 0
+IsDue a files Model = Unit {0}
+IsDue a files Script = HasModel a files

@@ -1,10 +1,12 @@
 //! The one line that tells why there is no output.
 ghost use Rattle.std.specs.Prelude.{◌≡◌, ◌+◌, ◌≤◌, ◌++◌, [], decimal, length};
 ghost use Rattle.cloner_top.specs.declared.error_line.TheConstants.{LONGEST_LINE};
+ghost use Rattle.sim_base.specs.declared.name.TheConstants.{LONGEST_NAME};
 ghost use Rattle.trace_report.specs.declared.digits.TheConstants.{LONGEST_NUMBER};
 
 use arrayvec::ArrayString;
 use itoa::Buffer;
+use sim_base::Name;
 use std::marker::Model;
 
 /// The most bytes of a line: more than the longest usage line has.
@@ -52,6 +54,16 @@ impl ErrorLine {
     {
         let mut buffer = Buffer::new();
         self.push(buffer.format(number));
+    }
+
+    /// Appends a name.
+    #[tactic(auto, using(sim_base::proofs::NameBytes::short_name))]
+    pub fn push_name(&mut self, name: &Name)
+        requires free { length self.old + LONGEST_NAME ≤ LONGEST_LINE }
+        ensures value { self.new ≡ self.old ++ name.now }
+        ensures short { length self.new ≤ length self.old + LONGEST_NAME }
+    {
+        self.push(name.text());
     }
 
     /// Its text.

@@ -1,6 +1,6 @@
 //! Why the program stops, and what is told before the line that says so.
+use crate::excess::Excess;
 use crate::refusal::Refusal;
-use crate::stop::Stop;
 
 /// Why nothing is written, or not all.
 #[derive(Drop)]
@@ -8,5 +8,5 @@ pub enum Halt {
     /// Nothing is told but the line.
     Refused(Refusal),
     /// The limit is met in a live study: its journal is told before the line.
-    Overrun { journal: Vec<u8>, stop: Stop },
+    Overrun { journal: Vec<u8>, excess: Excess },
 }

@@ -5,8 +5,8 @@
 //! steps, each with a definition of its own in `specs/`:
 //!
 //! ```text
-//! words -command_words-> request -plan-> model, decisions -running-> all branches at the horizon -putting-> output
-//!                              each step may end in a refusal with a status and a line of its own
+//! words -command_words-> request -prepare-> what is read and decided -writing-> output
+//!                            statuses 3 to 6                      statuses 6 to 8
 //! ```
 //!
 //! An example, over files and sinks in memory:
@@ -21,21 +21,26 @@
 //! first refusal, all or nothing, bounded work, each text in one call, each file fetched once.
 #![tactic(auto)]
 
+mod alone;
 mod deciding;
 pub mod error_line;
+pub mod excess;
 pub mod halt;
 pub mod laws;
 mod live;
-mod plan;
+mod prepare;
+mod prepared;
 pub mod program;
 mod putting;
 mod reading;
 pub mod refusal;
 mod running;
 pub mod stop;
+mod writing;
 
-pub use command_words::{Mode, Request, Source};
+pub use command_words::{Assignment, Mode, Request, Source};
 pub use error_line::ErrorLine;
+pub use excess::Excess;
 pub use program::cloner;
-pub use refusal::Refusal;
+pub use refusal::{Refusal, Text};
 pub use stop::Stop;

@@ -8,11 +8,10 @@ ghost use Rattle.cloner_top.specs.LiveRuns.{HaltsFor, IsJournaledRun, IsLiveWorl
 ghost use Rattle.cloner_top.specs.Outsides.{IsStudyPut, IsHalted};
 
 use crate::halt::Halt;
-use crate::plan::Study;
+use crate::prepared::Study;
 use crate::putting::put_live;
 use crate::refusal::Refusal;
-use crate::running::stop_at;
-use command_words::Request;
+use crate::running::limit_at;
 use crew_pool::{Gate, Workers};
 use live_study::{LiveRun, live_journal_text, live_study};
 use net_model::Model;
@@ -50,8 +49,8 @@ fn world_or_halt(model: &Model, live: LiveRun, journal: Vec<u8>) -> Result<(Worl
         }
         Err(StudyFault::NoMemory) => Err(Halt::Refused(Refusal::OutOfMemory)),
         Err(StudyFault::LimitMet { station, who }) => {
-            let stop = stop_at(model, station, book.book().lists().name(who));
-            Err(Halt::Overrun { journal, stop })
+            let excess = limit_at(model, station, book.book().lists().name(who));
+            Err(Halt::Overrun { journal, excess })
         }
     }
 }
@@ -61,16 +60,13 @@ fn run_and_journal<G: Gate, L: Ledger, R: Threads + Wait + Sync>(
     rt: &R,
     alloc: Global,
     gate: &G,
-    request: &Request,
+    workers: Workers,
     study: &Study,
     steps: &mut Steps<L>,
 ) -> Result<(LiveRun, Vec<u8>), NoMemory>
     ensures ran { IfOk result (λ r. IsJournaledRun study.now.model.value study.now.script steps.old steps.new r.0
         r.1.items) }
 {
-    let workers = Workers {
-        count: request.workers,
-    };
     let live = live_study(rt, alloc, workers, gate, &study.model, &study.script, steps)?;
     let journal = live_journal_text(alloc, &study.script, &live)?;
     Ok((live, journal))
@@ -81,7 +77,7 @@ fn run_live<G: Gate, L: Ledger, R: Threads + Wait + Sync>(
     rt: &R,
     alloc: Global,
     gate: &G,
-    request: &Request,
+    workers: Workers,
     study: &Study,
     steps: &mut Steps<L>,
 ) -> Result<(World, Vec<u8>), Halt>
@@ -89,7 +85,7 @@ fn run_live<G: Gate, L: Ledger, R: Threads + Wait + Sync>(
         r.1.items) }
     ensures err { IfErr result (λ h. StopsLive study.now.model.value study.now.script steps.old steps.new h) }
 {
-    match run_and_journal(rt, alloc, gate, request, study, steps) {
+    match run_and_journal(rt, alloc, gate, workers, study, steps) {
         Ok((live, journal)) => world_or_halt(&study.model, live, journal),
         Err(NoMemory) => Err(Halt::Refused(Refusal::OutOfMemory)),
     }
@@ -100,7 +96,7 @@ pub(crate) fn write_live<O: Sink, G: Gate, L: Ledger, R: Threads + Wait + Sync>(
     rt: &R,
     alloc: Global,
     gate: &G,
-    request: &Request,
+    workers: Workers,
     study: &Study,
     out: &mut O,
     steps: &mut Steps<L>,
@@ -110,14 +106,14 @@ pub(crate) fn write_live<O: Sink, G: Gate, L: Ledger, R: Threads + Wait + Sync>(
     ensures err { IfErr result (λ h. IsHalted (MayLive study.now.model.value study.now.script) steps.old steps.new
         (O.view out.old) (O.view out.new) h) }
 {
-    let (world, journal) = match run_live(rt, alloc, gate, request, study, steps) {
+    let (world, journal) = match run_live(rt, alloc, gate, workers, study, steps) {
         Ok(ran) => ran,
         Err(halt) => return Err(halt),
     };
     match put_live(
         rt,
         alloc,
-        request.workers,
+        workers,
         &study.model,
         &world,
         journal.as_slice(),

@@ -1,25 +1,23 @@
 //! From the words of a command line to a status: reads a study, simulates its branches, and writes their texts.
-ghost use Rattle.std.specs.Prelude.{◌≡◌, ◌≢◌, ◌⊎◌, ◌≤◌, ◌∷◌, [], ℕ, IfErr, None, MatchBool, OnOk};
+ghost use Rattle.std.specs.Prelude.{◌≡◌, ◌≢◌, ◌⊎◌, ◌≤◌, ◌∷◌, [], ℕ, IfErr, None, OnOk};
 ghost use Rattle.sim_outer.specs.Counts.{AreCounted, HasRisen};
-ghost use Rattle.command_words.specs.Requests.{request_view, source_view};
+ghost use Rattle.command_words.specs.Requests.{request_view};
 ghost use Rattle.cloner_top.specs.Answers.{IsAnswer, IsHaltedFor, IsLawfulEnding, assignment_of, outside_of};
-ghost use Rattle.cloner_top.specs.Endings.{DecidesFirst, MayEnd};
 ghost use Rattle.cloner_top.specs.Facts.{AreFewFetches, Completes, IsCutFor, IsStoppedFor};
 ghost use Rattle.cloner_top.specs.Facts.{IsToldFor, IsUnreadFor, IsWritten};
-ghost use Rattle.cloner_top.specs.Outsides.{ArePutOrCut, IsFailed, IsStudyPut, IsHalted};
+ghost use Rattle.cloner_top.specs.Outsides.{ArePutOrCut, IsStudyPut};
 ghost use Rattle.cloner_top.specs.Refusals.{error_line, status_of, words_refusal};
-ghost use Rattle.cloner_top.specs.Stops.{stop_line, stop_status};
+ghost use Rattle.cloner_top.specs.Stops.{excess_line, excess_status};
 ghost use Rattle.cloner_top.specs.Texts.{all_fetches};
 
+use crate::excess::Excess;
 use crate::halt::Halt;
-use crate::live::write_live;
-use crate::plan::{Study, plan_study, read_study};
+use crate::prepare::prepare;
 use crate::putting::put_text;
 use crate::refusal::Refusal;
-use crate::running::write_study;
-use crate::stop::Stop;
-use command_words::{Mode, Request, WordsFault, read_words};
-use crew_pool::Gate;
+use crate::writing::write_prepared;
+use command_words::{Request, WordsFault, read_words};
+use crew_pool::{Gate, Workers};
 use sim_base::Steps;
 use sim_outer::{Inputs, Sink, Word};
 use std::alloc::Global;
@@ -27,68 +25,8 @@ use std::sync::Wait;
 use std::sync::ledger::Ledger;
 use std::thread::Threads;
 
-// Makes the decisions of a study, runs it and writes it.
-fn decide_and_write<O: Sink, G: Gate, L: Ledger, R: Threads + Wait + Sync>(
-    rt: &R,
-    alloc: Global,
-    gate: &G,
-    request: &Request,
-    study: &Study,
-    out: &mut O,
-    steps: &mut Steps<L>,
-) -> Result<(), Refusal>
-    requires first { DecidesFirst request.now.mode }
-    ensures ok { OnOk result (IsStudyPut
-        (MayEnd (request_view request.now).assignment study.now.model.value study.now.script) steps.old steps.new
-        (O.view out.old) (O.view out.new)) }
-    ensures err { IfErr result (λ r. IsFailed
-        (MayEnd (request_view request.now).assignment study.now.model.value study.now.script) steps.old steps.new
-        (O.view out.old) (O.view out.new) r) }
-{
-    match plan_study(alloc, study) {
-        Ok(plan) => write_study(rt, alloc, gate, request, &plan, out, steps),
-        Err(refusal) => Err(refusal),
-    }
-}
-
-// Whether all decisions are made before the simulation begins.
-fn decides_first(mode: &Mode) -> bool
-    ensures value { MatchBool result (DecidesFirst mode.now) (mode.now ≡ Mode.Live) }
-{
-    match mode {
-        Mode::All | Mode::One(_) => true,
-        Mode::Live => false,
-    }
-}
-
-// Runs a study that was read, and writes it: its decisions are made first, or while it runs.
-fn run_and_write<O: Sink, G: Gate, L: Ledger, R: Threads + Wait + Sync>(
-    rt: &R,
-    alloc: Global,
-    gate: &G,
-    request: &Request,
-    study: &Study,
-    out: &mut O,
-    steps: &mut Steps<L>,
-) -> Result<(), Halt>
-    ensures ok { OnOk result (IsStudyPut
-        (MayEnd (request_view request.now).assignment study.now.model.value study.now.script) steps.old steps.new
-        (O.view out.old) (O.view out.new)) }
-    ensures err { IfErr result (λ h. IsHalted
-        (MayEnd (request_view request.now).assignment study.now.model.value study.now.script) steps.old steps.new
-        (O.view out.old) (O.view out.new) h) }
-{
-    if !decides_first(&request.mode) {
-        return write_live(rt, alloc, gate, request, study, out, steps);
-    }
-    match decide_and_write(rt, alloc, gate, request, study, out, steps) {
-        Ok(()) => Ok(()),
-        Err(refusal) => Err(Halt::Refused(refusal)),
-    }
-}
-
-// Reads what is asked, runs it and writes it.
-fn read_run_and_write<I: Inputs, O: Sink, G: Gate, L: Ledger, R: Threads + Wait + Sync>(
+// Reads and decides what is asked, runs it and writes it.
+fn prepare_and_write<I: Inputs, O: Sink, G: Gate, L: Ledger, R: Threads + Wait + Sync>(
     rt: &R,
     alloc: Global,
     request: &Request,
@@ -105,13 +43,16 @@ fn read_run_and_write<I: Inputs, O: Sink, G: Gate, L: Ledger, R: Threads + Wait 
         (O.view out.old) (O.view out.new) h) }
     ensures later { (I.view inputs.old).faults ≤ (I.view inputs.new).faults }
     ensures same { (I.view inputs.new).files ≡ (I.view inputs.old).files }
-    ensures fetched { OnOk result (AreCounted (all_fetches (source_view request.now.source)) (I.view inputs.old).calls
-        (I.view inputs.new).calls) }
-    ensures few { (n : ℕ) × ((n ≤ all_fetches (source_view request.now.source))
+    ensures fetched { OnOk result (AreCounted (all_fetches (request_view request.now).assignment)
+        (I.view inputs.old).calls (I.view inputs.new).calls) }
+    ensures few { (n : ℕ) × ((n ≤ all_fetches (request_view request.now).assignment)
         × AreCounted n (I.view inputs.old).calls (I.view inputs.new).calls) }
 {
-    match read_study(alloc, inputs, &request.source) {
-        Ok(study) => run_and_write(rt, alloc, gate, request, &study, out, steps),
+    let workers = Workers {
+        count: request.workers,
+    };
+    match prepare(alloc, inputs, &request.assignment) {
+        Ok(prepared) => write_prepared(rt, alloc, gate, workers, &prepared, out, steps),
         Err(refusal) => Err(Halt::Refused(refusal)),
     }
 }
@@ -128,16 +69,16 @@ fn complain<E: Sink>(err: &mut E, refusal: &Refusal) -> u8
 
 // Tells the error sink the journal of a live study that met the limit, and then why it stopped. Where the journal is
 // cut off, nothing follows it.
-fn complain_of_limit<E: Sink>(err: &mut E, journal: &[u8], stop: &Stop) -> u8
-    ensures status { result ≡ stop_status stop.now }
-    ensures told { ArePutOrCut (journal.now ∷ stop_line stop.now ∷ []) (E.view err.old) (E.view err.new) }
+fn complain_of_limit<E: Sink>(err: &mut E, journal: &[u8], excess: &Excess) -> u8
+    ensures status { result ≡ excess_status excess.now }
+    ensures told { ArePutOrCut (journal.now ∷ excess_line excess.now ∷ []) (E.view err.old) (E.view err.new) }
 {
-    let line = stop.line();
+    let line = excess.line();
     let Ok(()) = put_text(err, journal) else {
-        return stop.status();
+        return excess.status();
     };
     let _ = put_text(err, line.text().as_bytes());
-    stop.status()
+    excess.status()
 }
 
 // Why words are not read.
@@ -175,10 +116,14 @@ fn obey_or_complain<I: Inputs, O: Sink, E: Sink, G: Gate, L: Ledger, R: Threads 
         Ok(request) => request,
         Err(fault) => return complain(err, &words_refused(fault)),
     };
-    match read_run_and_write(rt, alloc, &request, inputs, out, gate, steps) {
+    match prepare_and_write(rt, alloc, &request, inputs, out, gate, steps) {
         Ok(()) => 0,
         Err(Halt::Refused(refusal)) => complain(err, &refusal),
-        Err(Halt::Overrun { journal, stop }) => complain_of_limit(err, journal.as_slice(), &stop),
+        Err(Halt::Overrun { journal, excess }) => complain_of_limit(
+            err,
+            journal.as_slice(),
+            &excess,
+        ),
     }
 }
 
@@ -220,7 +165,7 @@ pub fn cloner<R: Threads + Wait + Sync, I: Inputs, O: Sink, E: Sink, G: Gate, L:
     ensures unread { result ≡ 3 → IsUnreadFor (assignment_of words.now)
         (outside_of (I.view inputs.old) (O.view out.old) (E.view err.old) steps.old)
         (outside_of (I.view inputs.new) (O.view out.new) (E.view err.new) steps.new) }
-    ensures refused { 4 ≤ result → result ≤ 7 → IsStoppedFor (assignment_of words.now)
+    ensures refused { 4 ≤ result → result ≢ 8 → IsStoppedFor (assignment_of words.now)
         (outside_of (I.view inputs.old) (O.view out.old) (E.view err.old) steps.old)
         (outside_of (I.view inputs.new) (O.view out.new) (E.view err.new) steps.new)
         result }
@@ -235,7 +180,7 @@ pub fn cloner<R: Threads + Wait + Sync, I: Inputs, O: Sink, E: Sink, G: Gate, L:
         (outside_of (I.view inputs.old) (O.view out.old) (E.view err.old) steps.old)
         (outside_of (I.view inputs.new) (O.view out.new) (E.view err.new) steps.new)
         result }
-    ensures idle { 2 ≤ result → result ≤ 6 → steps.new ≡ steps.old }
+    ensures idle { 2 ≤ result → result ≢ 7 → result ≢ 8 → steps.new ≡ steps.old }
     ensures fetches { AreFewFetches (assignment_of words.now)
         (outside_of (I.view inputs.old) (O.view out.old) (E.view err.old) steps.old)
         (outside_of (I.view inputs.new) (O.view out.new) (E.view err.new) steps.new) }

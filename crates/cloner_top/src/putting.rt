@@ -1,13 +1,14 @@
 //! Puts the texts of a study, each in one call whose parts are put as they are made, once all memory was taken.
-ghost use Rattle.std.specs.Prelude.{◌≡◌, ◌≤◌, ◌∷◌, [], IfErr, IfOk, OnOk};
+ghost use Rattle.std.specs.Prelude.{◌≡◌, ◌≤◌, ◌∷◌, [], IfErr, IfOk};
 ghost use Rattle.trace_report.specs.Outputs.{report};
 ghost use Rattle.trace_report.specs.TraceText.{trace_text};
 ghost use Rattle.study_run.specs.Reports.{MayReport};
 ghost use Rattle.cloner_top.specs.Endings.{run_texts};
-ghost use Rattle.cloner_top.specs.Outsides.{ArePut, ArePutOrCut, IsNotPut};
+ghost use Rattle.cloner_top.specs.Outsides.{AreDone, ArePutOrCut};
 ghost use Rattle.cloner_top.specs.RunTexts.{IsReadyRun, MayPutRun};
 
 use crate::refusal::Refusal;
+use crew_pool::Workers;
 use log_chain::Log;
 use net_model::Model;
 use rolling_text::{Texts, WorldTraces, prepare, put_alone, put_texts};
@@ -21,8 +22,7 @@ use world_core::World;
 
 /// Puts one text.
 pub(crate) fn put_text<O: Sink>(out: &mut O, text: &[u8]) -> Result<(), Refusal>
-    ensures ok { OnOk result (ArePut (text.now ∷ []) (O.view out.old) (O.view out.new)) }
-    ensures err { IfErr result (λ r. IsNotPut (text.now ∷ []) (O.view out.old) (O.view out.new) r) }
+    ensures done { AreDone (text.now ∷ []) (O.view out.old) (O.view out.new) result }
     ensures cause { IfErr result (λ r. r ≡ Refusal.CannotWrite) }
     ensures told { ArePutOrCut (text.now ∷ []) (O.view out.old) (O.view out.new) }
     ensures later { (O.view out.old).faults ≤ (O.view out.new).faults }
@@ -40,9 +40,7 @@ pub(crate) fn put_trace<O: Sink>(
     trace: &Log,
     out: &mut O,
 ) -> Result<(), Refusal>
-    ensures ok { OnOk result (ArePut (trace_text model.now name.now trace.now ∷ []) (O.view out.old) (O.view out.new)) }
-    ensures err { IfErr result (λ r. IsNotPut (trace_text model.now name.now trace.now ∷ [])
-        (O.view out.old) (O.view out.new) r) }
+    ensures done { AreDone (trace_text model.now name.now trace.now ∷ []) (O.view out.old) (O.view out.new) result }
 {
     match put_alone(model, name, b"", trace, out) {
         Ok(()) => Ok(()),
@@ -58,9 +56,7 @@ pub(crate) fn put_report<O: Sink>(
     out: &mut O,
 ) -> Result<(), Refusal>
     requires may_report { MayReport model.now world.now }
-    ensures ok { OnOk result (ArePut (report model.now world.now.clones ∷ []) (O.view out.old) (O.view out.new)) }
-    ensures err { IfErr result (λ r. IsNotPut (report model.now world.now.clones ∷ [])
-        (O.view out.old) (O.view out.new) r) }
+    ensures done { AreDone (report model.now world.now.clones ∷ []) (O.view out.old) (O.view out.new) result }
 {
     match make_report(alloc, model, world) {
         Ok(text) => put_text(out, text.as_slice()),
@@ -95,15 +91,13 @@ fn prepare_run<'a>(alloc: Global, model: &Model, world: &'a World) -> Result<Run
 fn put_prepared<'a, O: Sink, R: Threads + Wait + Sync>(
     rt: &R,
     alloc: Global,
-    workers: u32,
+    workers: Workers,
     run: RunTexts<'a>,
     out: &mut O,
 ) -> Result<(), Refusal>
     requires ready { IsReadyRun run.traces.net run.traces.clones run }
-    ensures ok { OnOk result (ArePut (run_texts run.entry.traces.net run.entry.traces.clones)
-        (O.view out.old) (O.view out.new)) }
-    ensures err { IfErr result (λ r. IsNotPut (run_texts run.entry.traces.net run.entry.traces.clones)
-        (O.view out.old) (O.view out.new) r) }
+    ensures done { AreDone (run_texts run.entry.traces.net run.entry.traces.clones)
+        (O.view out.old) (O.view out.new) result }
     ensures cause { IfErr result (λ r. r ≡ Refusal.CannotWrite) }
 {
     let RunTexts {
@@ -111,7 +105,7 @@ fn put_prepared<'a, O: Sink, R: Threads + Wait + Sync>(
         texts,
         report,
     } = run;
-    match put_texts(rt, alloc, &traces, workers, texts, out) {
+    match put_texts(rt, alloc, &traces, workers.count, texts, out) {
         Ok(()) => put_text(out, report.as_slice()),
         Err(_) => Err(Refusal::CannotWrite),
     }
@@ -121,15 +115,13 @@ fn put_prepared<'a, O: Sink, R: Threads + Wait + Sync>(
 pub(crate) fn put_run<O: Sink, R: Threads + Wait + Sync>(
     rt: &R,
     alloc: Global,
-    workers: u32,
+    workers: Workers,
     model: &Model,
     world: &World,
     out: &mut O,
 ) -> Result<(), Refusal>
     requires may_put { MayPutRun model.now world.now }
-    ensures ok { OnOk result (ArePut (run_texts model.now world.now.clones) (O.view out.old) (O.view out.new)) }
-    ensures err { IfErr result (λ r. IsNotPut (run_texts model.now world.now.clones)
-        (O.view out.old) (O.view out.new) r) }
+    ensures done { AreDone (run_texts model.now world.now.clones) (O.view out.old) (O.view out.new) result }
 {
     match prepare_run(alloc, model, world) {
         Ok(run) => put_prepared(rt, alloc, workers, run, out),
@@ -141,17 +133,15 @@ pub(crate) fn put_run<O: Sink, R: Threads + Wait + Sync>(
 pub(crate) fn put_live<O: Sink, R: Threads + Wait + Sync>(
     rt: &R,
     alloc: Global,
-    workers: u32,
+    workers: Workers,
     model: &Model,
     world: &World,
     journal: &[u8],
     out: &mut O,
 ) -> Result<(), Refusal>
     requires may_put { MayPutRun model.now world.now }
-    ensures ok { OnOk result (ArePut (journal.now ∷ run_texts model.now world.now.clones)
-        (O.view out.old) (O.view out.new)) }
-    ensures err { IfErr result (λ r. IsNotPut (journal.now ∷ run_texts model.now world.now.clones)
-        (O.view out.old) (O.view out.new) r) }
+    ensures done { AreDone (journal.now ∷ run_texts model.now world.now.clones)
+        (O.view out.old) (O.view out.new) result }
 {
     let run = match prepare_run(alloc, model, world) {
         Ok(run) => run,

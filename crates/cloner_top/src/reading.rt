@@ -1,31 +1,22 @@
-//! Reads the two texts of a study: out of files, or made of a number.
+//! Fetches the texts of an assignment, and reads them.
 ghost use Rattle.std.specs.Prelude.{◌≡◌, ◌≤◌, IfErr, IfOk, Ok, Err};
 ghost use Rattle.sim_outer.specs.Counts.{AreCounted, HasRisen};
 ghost use Rattle.net_model.specs.Text.{model};
 ghost use Rattle.decision_script.specs.Reading.{script};
-ghost use Rattle.command_words.specs.Requests.{source_view};
+ghost use Rattle.command_words.specs.Requests.{FileNames, assignment_view, source_view};
+ghost use Rattle.cloner_top.specs.Reading.{IsBadModel, IsBadScript, IsNotFetched, origin_view};
 ghost use Rattle.cloner_top.specs.Refusals.{IsMemoryOrStop};
-ghost use Rattle.cloner_top.specs.Texts.{IsBadModel, IsBadScript, IsNotRead, IsText, fetches_of};
-ghost use Rattle.cloner_top.specs.Texts.{made_text, name_of as name_of_text, known_text, unread_refusal};
+ghost use Rattle.cloner_top.specs.Texts.{IsTextOf, fetches_of, made_text, origin_of as origin_in, study_origin};
 
-use crate::refusal::Refusal;
+use crate::refusal::{Refusal, Text};
 use crate::stop::Stop;
-use command_words::Source;
+use command_words::{Assignment, Source};
 use decision_script::{Script, ScriptFault, read_script};
 use made_study::{model_text, script_text};
 use net_model::{Model, ModelFault, read_model};
 use sim_base::NoMemory;
 use sim_outer::{FetchFault, Inputs};
 use std::alloc::Global;
-
-/// Which of a study's two texts.
-#[derive(Clone, Copy, Debug, PartialEq, Eq)]
-pub enum Text {
-    /// The model.
-    Model,
-    /// The script.
-    Script,
-}
 
 /// Reads the model that a text is.
 pub(crate) fn read_model_text(alloc: Global, text: &[u8]) -> Result<Model, Refusal>
@@ -61,54 +52,69 @@ fn make_text(alloc: Global, text: Text, number: u32) -> Result<Vec<u8>, NoMemory
     }
 }
 
-// Why a text was not read.
-fn not_read(text: Text) -> Refusal
-    ensures { result ≡ unread_refusal text }
+/// Where a text comes from.
+#[derive(Clone, Copy, Debug)]
+pub enum Origin<'a> {
+    /// A file of this name.
+    InFile(&'a str),
+    /// It is made of this number.
+    Made(u32),
+}
+
+// Where a text of two files comes from.
+fn origin_of_files<'a>(model: &'a str, script: &'a str, text: Text) -> Origin<'a>
+    ensures value { origin_view result text ≡ study_origin (FileNames model.entry.now script.entry.now) text }
 {
     match text {
-        Text::Model => Refusal::NoModel,
-        Text::Script => Refusal::NoScript,
+        Text::Model => Origin::InFile(model),
+        Text::Script => Origin::InFile(script),
     }
 }
 
-/// One of the texts, out of its file or made of the number.
+// Where a text of a study comes from.
+fn origin_of_study<'a>(source: Source<'a>, text: Text) -> Origin<'a>
+    ensures value { origin_view result text ≡ study_origin (source_view source.entry) text }
+{
+    match source {
+        Source::FileNames { model, script } => origin_of_files(model, script, text),
+        Source::Number(number) => Origin::Made(number),
+    }
+}
+
+// Where a text of an assignment comes from.
+fn origin_of<'a>(assignment: &Assignment<'a>, text: Text) -> Origin<'a>
+    ensures value { origin_view result text ≡ origin_in (assignment_view assignment.now) text }
+{
+    match *assignment {
+        Assignment::Study { source, .. } => origin_of_study(source, text),
+        Assignment::Live { model, script } => origin_of_files(model, script, text),
+    }
+}
+
+/// A text of an assignment, from its file or made of the number.
 pub(crate) fn fetch_text<I: Inputs>(
     alloc: Global,
     inputs: &mut I,
-    source: &Source,
+    assignment: &Assignment,
     text: Text,
 ) -> Result<Vec<u8>, Refusal>
-    ensures ok { IfOk result (λ v.
-        IsText (known_text (source_view source.now) text (I.view inputs.old).files) v.items) }
-    ensures err { IfErr result (λ r. IsNotRead (HasRisen (I.view inputs.old).faults (I.view inputs.new).faults)
-        (source_view source.now) text (I.view inputs.old).files r) }
+    ensures ok { IfOk result (λ v. IsTextOf (assignment_view assignment.now) (I.view inputs.old).files text v.items) }
+    ensures err { IfErr result (λ r. IsNotFetched (HasRisen (I.view inputs.old).faults (I.view inputs.new).faults)
+        (assignment_view assignment.now) (I.view inputs.old).files text r) }
     ensures later { (I.view inputs.old).faults ≤ (I.view inputs.new).faults }
     ensures same { (I.view inputs.new).files ≡ (I.view inputs.old).files }
-    ensures counted { AreCounted (fetches_of (source_view source.now)) (I.view inputs.old).calls
-        (I.view inputs.new).calls }
+    ensures counted { AreCounted (fetches_of (origin_in (assignment_view assignment.now) text))
+        (I.view inputs.old).calls (I.view inputs.new).calls }
 {
-    let name = match *source {
-        Source::FileNames { model, script } => name_of(text, model, script),
-        Source::Number(number) => {
-            return match make_text(alloc, text, number) {
-                Ok(bytes) => Ok(bytes),
-                Err(NoMemory) => Err(Refusal::OutOfMemory),
-            };
-        }
-    };
-    match inputs.fetch(alloc, name) {
-        Ok(bytes) => Ok(bytes),
-        Err(FetchFault::NoMemory) => Err(Refusal::OutOfMemory),
-        Err(FetchFault::Failed) => Err(not_read(text)),
-    }
-}
-
-// The name of a text's file.
-fn name_of<'a>(text: Text, model: &'a str, script: &'a str) -> &'a str
-    ensures { result.now ≡ name_of_text text model.now script.now }
-{
-    match text {
-        Text::Model => model,
-        Text::Script => script,
+    match origin_of(assignment, text) {
+        Origin::InFile(name) => match inputs.fetch(alloc, name) {
+            Ok(bytes) => Ok(bytes),
+            Err(FetchFault::NoMemory) => Err(Refusal::OutOfMemory),
+            Err(FetchFault::Failed) => Err(Refusal::NotRead(text)),
+        },
+        Origin::Made(number) => match make_text(alloc, text, number) {
+            Ok(bytes) => Ok(bytes),
+            Err(NoMemory) => Err(Refusal::OutOfMemory),
+        },
     }
 }

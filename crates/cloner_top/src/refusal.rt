@@ -1,25 +1,35 @@
 //! Why the program writes nothing, or not the whole of its output.
 ghost use Rattle.std.specs.Prelude.{◌≡◌, ◌≤◌, length};
-ghost use Rattle.cloner_top.specs.Refusals.{error_line, status_of};
+ghost use Rattle.cloner_top.specs.Refusals.{error_line, status_of, unread_line};
 ghost use Rattle.cloner_top.specs.declared.error_line.TheConstants.{LONGEST_LINE};
 
 use crate::error_line::ErrorLine;
+use crate::excess::Excess;
 use crate::stop::Stop;
 use command_words::usage_line;
+
+/// Which of the texts of an assignment.
+#[derive(Clone, Copy, Debug, PartialEq, Eq)]
+pub enum Text {
+    /// The model.
+    Model,
+    /// The script.
+    Script,
+}
 
 /// The first cause, in the order of the statuses.
 #[derive(Clone, Copy, Debug, PartialEq, Eq)]
 pub enum Refusal {
-    /// Memory was refused.
+    /// Out of memory.
     OutOfMemory,
     /// The command line has no known form.
     Usage,
-    /// The model's text was not read.
-    NoModel,
-    /// The script's text was not read.
-    NoScript,
-    /// The study stops.
+    /// This text was not read.
+    NotRead(Text),
+    /// Nothing is run.
     Stopped(Stop),
+    /// A limit is exceeded.
+    Exceeded(Excess),
     /// The output took less than all.
     CannotWrite,
 }
@@ -34,6 +44,16 @@ fn line_of_text(text: &str) -> ErrorLine
     line
 }
 
+// The line for a text that was not read.
+fn line_of_unread(text: Text) -> ErrorLine
+    ensures { result ≡ unread_line text }
+{
+    match text {
+        Text::Model => line_of_text("cloner: cannot read the model\n"),
+        Text::Script => line_of_text("cloner: cannot read the script\n"),
+    }
+}
+
 impl Refusal {
     /// The status of the program, from 1 to 8.
     pub fn status(&self) -> u8
@@ -42,8 +62,9 @@ impl Refusal {
         match self {
             Refusal::OutOfMemory => 1,
             Refusal::Usage => 2,
-            Refusal::NoModel | Refusal::NoScript => 3,
+            Refusal::NotRead(_) => 3,
             Refusal::Stopped(stop) => stop.status(),
+            Refusal::Exceeded(excess) => excess.status(),
             Refusal::CannotWrite => 8,
         }
     }
@@ -55,9 +76,9 @@ impl Refusal {
         match self {
             Refusal::OutOfMemory => line_of_text("cloner: out of memory\n"),
             Refusal::Usage => line_of_text(usage_line()),
-            Refusal::NoModel => line_of_text("cloner: cannot read the model\n"),
-            Refusal::NoScript => line_of_text("cloner: cannot read the script\n"),
+            Refusal::NotRead(text) => line_of_unread(*text),
             Refusal::Stopped(stop) => stop.line(),
+            Refusal::Exceeded(excess) => excess.line(),
             Refusal::CannotWrite => line_of_text("cloner: cannot write\n"),
         }
     }

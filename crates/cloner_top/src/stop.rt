@@ -1,11 +1,10 @@
-//! Why a study is not written.
+//! Why a study is not written, before any message is handled.
 ghost use Rattle.std.specs.Prelude.{◌≡◌, ◌+◌, ◌++◌, ◌≤◌, length};
 ghost use Rattle.cloner_top.specs.Stops.{key_part, stop_line, stop_status, model_line};
-ghost use Rattle.cloner_top.specs.Stops.{script_line, decision_line, no_clone_line, limit_line};
+ghost use Rattle.cloner_top.specs.Stops.{script_line, decision_line, no_clone_line};
 ghost use Rattle.cloner_top.specs.declared.error_line.TheConstants.{LONGEST_LINE};
 ghost use Rattle.net_model.specs.Faults.{fault_key};
 ghost use Rattle.net_model.specs.declared.key_text.TheConstants.{LONGEST_KEY_TEXT};
-ghost use Rattle.sim_base.specs.declared.name.TheConstants.{LONGEST_NAME};
 
 use crate::error_line::ErrorLine;
 use decision_book::Reply;
@@ -13,7 +12,7 @@ use decision_script::ScriptFault;
 use net_model::ModelFault;
 use sim_base::Name;
 
-/// The first cause, in the order of the statuses, that a study of two texts is not written.
+/// The first cause, in the order of the statuses, for which nothing is run: no message is handled.
 #[derive(Clone, Copy, Debug, PartialEq, Eq)]
 pub enum Stop {
     /// The model's text is no model.
@@ -21,18 +20,9 @@ pub enum Stop {
     /// The script's text is no script.
     BadScript(ScriptFault),
     /// The first decision that is refused, with its line.
-    BadDecision {
-        reply: Reply,
-        line: u32,
-    },
+    BadDecision { reply: Reply, line: u32 },
     /// The decisions make no clone of this name.
     NoClone(Name),
-    /// The station and the clone at which the limit is met.
-    LimitMet {
-        limit: u64,
-        station: Name,
-        clone: Name,
-    },
 }
 
 // The line of a model that is refused.
@@ -93,38 +83,13 @@ fn line_of_no_clone(name: &Name) -> ErrorLine
 {
     let mut line = ErrorLine::new();
     line.push("cloner: no clone ");
-    push_name(&mut line, name);
+    line.push_name(name);
     line.push("\n");
     line
-}
-
-// The line of a limit that is met.
-fn line_of_limit(limit: u64, station: &Name, clone: &Name) -> ErrorLine
-    ensures { result ≡ limit_line limit station.now clone.now }
-{
-    let mut line = ErrorLine::new();
-    line.push("cloner: limit ");
-    line.push_number(limit);
-    line.push(" met at station ");
-    push_name(&mut line, station);
-    line.push(" in clone ");
-    push_name(&mut line, clone);
-    line.push("\n");
-    line
-}
-
-// Appends a name.
-#[tactic(auto, using(sim_base::proofs::NameBytes::short_name))]
-fn push_name(line: &mut ErrorLine, name: &Name)
-    requires free { length line.old + LONGEST_NAME ≤ LONGEST_LINE }
-    ensures value { line.new ≡ line.old ++ name.now }
-    ensures short { length line.new ≤ length line.old + LONGEST_NAME }
-{
-    line.push(name.text());
 }
 
 impl Stop {
-    /// The status of the program, from 4 to 7.
+    /// The status of the program, from 4 to 6.
     pub fn status(&self) -> u8
         ensures { result ≡ stop_status self.now }
     {
@@ -132,7 +97,6 @@ impl Stop {
             Stop::BadModel(_) => 4,
             Stop::BadScript(_) => 5,
             Stop::BadDecision { .. } | Stop::NoClone(_) => 6,
-            Stop::LimitMet { .. } => 7,
         }
     }
 
@@ -145,11 +109,6 @@ impl Stop {
             Stop::BadScript(fault) => line_of_script(fault),
             Stop::BadDecision { reply, line } => line_of_decision(reply, *line),
             Stop::NoClone(name) => line_of_no_clone(name),
-            Stop::LimitMet {
-                limit,
-                station,
-                clone,
-            } => line_of_limit(*limit, station, clone),
         }
     }
 }

@@ -18,31 +18,35 @@ use Rattle.clap.specs.declared.error.kind.ErrorKind.TheVariants as kind
 use Rattle.command_words.specs.Application.{cloner_app}
 use Rattle.command_words.specs.Clap.{ClapFindsTheValues, clap_values, unless_fault, up_to_three, values_in}
 use Rattle.command_words.specs.Rules.{DashedWord, OptionName, after_dashed, bare_option, clone, dashed_word, ending}
-use Rattle.command_words.specs.Rules.{is_dashed, option_with_value, read, unknown, values, with_positionals}
-use Rattle.command_words.specs.Rules.{with_value, workers}
+use Rattle.command_words.specs.Rules.{is_dashed, option_text, option_with_value, option_word, read, unknown}
+use Rattle.command_words.specs.Rules.{values, with_positionals, with_value, workers}
 use Rattle.command_words.specs.Values.{GivenView}
-use Rattle.command_words.proofs.ClapRows.{HaveValues, Stage, at_start, fault-missing, fault-twice}
-use Rattle.command_words.proofs.ClapRows.{no_fault-option}
-use Rattle.command_words.proofs.ClapRows.{no_fault-place, none, one, place, three, two, values_at, values_in-have}
-use Rattle.command_words.proofs.ClapRows.{with_clone, with_first, with_mode, with_second, with_workers}
-use Rattle.command_words.proofs.ClapSteps.{IsPlain, end_of, fault_at_end, fault_behind, walk_between}
-use Rattle.command_words.proofs.ClapSteps.{fault_of_fourth}
+use Rattle.command_words.proofs.ClapRows.{Follows, HaveValues, OptionValues, Stage, at_first, at_mode, at_second, at_start}
+use Rattle.command_words.proofs.ClapRows.{fault-missing, fault-twice, free_place, is_given, listed}
+use Rattle.command_words.proofs.ClapRows.{next_place, no_fault-option, no_fault-place, no_options, none, not_given, one}
+use Rattle.command_words.proofs.ClapRows.{option_pending, option_used, place, place_pending, three, two, values_at, values_in-have}
+use Rattle.command_words.proofs.ClapRows.{with_option, with_value-new, with_value-twice}
+use Rattle.command_words.proofs.ClapSteps.{IsPlain, Place, end_of, fault_at_end, fault_behind, fault_of_fourth}
 use Rattle.command_words.proofs.ClapSteps.{fault_of_fourth_behind, fault_of_name, fault_of_next, fault_of_plain}
-use Rattle.command_words.proofs.ClapSteps.{fault_of_value, first, id_of, long, values_from, values_from-refused}
-use Rattle.command_words.proofs.ClapSteps.{mode, values_from-taken}
-use Rattle.command_words.proofs.ClapSteps.{pending_fault, repeated, rows_with, second, shape, used, walk_at_end}
-use Rattle.command_words.proofs.ClapSteps.{walk_behind, walk_of_name, walk_of_next, walk_of_plain, walk_of_value}
+use Rattle.command_words.proofs.ClapSteps.{fault_of_value, first, mode, next_positional, pending_fault, positional_name}
+use Rattle.command_words.proofs.ClapSteps.{positional_number, repeated, rows_with, second, shape, used}
+use Rattle.command_words.proofs.ClapSteps.{values_from, values_from-refused, values_from-taken, walk_at_end, walk_behind}
+use Rattle.command_words.proofs.ClapSteps.{walk_between, walk_of_name, walk_of_next, walk_of_plain, walk_of_value}
 use Rattle.command_words.proofs.WordShapes.{IsPlain-of_undashed, Says, Says-dashed_word}
 
 -- ---- more than three positionals
 
 -- values with four positionals or more
-abbrev pub many : Option Text → Option Text → Text → Text → Text → Text → List Text → GivenView
-many w c x y z u more = record { workers = w; clone = c; positionals = x ∷ y ∷ z ∷ u ∷ more }
+abbrev pub many : OptionValues → Text → Text → Text → Text → List Text → GivenView
+many o x y z u more = record {
+  workers = o workers;
+  clone = o clone;
+  positionals = x ∷ y ∷ z ∷ u ∷ more;
+}
 
 -- clap has no place for them
 pub more_than_three : (w c : Option Text) (x y z u : Text) (more : List Text)
-    → up_to_three (many w c x y z u more) ≡ None
+    → up_to_three (record { workers = w; clone = c; positionals = x ∷ y ∷ z ∷ u ∷ more }) ≡ None
 more_than_three w c x y z u more =
     let long_list : nat_le (length (x ∷ y ∷ z ∷ u ∷ more)) 3 ≡ false =
     lt-leb (length (x ∷ y ∷ z ∷ u ∷ more)) 3 (omega arith) in
@@ -50,51 +54,58 @@ more_than_three w c x y z u more =
 
 -- nothing that follows makes them fewer
 abbrev StaysMany : List Text → Text → Text → Text → Text → Type 0
-StaysMany rest x y z u = (due : Option OptionName) (w c : Option Text) (more : List Text)
-    → option_and_then up_to_three (read rest due (many w c x y z u more)) ≡ None
+StaysMany rest x y z u = (due : Option OptionName) (o : OptionValues) (more : List Text)
+    → option_and_then up_to_three (read rest due (many o x y z u more)) ≡ None
 
 -- the value of an option is no positional less
-many_value : (name : OptionName) (v : Text) (rest : List Text) (w c : Option Text) (x y z u : Text) (more : List Text)
+many_value : (name : OptionName) (v : Text) (rest : List Text) (o : OptionValues) (x y z u : Text) (more : List Text)
     → StaysMany rest x y z u
-    → option_and_then up_to_three (option_and_then (read rest None) (with_value name v (many w c x y z u more))) ≡ None
-many_value workers v rest None c x y z u more again = again None (Some v) c more
-many_value workers v rest (Some o) c x y z u more again = refl
-many_value clone v rest w None x y z u more again = again None w (Some v) more
-many_value clone v rest w (Some o) x y z u more again = refl
+    → option_and_then up_to_three (option_and_then (read rest None) (with_value name v (many o x y z u more))) ≡ None
+many_value name v rest o x y z u more again = by (o name) refl
+  where
+    by : (given : Option Text) → o name ≡ given
+        → option_and_then up_to_three (option_and_then (read rest None) (with_value name v (many o x y z u more)))
+        ≡ None
+    by None e = ap (λ g. option_and_then up_to_three (option_and_then (read rest None) g))
+        (with_value-new name v o (x ∷ y ∷ z ∷ u ∷ more) e)
+        ∙ again None (with_option name v o) more
+    by (Some w) e = ap (λ g. option_and_then up_to_three (option_and_then (read rest None) g))
+        (with_value-twice name v w o (x ∷ y ∷ z ∷ u ∷ more) e)
 
 -- nor is a word with a dash
-many_dashed : (d : DashedWord) (rest : List Text) (w c : Option Text) (x y z u : Text) (more : List Text)
+many_dashed : (d : DashedWord) (rest : List Text) (o : OptionValues) (x y z u : Text) (more : List Text)
     → StaysMany rest x y z u
-    → option_and_then up_to_three (after_dashed d rest (read rest) (many w c x y z u more)) ≡ None
-many_dashed ending rest w c x y z u more again = more_than_three w c x y z u (more ++ rest)
-many_dashed (bare_option name) rest w c x y z u more again = again (Some name) w c more
-many_dashed (option_with_value name v) rest w c x y z u more again = many_value name v rest w c x y z u more again
-many_dashed unknown rest w c x y z u more again = refl
+    → option_and_then up_to_three (after_dashed d rest (read rest) (many o x y z u more)) ≡ None
+many_dashed ending rest o x y z u more again =
+    more_than_three (o workers) (o clone) x y z u (more ++ rest)
+many_dashed (bare_option name) rest o x y z u more again = again (Some name) o more
+many_dashed (option_with_value name v) rest o x y z u more again = many_value name v rest o x y z u more again
+many_dashed unknown rest o x y z u more again = refl
 
 -- nor any word where nothing is due
-many_free : (t : Bool) (word : Text) (rest : List Text) (w c : Option Text) (x y z u : Text) (more : List Text)
+many_free : (b : Bool) (word : Text) (rest : List Text) (o : OptionValues) (x y z u : Text) (more : List Text)
     → StaysMany rest x y z u
-    → option_and_then up_to_three (cond t (after_dashed (dashed_word word) rest (read rest) (many w c x y z u more))
-    (read rest None (with_positionals (word ∷ []) (many w c x y z u more)))) ≡ None
-many_free true word rest w c x y z u more again = many_dashed (dashed_word word) rest w c x y z u more again
-many_free false word rest w c x y z u more again = again None w c (more ++ (word ∷ []))
+    → option_and_then up_to_three (cond b (after_dashed (dashed_word word) rest (read rest) (many o x y z u more))
+    (read rest None (with_positionals (word ∷ []) (many o x y z u more)))) ≡ None
+many_free true word rest o x y z u more again = many_dashed (dashed_word word) rest o x y z u more again
+many_free false word rest o x y z u more again = again None o (more ++ (word ∷ []))
 
 -- nor any word where a value is due
-many_due : (t : Bool) (name : OptionName) (word : Text) (rest : List Text) (w c : Option Text) (x y z u : Text)
+many_due : (b : Bool) (name : OptionName) (word : Text) (rest : List Text) (o : OptionValues) (x y z u : Text)
     (more : List Text) → StaysMany rest x y z u
-    → option_and_then up_to_three (cond t None
-    (option_and_then (read rest None) (with_value name word (many w c x y z u more)))) ≡ None
-many_due true name word rest w c x y z u more again = refl
-many_due false name word rest w c x y z u more again = many_value name word rest w c x y z u more again
+    → option_and_then up_to_three (cond b None
+    (option_and_then (read rest None) (with_value name word (many o x y z u more)))) ≡ None
+many_due true name word rest o x y z u more again = refl
+many_due false name word rest o x y z u more again = many_value name word rest o x y z u more again
 
 -- so they stay too many, whatever the words
 too_many : (words : List Text) (x y z u : Text) → StaysMany words x y z u
-too_many [] x y z u None w c more = more_than_three w c x y z u more
-too_many [] x y z u (Some name) w c more = refl
-too_many (word ∷ rest) x y z u None w c more =
-    many_free (is_dashed word) word rest w c x y z u more (too_many rest x y z u)
-too_many (word ∷ rest) x y z u (Some name) w c more =
-    many_due (is_dashed word) name word rest w c x y z u more (too_many rest x y z u)
+too_many [] x y z u None o more = more_than_three (o workers) (o clone) x y z u more
+too_many [] x y z u (Some name) o more = refl
+too_many (word ∷ rest) x y z u None o more =
+    many_free (is_dashed word) word rest o x y z u more (too_many rest x y z u)
+too_many (word ∷ rest) x y z u (Some name) o more =
+    many_due (is_dashed word) name word rest o x y z u more (too_many rest x y z u)
 
 -- ---- the end of the words
 
@@ -106,61 +117,67 @@ unfolding walk_fault
 at_last rows p waiting position ended = refl
 
 -- what the rows tell is at most three positionals
-up_to_three-at : (w c : Option Text) (s : Stage) → up_to_three (values_at w c s) ≡ Some (values_at w c s)
-up_to_three-at w c none = refl
-up_to_three-at w c (one a) = refl
-up_to_three-at w c (two a b) = refl
-up_to_three-at w c (three a b d) = refl
+up_to_three-at : (o : OptionValues) (s : Stage) → up_to_three (values_at o s) ≡ Some (values_at o s)
+up_to_three-at o none = refl
+up_to_three-at o (one a) = refl
+up_to_three-at o (two a b) = refl
+up_to_three-at o (three a b d) = refl
 
 -- and no word more leaves it so
-up_to_three-end : (w c : Option Text) (s : Stage)
-    → up_to_three (with_positionals [] (values_at w c s)) ≡ Some (values_at w c s)
-up_to_three-end w c none = refl
-up_to_three-end w c (one a) = refl
-up_to_three-end w c (two a b) = refl
-up_to_three-end w c (three a b d) = refl
+up_to_three-end : (o : OptionValues) (s : Stage)
+    → up_to_three (with_positionals [] (values_at o s)) ≡ Some (values_at o s)
+up_to_three-end o none = refl
+up_to_three-end o (one a) = refl
+up_to_three-end o (two a b) = refl
+up_to_three-end o (three a b d) = refl
 
 -- clap finds what its rows tell
 values_from-end : (rows : List Row) (p : Option (Text × List Text)) (waiting : Waiting) (ended : Bool)
-    (w c : Option Text)
-    (s : Stage) → pending_fault rows p ≡ [] → HaveValues (rows_with rows p) w c s
-    → values_from (walk_between rows p waiting (place s) ended) [] ≡ Some (values_at w c s)
-values_from-end rows p waiting ended w c s clear st =
+    (o : OptionValues) (s : Stage) → pending_fault rows p ≡ [] → HaveValues (rows_with rows p) o s
+    → values_from (walk_between rows p waiting (place s) ended) [] ≡ Some (values_at o s)
+values_from-end rows p waiting ended o s clear st =
     at_last rows p waiting (place s) ended
     ∙ ap (λ k. unless_fault k (Some (values_in (rows_with rows p)))) clear
-    ∙ ap (λ (v : GivenView). Some v) (values_in-have (rows_with rows p) w c s st)
+    ∙ ap (λ (v : GivenView). Some v) (values_in-have (rows_with rows p) o s st)
 
 -- ---- behind `--`
 
--- each word is a positional, and a fourth is refused
-behind : (rest : List Text) (rows : List Row) (p : Option (Text × List Text)) (waiting : Waiting) (w c : Option Text)
-    (s : Stage) → pending_fault rows p ≡ [] → HaveValues (rows_with rows p) w c s
-    → values_from (walk_between rows p waiting (place s) true) rest
-    ≡ up_to_three (with_positionals rest (values_at w c s))
-behind [] rows p waiting w c s clear st =
-    values_from-end rows p waiting true w c s clear st ∙ sym (up_to_three-end w c s)
-behind (word ∷ rest) rows p waiting w c none clear st =
-    values_from-taken (walk_between rows p waiting 1 true)
-    (walk_between (rows_with rows p) (Some (codes "mode", word ∷ [])) idle 2 true)
-    word rest (fault_behind mode word rows p waiting ∙ clear) (walk_behind mode word rows p waiting)
-    ∙ behind rest (rows_with rows p) (Some (codes "mode", word ∷ [])) idle w c (one word)
-    (no_fault-place mode word (rows_with rows p) st.mode_row.there) (with_mode word (rows_with rows p) w c st)
-behind (word ∷ rest) rows p waiting w c (one a) clear st =
-    values_from-taken (walk_between rows p waiting 2 true)
-    (walk_between (rows_with rows p) (Some (codes "first", word ∷ [])) idle 3 true)
-    word rest (fault_behind first word rows p waiting ∙ clear) (walk_behind first word rows p waiting)
-    ∙ behind rest (rows_with rows p) (Some (codes "first", word ∷ [])) idle w c (two a word)
-    (no_fault-place first word (rows_with rows p) st.first_row.there) (with_first word a (rows_with rows p) w c st)
-behind (word ∷ rest) rows p waiting w c (two a b) clear st =
-    values_from-taken (walk_between rows p waiting 3 true)
-    (walk_between (rows_with rows p) (Some (codes "second", word ∷ [])) idle 4 true)
-    word rest (fault_behind second word rows p waiting ∙ clear) (walk_behind second word rows p waiting)
-    ∙ behind rest (rows_with rows p) (Some (codes "second", word ∷ [])) idle w c (three a b word)
-    (no_fault-place second word (rows_with rows p) st.second_row.there)
-    (with_second word a b (rows_with rows p) w c st)
-behind (word ∷ rest) rows p waiting w c (three a b d) clear st =
+-- in these words, each of which is a positional, clap finds what the rules read
+abbrev Behind : List Text → Type 0
+Behind words = (rows : List Row) (p : Option (Text × List Text)) (waiting : Waiting) (o : OptionValues) (s : Stage)
+    → pending_fault rows p ≡ [] → HaveValues (rows_with rows p) o s
+    → values_from (walk_between rows p waiting (place s) true) words ≡ up_to_three (with_positionals words (values_at o s))
+
+-- one of them, at this place
+behind_at : (k : Place) (s t : Stage) (word : Text) (rest : List Text) → Follows word k s t → Behind rest
+    → (rows : List Row) (p : Option (Text × List Text)) (waiting : Waiting) (o : OptionValues)
+    → pending_fault rows p ≡ [] → HaveValues (rows_with rows p) o s
+    → values_from (walk_between rows p waiting (positional_number k) true) (word ∷ rest)
+    ≡ up_to_three (with_positionals rest (values_at o t))
+behind_at k s t word rest follows again rows p waiting o clear st =
+    values_from-taken (walk_between rows p waiting (positional_number k) true)
+    (walk_between (rows_with rows p) (Some (positional_name k, word ∷ [])) idle (next_positional k) true)
+    word rest (fault_behind k word rows p waiting ∙ clear) (walk_behind k word rows p waiting)
+    ∙ ap (λ n. values_from (walk_between (rows_with rows p) (Some (positional_name k, word ∷ [])) idle n true) rest)
+    (next_place word k s t follows)
+    ∙ again (rows_with rows p) (Some (positional_name k, word ∷ [])) idle o t
+    (no_fault-place k word (rows_with rows p) (free_place word k s t (rows_with rows p) o follows st))
+    (place_pending k word (rows_with rows p) o s t follows st)
+
+-- so it is of all, and a fourth is refused
+behind : (words : List Text) → Behind words
+behind [] rows p waiting o s clear st =
+    values_from-end rows p waiting true o s clear st ∙ sym (up_to_three-end o s)
+behind (word ∷ rest) rows p waiting o none clear st =
+    behind_at mode none (one word) word rest at_mode (behind rest) rows p waiting o clear st
+behind (word ∷ rest) rows p waiting o (one a) clear st =
+    behind_at first (one a) (two a word) word rest (at_first a) (behind rest) rows p waiting o clear st
+behind (word ∷ rest) rows p waiting o (two a b) clear st =
+    behind_at second (two a b) (three a b word) word rest (at_second a b) (behind rest) rows p waiting o clear st
+behind (word ∷ rest) rows p waiting o (three a b c) clear st =
     values_from-refused (walk_between rows p waiting 4 true) word rest kind.UnknownArgument []
-    (fault_of_fourth_behind word rows p waiting) ∙ sym (more_than_three w c a b d word rest)
+    (fault_of_fourth_behind word rows p waiting)
+    ∙ sym (more_than_three (o workers) (o clone) a b c word rest)
 
 -- ---- where what is pending has a fault, clap refuses the words, whatever follows
 
@@ -186,7 +203,7 @@ doomed_behind (word ∷ rest) rows p waiting (one a) k ks fault =
 doomed_behind (word ∷ rest) rows p waiting (two a b) k ks fault =
     values_from-refused (walk_between rows p waiting 3 true) word rest k ks
     (fault_behind second word rows p waiting ∙ fault)
-doomed_behind (word ∷ rest) rows p waiting (three a b d) k ks fault =
+doomed_behind (word ∷ rest) rows p waiting (three a b c) k ks fault =
     values_from-refused (walk_between rows p waiting 4 true) word rest kind.UnknownArgument []
     (fault_of_fourth_behind word rows p waiting)
 
@@ -202,13 +219,13 @@ doomed_dashed ending word rest rows p waiting s k ks e fault =
     ∙ doomed_behind rest rows p waiting s k ks fault
 doomed_dashed (bare_option name) word rest rows p waiting s k ks e fault =
     ap (λ x. values_from (walk_between rows p waiting (place s) false) (x ∷ rest)) e
-    ∙ values_from-refused (walk_between rows p waiting (place s) false) (long name) rest k ks
+    ∙ values_from-refused (walk_between rows p waiting (place s) false) (option_word name) rest k ks
     (fault_of_name name rows p waiting (place s) ∙ ap (λ x. or_else x []) fault)
 doomed_dashed (option_with_value name v) word rest rows p waiting s k ks e fault =
     ap (λ x. values_from (walk_between rows p waiting (place s) false) (x ∷ rest)) e
-    ∙ values_from-refused (walk_between rows p waiting (place s) false) (long name ++ (61 ∷ v)) rest k ks
+    ∙ values_from-refused (walk_between rows p waiting (place s) false) (option_word name ++ (61 ∷ v)) rest k ks
     (fault_of_value name v rows p waiting (place s)
-    ∙ ap (λ x. or_else (or_else x (or_else (repeated (id_of name) (rows_with rows p)) [])) []) fault)
+    ∙ ap (λ x. or_else (or_else x (or_else (repeated (option_text name) (rows_with rows p)) [])) []) fault)
 doomed_dashed unknown word rest rows p waiting s k ks refuses fault =
     values_from-refused (walk_between rows p waiting (place s) false) word rest kind.UnknownArgument []
     (refuses rows p waiting (place s))
@@ -223,7 +240,7 @@ doomed_plain word rest rows p (one a) k ks is fault =
     values_from-refused (walk_between rows p idle 2 false) word rest k ks (fault_of_plain first word rows p is ∙ fault)
 doomed_plain word rest rows p (two a b) k ks is fault =
     values_from-refused (walk_between rows p idle 3 false) word rest k ks (fault_of_plain second word rows p is ∙ fault)
-doomed_plain word rest rows p (three a b d) k ks is fault =
+doomed_plain word rest rows p (three a b c) k ks is fault =
     values_from-refused (walk_between rows p idle 4 false) word rest kind.UnknownArgument []
     (fault_of_fourth word rows p is)
 
@@ -242,16 +259,16 @@ doomed (word ∷ rest) u rows p s k ks fault = ⊎_elim
 
 -- where nothing is due, clap finds in these words what the rules read
 abbrev Free : List Text → Type 0
-Free words = (rows : List Row) (p : Option (Text × List Text)) (w c : Option Text) (s : Stage)
-    → pending_fault rows p ≡ [] → HaveValues (rows_with rows p) w c s
+Free words = (rows : List Row) (p : Option (Text × List Text)) (o : OptionValues) (s : Stage)
+    → pending_fault rows p ≡ [] → HaveValues (rows_with rows p) o s
     → values_from (walk_between rows p idle (place s) false) words
-    ≡ option_and_then up_to_three (read words None (values_at w c s))
+    ≡ option_and_then up_to_three (read words None (values_at o s))
 
 -- and so where the value of an option is due
 abbrev Due : List Text → Type 0
-Due words = (name : OptionName) (rows : List Row) (w c : Option Text) (s : Stage) → HaveValues rows w c s
-    → values_from (walk_between rows (Some (id_of name, [])) (option (id_of name)) (place s) false) words
-    ≡ option_and_then up_to_three (read words (Some name) (values_at w c s))
+Due words = (name : OptionName) (rows : List Row) (o : OptionValues) (s : Stage) → HaveValues rows o s
+    → values_from (walk_between rows (Some (option_text name, [])) (option (option_text name)) (place s) false) words
+    ≡ option_and_then up_to_three (read words (Some name) (values_at o s))
 
 -- an option without a row is not there twice
 no_repeat : (id : Text) (rows : List Row) → has_row id rows ≡ false → repeated id rows ≡ []
@@ -261,163 +278,172 @@ no_repeat id rows h = rw h refl
 repeat : (id : Text) (rows : List Row) → has_row id rows ≡ true → repeated id rows ≡ kind.ArgumentConflict ∷ []
 repeat id rows h = rw h refl
 
+-- what the rules read behind a first value of an option
+read_new : (name : OptionName) (v : Text) (rest : List Text) (o : OptionValues) (s : Stage) → o name ≡ None
+    → option_and_then up_to_three (read rest None (values_at (with_option name v o) s))
+    ≡ option_and_then up_to_three (option_and_then (read rest None) (with_value name v (values_at o s)))
+read_new name v rest o s e = ap (λ g. option_and_then up_to_three (option_and_then (read rest None) g))
+    (sym (with_value-new name v o (listed s) e))
+
+-- a second one is refused
+read_twice : (name : OptionName) (v w : Text) (rest : List Text) (o : OptionValues) (s : Stage) → o name ≡ Some w
+    → None ≡ option_and_then up_to_three (option_and_then (read rest None) (with_value name v (values_at o s)))
+read_twice name v w rest o s e = ap (λ g. option_and_then up_to_three (option_and_then (read rest None) g))
+    (sym (with_value-twice name v w o (listed s) e))
+
 -- `--NAME=V`
 value_step : (name : OptionName) (v : Text) (rest : List Text) → Free rest → (rows : List Row)
-    (p : Option (Text × List Text)) (w c : Option Text) (s : Stage) → pending_fault rows p ≡ []
-    → HaveValues (rows_with rows p) w c s
-    → values_from (walk_between rows p idle (place s) false) ((long name ++ (61 ∷ v)) ∷ rest)
-    ≡ option_and_then up_to_three (option_and_then (read rest None) (with_value name v (values_at w c s)))
-value_step workers v rest free rows p None c s clear st =
-    values_from-taken (walk_between rows p idle (place s) false)
-    (walk_between (used (codes "workers") v (rows_with rows p)) None idle (place s) false)
-    (long workers ++ (61 ∷ v)) rest
-    (fault_of_value workers v rows p idle (place s)
-    ∙ ap₂ (λ a b. or_else (or_else a (or_else b [])) []) clear
-    (no_repeat (codes "workers") (rows_with rows p) st.workers_row.there))
-    (walk_of_value workers v rows p (place s))
-    ∙ free (used (codes "workers") v (rows_with rows p)) None (Some v) c s refl
-    (with_workers v (rows_with rows p) c s st)
-value_step workers v rest free rows p (Some o) c s clear st =
-    values_from-refused (walk_between rows p idle (place s) false)
-    (long workers ++ (61 ∷ v)) rest kind.ArgumentConflict []
-    (fault_of_value workers v rows p idle (place s)
-    ∙ ap₂ (λ a b. or_else (or_else a (or_else b [])) []) clear
-    (repeat (codes "workers") (rows_with rows p) st.workers_row.there))
-value_step clone v rest free rows p w None s clear st =
-    values_from-taken (walk_between rows p idle (place s) false)
-    (walk_between (used (codes "clone") v (rows_with rows p)) None idle (place s) false) (long clone ++ (61 ∷ v)) rest
-    (fault_of_value clone v rows p idle (place s)
-    ∙ ap₂ (λ a b. or_else (or_else a (or_else b [])) []) clear
-    (no_repeat (codes "clone") (rows_with rows p) st.clone_row.there))
-    (walk_of_value clone v rows p (place s))
-    ∙ free (used (codes "clone") v (rows_with rows p)) None w (Some v) s refl
-    (with_clone v (rows_with rows p) w s st)
-value_step clone v rest free rows p w (Some o) s clear st =
-    values_from-refused (walk_between rows p idle (place s) false)
-    (long clone ++ (61 ∷ v)) rest kind.ArgumentConflict []
-    (fault_of_value clone v rows p idle (place s)
-    ∙ ap₂ (λ a b. or_else (or_else a (or_else b [])) []) clear
-    (repeat (codes "clone") (rows_with rows p) st.clone_row.there))
+    (p : Option (Text × List Text)) (o : OptionValues) (s : Stage) → pending_fault rows p ≡ []
+    → HaveValues (rows_with rows p) o s
+    → values_from (walk_between rows p idle (place s) false) ((option_word name ++ (61 ∷ v)) ∷ rest)
+    ≡ option_and_then up_to_three (option_and_then (read rest None) (with_value name v (values_at o s)))
+value_step name v rest free rows p o s clear st = by (o name) refl
+  where
+    by : (given : Option Text) → o name ≡ given
+        → values_from (walk_between rows p idle (place s) false) ((option_word name ++ (61 ∷ v)) ∷ rest)
+        ≡ option_and_then up_to_three (option_and_then (read rest None) (with_value name v (values_at o s)))
+    by None e =
+        values_from-taken (walk_between rows p idle (place s) false)
+        (walk_between (used (option_text name) v (rows_with rows p)) None idle (place s) false)
+        (option_word name ++ (61 ∷ v)) rest
+        (fault_of_value name v rows p idle (place s)
+        ∙ ap₂ (λ a b. or_else (or_else a (or_else b [])) []) clear
+        (no_repeat (option_text name) (rows_with rows p) (not_given (rows_with rows p) o s name st e)))
+        (walk_of_value name v rows p (place s))
+        ∙ free (used (option_text name) v (rows_with rows p)) None (with_option name v o) s refl
+        (option_used name v (rows_with rows p) o s st e)
+        ∙ read_new name v rest o s e
+    by (Some w) e =
+        values_from-refused (walk_between rows p idle (place s) false)
+        (option_word name ++ (61 ∷ v)) rest kind.ArgumentConflict []
+        (fault_of_value name v rows p idle (place s)
+        ∙ ap₂ (λ a b. or_else (or_else a (or_else b [])) []) clear
+        (repeat (option_text name) (rows_with rows p) (is_given (rows_with rows p) o s name w st e)))
+        ∙ read_twice name v w rest o s e
 
 -- a word with a dash, where nothing is due
 free_dashed : (d : DashedWord) (word : Text) (rest : List Text) → Free rest → Due rest → Says d word → (rows : List Row)
-    (p : Option (Text × List Text)) (w c : Option Text) (s : Stage) → pending_fault rows p ≡ []
-    → HaveValues (rows_with rows p) w c s
+    (p : Option (Text × List Text)) (o : OptionValues) (s : Stage) → pending_fault rows p ≡ []
+    → HaveValues (rows_with rows p) o s
     → values_from (walk_between rows p idle (place s) false) (word ∷ rest)
-    ≡ option_and_then up_to_three (after_dashed d rest (read rest) (values_at w c s))
-free_dashed ending word rest free due e rows p w c s clear st =
+    ≡ option_and_then up_to_three (after_dashed d rest (read rest) (values_at o s))
+free_dashed ending word rest free due e rows p o s clear st =
     ap (λ x. values_from (walk_between rows p idle (place s) false) (x ∷ rest)) e
     ∙ values_from-taken (walk_between rows p idle (place s) false)
     (walk_between rows p idle (place s) true) (codes "--") rest
     (fault_at_end rows p idle (place s)) (walk_at_end rows p idle (place s))
-    ∙ behind rest rows p idle w c s clear st
-free_dashed (bare_option name) word rest free due e rows p w c s clear st =
+    ∙ behind rest rows p idle o s clear st
+free_dashed (bare_option name) word rest free due e rows p o s clear st =
     ap (λ x. values_from (walk_between rows p idle (place s) false) (x ∷ rest)) e
     ∙ values_from-taken (walk_between rows p idle (place s) false)
-    (walk_between (rows_with rows p) (Some (id_of name, [])) (option (id_of name)) (place s) false) (long name) rest
+    (walk_between (rows_with rows p) (Some (option_text name, [])) (option (option_text name)) (place s) false)
+    (option_word name) rest
     (fault_of_name name rows p idle (place s) ∙ ap (λ x. or_else x []) clear) (walk_of_name name rows p (place s))
-    ∙ due name (rows_with rows p) w c s st
-free_dashed (option_with_value name v) word rest free due e rows p w c s clear st =
+    ∙ due name (rows_with rows p) o s st
+free_dashed (option_with_value name v) word rest free due e rows p o s clear st =
     ap (λ x. values_from (walk_between rows p idle (place s) false) (x ∷ rest)) e
-    ∙ value_step name v rest free rows p w c s clear st
-free_dashed unknown word rest free due refuses rows p w c s clear st =
+    ∙ value_step name v rest free rows p o s clear st
+free_dashed unknown word rest free due refuses rows p o s clear st =
     values_from-refused (walk_between rows p idle (place s) false) word rest kind.UnknownArgument []
     (refuses rows p idle (place s))
 
--- a word without one, where nothing is due: a positional
+-- a positional at this place, where nothing is due
+free_at : (k : Place) (s t : Stage) (word : Text) (rest : List Text) → Follows word k s t → Free rest → IsPlain word
+    → (rows : List Row) (p : Option (Text × List Text)) (o : OptionValues) → pending_fault rows p ≡ []
+    → HaveValues (rows_with rows p) o s
+    → values_from (walk_between rows p idle (positional_number k) false) (word ∷ rest)
+    ≡ option_and_then up_to_three (read rest None (values_at o t))
+free_at k s t word rest follows free is rows p o clear st =
+    values_from-taken (walk_between rows p idle (positional_number k) false)
+    (walk_between (rows_with rows p) (Some (positional_name k, word ∷ [])) idle (next_positional k) false)
+    word rest (fault_of_plain k word rows p is ∙ clear) (walk_of_plain k word rows p is)
+    ∙ ap (λ n. values_from (walk_between (rows_with rows p) (Some (positional_name k, word ∷ [])) idle n false) rest)
+    (next_place word k s t follows)
+    ∙ free (rows_with rows p) (Some (positional_name k, word ∷ [])) o t
+    (no_fault-place k word (rows_with rows p) (free_place word k s t (rows_with rows p) o follows st))
+    (place_pending k word (rows_with rows p) o s t follows st)
+
+-- a word without a dash, where nothing is due: a positional
 free_plain : (word : Text) (rest : List Text) → Free rest → IsPlain word → (rows : List Row)
-    (p : Option (Text × List Text)) (w c : Option Text) (s : Stage) → pending_fault rows p ≡ []
-    → HaveValues (rows_with rows p) w c s
+    (p : Option (Text × List Text)) (o : OptionValues) (s : Stage) → pending_fault rows p ≡ []
+    → HaveValues (rows_with rows p) o s
     → values_from (walk_between rows p idle (place s) false) (word ∷ rest)
-    ≡ option_and_then up_to_three (read rest None (with_positionals (word ∷ []) (values_at w c s)))
-free_plain word rest free is rows p w c none clear st =
-    values_from-taken (walk_between rows p idle 1 false)
-    (walk_between (rows_with rows p) (Some (codes "mode", word ∷ [])) idle 2 false)
-    word rest (fault_of_plain mode word rows p is ∙ clear) (walk_of_plain mode word rows p is)
-    ∙ free (rows_with rows p) (Some (codes "mode", word ∷ [])) w c (one word)
-    (no_fault-place mode word (rows_with rows p) st.mode_row.there) (with_mode word (rows_with rows p) w c st)
-free_plain word rest free is rows p w c (one a) clear st =
-    values_from-taken (walk_between rows p idle 2 false)
-    (walk_between (rows_with rows p) (Some (codes "first", word ∷ [])) idle 3 false)
-    word rest (fault_of_plain first word rows p is ∙ clear) (walk_of_plain first word rows p is)
-    ∙ free (rows_with rows p) (Some (codes "first", word ∷ [])) w c (two a word)
-    (no_fault-place first word (rows_with rows p) st.first_row.there) (with_first word a (rows_with rows p) w c st)
-free_plain word rest free is rows p w c (two a b) clear st =
-    values_from-taken (walk_between rows p idle 3 false)
-    (walk_between (rows_with rows p) (Some (codes "second", word ∷ [])) idle 4 false)
-    word rest (fault_of_plain second word rows p is ∙ clear) (walk_of_plain second word rows p is)
-    ∙ free (rows_with rows p) (Some (codes "second", word ∷ [])) w c (three a b word)
-    (no_fault-place second word (rows_with rows p) st.second_row.there)
-    (with_second word a b (rows_with rows p) w c st)
-free_plain word rest free is rows p w c (three a b d) clear st =
+    ≡ option_and_then up_to_three (read rest None (with_positionals (word ∷ []) (values_at o s)))
+free_plain word rest free is rows p o none clear st =
+    free_at mode none (one word) word rest at_mode free is rows p o clear st
+free_plain word rest free is rows p o (one a) clear st =
+    free_at first (one a) (two a word) word rest (at_first a) free is rows p o clear st
+free_plain word rest free is rows p o (two a b) clear st =
+    free_at second (two a b) (three a b word) word rest (at_second a b) free is rows p o clear st
+free_plain word rest free is rows p o (three a b c) clear st =
     values_from-refused (walk_between rows p idle 4 false) word rest kind.UnknownArgument []
     (fault_of_fourth word rows p is)
-    ∙ sym (too_many rest a b d word None w c [])
+    ∙ sym (too_many rest a b c word None o [])
 
 -- any word, where nothing is due
 free_step : (word : Text) (rest : List Text) → IsUtf8 word → Free rest → Due rest → Free (word ∷ rest)
-free_step word rest u free due rows p w c s clear st =
-    let dash : Option GivenView = after_dashed (dashed_word word) rest (read rest) (values_at w c s) in
-    let text : Option GivenView = read rest None (with_positionals (word ∷ []) (values_at w c s)) in
+free_step word rest u free due rows p o s clear st =
+    let dash : Option GivenView = after_dashed (dashed_word word) rest (read rest) (values_at o s) in
+    let text : Option GivenView = read rest None (with_positionals (word ∷ []) (values_at o s)) in
     ⊎_elim
     (λ (yes : is_dashed word ≡ true).
-    free_dashed (dashed_word word) word rest free due (Says-dashed_word word u yes) rows p w c s clear st
+    free_dashed (dashed_word word) word rest free due (Says-dashed_word word u yes) rows p o s clear st
     ∙ ap (λ (t : Bool). option_and_then up_to_three (cond t dash text)) (sym yes))
-    (λ (no : is_dashed word ≡ false). free_plain word rest free (IsPlain-of_undashed word no) rows p w c s clear st
+    (λ (no : is_dashed word ≡ false). free_plain word rest free (IsPlain-of_undashed word no) rows p o s clear st
     ∙ ap (λ (t : Bool). option_and_then up_to_three (cond t dash text)) (sym no))
     (cases_Bool (is_dashed word))
 
 -- a word without a dash, where a value is due: the value
 due_plain : (name : OptionName) (word : Text) (rest : List Text) → AllByRecursion IsUtf8 rest → Free rest
-    → IsPlain word → (rows : List Row) (w c : Option Text) (s : Stage) → HaveValues rows w c s
-    → values_from (walk_between rows (Some (id_of name, [])) (option (id_of name)) (place s) false) (word ∷ rest)
-    ≡ option_and_then up_to_three (option_and_then (read rest None) (with_value name word (values_at w c s)))
-due_plain workers word rest us free is rows None c s st =
-    values_from-taken (walk_between rows (Some (codes "workers", [])) (option (codes "workers")) (place s) false)
-    (walk_between rows (Some (codes "workers", word ∷ [])) idle (place s) false) word rest
-    (fault_of_next workers word rows (place s) is) (walk_of_next workers word rows (place s) is)
-    ∙ free rows (Some (codes "workers", word ∷ [])) (Some word) c s
-    (no_fault-option workers word rows st.workers_row.there) (with_workers word rows c s st)
-due_plain workers word rest us free is rows (Some o) c s st =
-    values_from-taken (walk_between rows (Some (codes "workers", [])) (option (codes "workers")) (place s) false)
-    (walk_between rows (Some (codes "workers", word ∷ [])) idle (place s) false) word rest
-    (fault_of_next workers word rows (place s) is) (walk_of_next workers word rows (place s) is)
-    ∙ doomed rest us rows (Some (codes "workers", word ∷ [])) s kind.ArgumentConflict []
-    (fault-twice workers word rows st.workers_row.there)
-due_plain clone word rest us free is rows w None s st =
-    values_from-taken (walk_between rows (Some (codes "clone", [])) (option (codes "clone")) (place s) false)
-    (walk_between rows (Some (codes "clone", word ∷ [])) idle (place s) false) word rest
-    (fault_of_next clone word rows (place s) is) (walk_of_next clone word rows (place s) is)
-    ∙ free rows (Some (codes "clone", word ∷ [])) w (Some word) s
-    (no_fault-option clone word rows st.clone_row.there) (with_clone word rows w s st)
-due_plain clone word rest us free is rows w (Some o) s st =
-    values_from-taken (walk_between rows (Some (codes "clone", [])) (option (codes "clone")) (place s) false)
-    (walk_between rows (Some (codes "clone", word ∷ [])) idle (place s) false) word rest
-    (fault_of_next clone word rows (place s) is) (walk_of_next clone word rows (place s) is)
-    ∙ doomed rest us rows (Some (codes "clone", word ∷ [])) s kind.ArgumentConflict []
-    (fault-twice clone word rows st.clone_row.there)
+    → IsPlain word → (rows : List Row) (o : OptionValues) (s : Stage) → HaveValues rows o s
+    → values_from (walk_between rows (Some (option_text name, [])) (option (option_text name)) (place s) false)
+    (word ∷ rest)
+    ≡ option_and_then up_to_three (option_and_then (read rest None) (with_value name word (values_at o s)))
+due_plain name word rest us free is rows o s st = by (o name) refl
+  where
+    by : (given : Option Text) → o name ≡ given
+        → values_from (walk_between rows (Some (option_text name, [])) (option (option_text name)) (place s) false)
+        (word ∷ rest)
+        ≡ option_and_then up_to_three (option_and_then (read rest None) (with_value name word (values_at o s)))
+    by None e =
+        values_from-taken
+        (walk_between rows (Some (option_text name, [])) (option (option_text name)) (place s) false)
+        (walk_between rows (Some (option_text name, word ∷ [])) idle (place s) false) word rest
+        (fault_of_next name word rows (place s) is) (walk_of_next name word rows (place s) is)
+        ∙ free rows (Some (option_text name, word ∷ [])) (with_option name word o) s
+        (no_fault-option name word rows (not_given rows o s name st e))
+        (option_pending name word rows o s st e)
+        ∙ read_new name word rest o s e
+    by (Some w) e =
+        values_from-taken
+        (walk_between rows (Some (option_text name, [])) (option (option_text name)) (place s) false)
+        (walk_between rows (Some (option_text name, word ∷ [])) idle (place s) false) word rest
+        (fault_of_next name word rows (place s) is) (walk_of_next name word rows (place s) is)
+        ∙ doomed rest us rows (Some (option_text name, word ∷ [])) s kind.ArgumentConflict []
+        (fault-twice name word rows (is_given rows o s name w st e))
+        ∙ read_twice name word w rest o s e
 
 -- any word, where a value is due
 due_step : (word : Text) (rest : List Text) → IsUtf8 word → AllByRecursion IsUtf8 rest → Free rest
     → Due (word ∷ rest)
-due_step word rest u us free name rows w c s st =
-    let text : Option GivenView = option_and_then (read rest None) (with_value name word (values_at w c s)) in
+due_step word rest u us free name rows o s st =
+    let text : Option GivenView = option_and_then (read rest None) (with_value name word (values_at o s)) in
     ⊎_elim
     (λ (yes : is_dashed word ≡ true).
-    doomed_dashed (dashed_word word) word rest rows (Some (id_of name, [])) (option (id_of name)) s kind.InvalidValue []
-    (Says-dashed_word word u yes) (fault-missing name rows)
+    doomed_dashed (dashed_word word) word rest rows (Some (option_text name, [])) (option (option_text name)) s
+    kind.InvalidValue [] (Says-dashed_word word u yes) (fault-missing name rows)
     ∙ ap (λ (t : Bool). option_and_then up_to_three (cond t None text)) (sym yes))
-    (λ (no : is_dashed word ≡ false). due_plain name word rest us free (IsPlain-of_undashed word no) rows w c s st
+    (λ (no : is_dashed word ≡ false). due_plain name word rest us free (IsPlain-of_undashed word no) rows o s st
     ∙ ap (λ (t : Bool). option_and_then up_to_three (cond t None text)) (sym no))
     (cases_Bool (is_dashed word))
 
 -- no word more
 free_end : Free []
-free_end rows p w c s clear st = values_from-end rows p idle false w c s clear st ∙ sym (up_to_three-at w c s)
+free_end rows p o s clear st = values_from-end rows p idle false o s clear st ∙ sym (up_to_three-at o s)
 
 -- the value is missing
 due_end : Due []
-due_end name rows w c s st = doomed_end rows (Some (id_of name, [])) (option (id_of name)) (place s) false
+due_end name rows o s st = doomed_end rows (Some (option_text name, [])) (option (option_text name)) (place s) false
     kind.InvalidValue [] (fault-missing name rows)
 
 -- so at any words
@@ -525,4 +551,4 @@ texts (word ∷ rest) h =
 pub clap_finds_the_values : ClapFindsTheValues
 unfolding values
 clap_finds_the_values words h =
-    clap_values-start words ∙ (steps words (texts words h)).0 [] None None None none refl at_start
+    clap_values-start words ∙ (steps words (texts words h)).0 [] None no_options none refl at_start

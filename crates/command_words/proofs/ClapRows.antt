@@ -8,9 +8,10 @@ use Rattle.clap.specs.declared.error.kind.ErrorKind.TheVariants as kind
 use Rattle.clap.specs.declared.builder.value_parser.Reading.TheVariants.{AsWritten}
 use Rattle.clap.specs.declared.parser.matches.ValueSource.TheVariants.{CommandLine}
 use Rattle.command_words.specs.Clap.{values_in}
-use Rattle.command_words.specs.Rules.{OptionName, workers, clone}
+use Rattle.command_words.specs.Rules.{OptionName, workers, clone, option_text, with_value}
 use Rattle.command_words.specs.Values.{GivenView, positionals_of}
-use Rattle.command_words.proofs.ClapSteps.{Place, first, id_of, mode, pending_fault, positional_name, second, used}
+use Rattle.command_words.proofs.ClapSteps.{Place, first, mode, next_positional, pending_fault, positional_name, second}
+use Rattle.command_words.proofs.ClapSteps.{rows_with, rows_with-option, rows_with-place, used}
 
 -- ---- a use of what was not used yet is a row more
 
@@ -104,142 +105,218 @@ listed (one a) = a ∷ []
 listed (two a b) = a ∷ b ∷ []
 listed (three a b c) = a ∷ b ∷ c ∷ []
 
--- the place of the next one
+-- the number of the next one
 abbrev pub place : Stage → ℕ
 place none = 1
 place (one a) = 2
 place (two a b) = 3
 place (three a b c) = 4
 
--- the first
-abbrev mode_in : Stage → Option Text
-mode_in none = None
-mode_in (one a) = Some a
-mode_in (two a b) = Some a
-mode_in (three a b c) = Some a
+-- the index of a place in the list
+abbrev pub index_of : Place → ℕ
+index_of mode = 0
+index_of first = 1
+index_of second = 2
 
--- the second
-abbrev first_in : Stage → Option Text
-first_in none = None
-first_in (one a) = None
-first_in (two a b) = Some b
-first_in (three a b c) = Some b
+-- what stands at a place, if anything does
+abbrev pub at_place : Place → Stage → Option Text
+at_place k s = slice_get (listed s) (index_of k)
 
--- the third
-abbrev second_in : Stage → Option Text
-second_in none = None
-second_in (one a) = None
-second_in (two a b) = None
-second_in (three a b c) = Some c
+-- the value of each option, if it is given
+abbrev pub OptionValues : Type 0
+OptionValues = OptionName → Option Text
+
+-- none is given
+abbrev pub no_options : OptionValues
+no_options name = None
+
+-- the same, with a value of one of them
+abbrev pub with_option : OptionName → Text → OptionValues → OptionValues
+with_option workers v o workers = Some v
+with_option clone v o clone = Some v
+with_option given v o name = o name
 
 -- these as the values of a command line
-abbrev pub values_at : Option Text → Option Text → Stage → GivenView
-values_at w c s = record { workers = w; clone = c; positionals = listed s }
+abbrev pub values_at : OptionValues → Stage → GivenView
+values_at o s = record { workers = o workers; clone = o clone; positionals = listed s }
 
 -- the rows have these values of the options, and these positionals
-pub record HaveValues (rows : List Row) (w c : Option Text) (s : Stage) : Type 0 where
-  pub workers_row : Tells rows (codes "workers") w
-  pub clone_row : Tells rows (codes "clone") c
-  pub mode_row : Tells rows (codes "mode") (mode_in s)
-  pub first_row : Tells rows (codes "first") (first_in s)
-  pub second_row : Tells rows (codes "second") (second_in s)
+pub record HaveValues (rows : List Row) (o : OptionValues) (s : Stage) : Type 0 where
+  pub options : (name : OptionName) → Tells rows (option_text name) (o name)
+  pub places : (k : Place) → Tells rows (positional_name k) (at_place k s)
 
 -- no rows tell of nothing
-pub at_start : HaveValues [] None None none
-at_start = record {
-  workers_row = record { first_value = refl; there = refl };
-  clone_row = record { first_value = refl; there = refl };
-  mode_row = record { first_value = refl; there = refl };
-  first_row = record { first_value = refl; there = refl };
-  second_row = record { first_value = refl; there = refl };
-}
+pub at_start : HaveValues [] no_options none
+at_start = record { options = λ name. of_option name; places = λ k. of_place k }
+  where
+    of_option : (name : OptionName) → Tells [] (option_text name) None
+    of_option name = record { first_value = refl; there = refl }
+
+    of_place : (k : Place) → Tells [] (positional_name k) (at_place k none)
+    of_place mode = record { first_value = refl; there = refl }
+    of_place first = record { first_value = refl; there = refl }
+    of_place second = record { first_value = refl; there = refl }
 
 -- the three places as a list
-positionals_of-stage : (s : Stage) → positionals_of (mode_in s) (first_in s) (second_in s) ≡ listed s
+positionals_of-stage : (s : Stage)
+    → positionals_of (at_place mode s) (at_place first s) (at_place second s) ≡ listed s
 positionals_of-stage none = refl
 positionals_of-stage (one a) = refl
 positionals_of-stage (two a b) = refl
 positionals_of-stage (three a b c) = refl
 
 -- what the rows have is what they tell
-pub values_in-have : (rows : List Row) (w c : Option Text) (s : Stage) → HaveValues rows w c s
-    → values_in rows ≡ values_at w c s
-values_in-have rows w c s h = rw (
-  h.workers_row.first_value,
-  h.clone_row.first_value,
-  h.second_row.first_value,
-  h.first_row.first_value,
-  h.mode_row.first_value,
+pub values_in-have : (rows : List Row) (o : OptionValues) (s : Stage) → HaveValues rows o s
+    → values_in rows ≡ values_at o s
+values_in-have rows o s h = rw (
+  (h.options workers).first_value,
+  (h.options clone).first_value,
+  (h.places mode).first_value,
+  (h.places first).first_value,
+  (h.places second).first_value,
   positionals_of-stage s,
 ) refl
 
--- a first `--workers`
-pub with_workers : (v : Text) (rows : List Row) (c : Option Text) (s : Stage) → HaveValues rows None c s
-    → HaveValues (used (codes "workers") v rows) (Some v) c s
-with_workers v rows c s h = record {
-  workers_row = tells-same (codes "workers") v rows refl h.workers_row;
-  clone_row = tells-other (codes "workers") (codes "clone") v rows c h.workers_row.there refl h.clone_row;
-  mode_row = tells-other (codes "workers") (codes "mode") v rows (mode_in s) h.workers_row.there refl h.mode_row;
-  first_row = tells-other (codes "workers") (codes "first") v rows (first_in s) h.workers_row.there refl h.first_row;
-  second_row = tells-other (codes "workers") (codes "second") v rows (second_in s) h.workers_row.there refl
-      h.second_row;
-}
+-- no positional has the name of an option
+option_or_place : (name : OptionName) (k : Place) → bytes_eq (option_text name) (positional_name k) ≡ false
+option_or_place workers mode = refl
+option_or_place workers first = refl
+option_or_place workers second = refl
+option_or_place clone mode = refl
+option_or_place clone first = refl
+option_or_place clone second = refl
 
--- a first `--clone`
-pub with_clone : (v : Text) (rows : List Row) (w : Option Text) (s : Stage) → HaveValues rows w None s
-    → HaveValues (used (codes "clone") v rows) w (Some v) s
-with_clone v rows w s h = record {
-  workers_row = tells-other (codes "clone") (codes "workers") v rows w h.clone_row.there refl h.workers_row;
-  clone_row = tells-same (codes "clone") v rows refl h.clone_row;
-  mode_row = tells-other (codes "clone") (codes "mode") v rows (mode_in s) h.clone_row.there refl h.mode_row;
-  first_row = tells-other (codes "clone") (codes "first") v rows (first_in s) h.clone_row.there refl h.first_row;
-  second_row = tells-other (codes "clone") (codes "second") v rows (second_in s) h.clone_row.there refl h.second_row;
-}
+-- nor an option that of a positional
+place_or_option : (k : Place) (name : OptionName) → bytes_eq (positional_name k) (option_text name) ≡ false
+place_or_option mode workers = refl
+place_or_option mode clone = refl
+place_or_option first workers = refl
+place_or_option first clone = refl
+place_or_option second workers = refl
+place_or_option second clone = refl
 
--- a first positional
-pub with_mode : (v : Text) (rows : List Row) (w c : Option Text) → HaveValues rows w c none
-    → HaveValues (used (codes "mode") v rows) w c (one v)
-with_mode v rows w c h = record {
-  workers_row = tells-other (codes "mode") (codes "workers") v rows w h.mode_row.there refl h.workers_row;
-  clone_row = tells-other (codes "mode") (codes "clone") v rows c h.mode_row.there refl h.clone_row;
-  mode_row = tells-same (codes "mode") v rows refl h.mode_row;
-  first_row = tells-other (codes "mode") (codes "first") v rows None h.mode_row.there refl h.first_row;
-  second_row = tells-other (codes "mode") (codes "second") v rows None h.mode_row.there refl h.second_row;
+-- an option that is not given has no row
+pub not_given : (rows : List Row) (o : OptionValues) (s : Stage) (name : OptionName) → HaveValues rows o s
+    → o name ≡ None → has_row (option_text name) rows ≡ false
+not_given rows o s name h unused = (h.options name).there ∙ ap is_some unused
+
+-- one that is given has
+pub is_given : (rows : List Row) (o : OptionValues) (s : Stage) (name : OptionName) (w : Text) → HaveValues rows o s
+    → o name ≡ Some w → has_row (option_text name) rows ≡ true
+is_given rows o s name w h some = (h.options name).there ∙ ap is_some some
+
+-- a first use of an option
+pub option_used : (name : OptionName) (v : Text) (rows : List Row) (o : OptionValues) (s : Stage) → HaveValues rows o s
+    → o name ≡ None → HaveValues (used (option_text name) v rows) (with_option name v o) s
+option_used name v rows o s h unused = record {
+  options = λ n. of_option name n free (subst (λ x. Tells rows (option_text name) x) unused (h.options name)) (h.options n);
+  places = λ k. tells-other (option_text name) (positional_name k) v rows (at_place k s) free (option_or_place name k)
+      (h.places k);
 }
+  where
+    free : has_row (option_text name) rows ≡ false
+    free = not_given rows o s name h unused
+
+    of_option : (name n : OptionName) → has_row (option_text name) rows ≡ false → Tells rows (option_text name) None
+        → Tells rows (option_text n) (o n) → Tells (used (option_text name) v rows) (option_text n) (with_option name v o n)
+    of_option workers workers f t old = tells-same (option_text workers) v rows refl t
+    of_option workers clone f t old = tells-other (option_text workers) (option_text clone) v rows (o clone) f refl old
+    of_option clone workers f t old = tells-other (option_text clone) (option_text workers) v rows (o workers) f refl old
+    of_option clone clone f t old = tells-same (option_text clone) v rows refl t
+
+-- the same, while it is pending
+pub option_pending : (name : OptionName) (v : Text) (rows : List Row) (o : OptionValues) (s : Stage)
+    → HaveValues rows o s → o name ≡ None
+    → HaveValues (rows_with rows (Some (option_text name, v ∷ []))) (with_option name v o) s
+option_pending name v rows o s h unused = subst (λ r. HaveValues r (with_option name v o) s)
+    (sym (rows_with-option name v rows)) (option_used name v rows o s h unused)
+
+-- ---- with_value
+
+-- a first value of an option
+pub with_value-new : (name : OptionName) (v : Text) (o : OptionValues) (words : List Text) → o name ≡ None
+    → with_value name v (record { workers = o workers; clone = o clone; positionals = words })
+    ≡ Some (record {
+      workers = with_option name v o workers;
+      clone = with_option name v o clone;
+      positionals = words;
+    })
+with_value-new workers v o words h = rw h refl
+with_value-new clone v o words h = rw h refl
 
 -- a second one
-pub with_first : (v a : Text) (rows : List Row) (w c : Option Text) → HaveValues rows w c (one a)
-    → HaveValues (used (codes "first") v rows) w c (two a v)
-with_first v a rows w c h = record {
-  workers_row = tells-other (codes "first") (codes "workers") v rows w h.first_row.there refl h.workers_row;
-  clone_row = tells-other (codes "first") (codes "clone") v rows c h.first_row.there refl h.clone_row;
-  mode_row = tells-other (codes "first") (codes "mode") v rows (Some a) h.first_row.there refl h.mode_row;
-  first_row = tells-same (codes "first") v rows refl h.first_row;
-  second_row = tells-other (codes "first") (codes "second") v rows None h.first_row.there refl h.second_row;
-}
+pub with_value-twice : (name : OptionName) (v w : Text) (o : OptionValues) (words : List Text) → o name ≡ Some w
+    → with_value name v (record { workers = o workers; clone = o clone; positionals = words }) ≡ None
+with_value-twice workers v w o words h = rw h refl
+with_value-twice clone v w o words h = rw h refl
 
--- a third one
-pub with_second : (v a b : Text) (rows : List Row) (w c : Option Text) → HaveValues rows w c (two a b)
-    → HaveValues (used (codes "second") v rows) w c (three a b v)
-with_second v a b rows w c h = record {
-  workers_row = tells-other (codes "second") (codes "workers") v rows w h.second_row.there refl h.workers_row;
-  clone_row = tells-other (codes "second") (codes "clone") v rows c h.second_row.there refl h.clone_row;
-  mode_row = tells-other (codes "second") (codes "mode") v rows (Some a) h.second_row.there refl h.mode_row;
-  first_row = tells-other (codes "second") (codes "first") v rows (Some b) h.second_row.there refl h.first_row;
-  second_row = tells-same (codes "second") v rows refl h.second_row;
+-- ---- a use of a positional
+
+-- a positional more, at this place: the positionals before it, and with it
+pub data Follows (v : Text) : Place → Stage → Stage → Type 0 where
+  at_mode : Follows v mode none (one v)
+  at_first : (a : Text) → Follows v first (one a) (two a v)
+  at_second : (a b : Text) → Follows v second (two a b) (three a b v)
+
+-- nothing stood there
+not_there : (v : Text) (k : Place) (s t : Stage) → Follows v k s t → at_place k s ≡ None
+not_there v _ _ _ at_mode = refl
+not_there v _ _ _ (at_first a) = refl
+not_there v _ _ _ (at_second a b) = refl
+
+-- the number behind it is that of the next place
+pub next_place : (v : Text) (k : Place) (s t : Stage) → Follows v k s t → next_positional k ≡ place t
+next_place v _ _ _ at_mode = refl
+next_place v _ _ _ (at_first a) = refl
+next_place v _ _ _ (at_second a b) = refl
+
+-- there is no row for it
+pub free_place : (v : Text) (k : Place) (s t : Stage) (rows : List Row) (o : OptionValues) → Follows v k s t
+    → HaveValues rows o s → has_row (positional_name k) rows ≡ false
+free_place v k s t rows o follows h = (h.places k).there ∙ ap is_some (not_there v k s t follows)
+
+-- a use of a positional
+pub place_used : (k : Place) (v : Text) (rows : List Row) (o : OptionValues) (s t : Stage) → Follows v k s t
+    → HaveValues rows o s → HaveValues (used (positional_name k) v rows) o t
+place_used k v rows o s t follows h = record {
+  options = λ n. tells-other (positional_name k) (option_text n) v rows (o n) free (place_or_option k n) (h.options n);
+  places = λ n. of_place k s t follows n free (subst (λ x. Tells rows (positional_name k) x) (not_there v k s t follows)
+      (h.places k)) (h.places n);
 }
+  where
+    free : has_row (positional_name k) rows ≡ false
+    free = free_place v k s t rows o follows h
+
+    of_place : (k : Place) (s t : Stage) → Follows v k s t → (n : Place) → has_row (positional_name k) rows ≡ false
+        → Tells rows (positional_name k) None → Tells rows (positional_name n) (at_place n s)
+        → Tells (used (positional_name k) v rows) (positional_name n) (at_place n t)
+    of_place _ _ _ at_mode mode f u old = tells-same (codes "mode") v rows refl u
+    of_place _ _ _ at_mode first f u old = tells-other (codes "mode") (codes "first") v rows None f refl old
+    of_place _ _ _ at_mode second f u old = tells-other (codes "mode") (codes "second") v rows None f refl old
+    of_place _ _ _ (at_first a) mode f u old = tells-other (codes "first") (codes "mode") v rows (Some a) f refl old
+    of_place _ _ _ (at_first a) first f u old = tells-same (codes "first") v rows refl u
+    of_place _ _ _ (at_first a) second f u old = tells-other (codes "first") (codes "second") v rows None f refl old
+    of_place _ _ _ (at_second a b) mode f u old = tells-other (codes "second") (codes "mode") v rows (Some a) f refl old
+    of_place _ _ _ (at_second a b) first f u old = tells-other (codes "second") (codes "first") v rows (Some b) f refl old
+    of_place _ _ _ (at_second a b) second f u old = tells-same (codes "second") v rows refl u
+
+-- the same, while it is pending
+pub place_pending : (k : Place) (v : Text) (rows : List Row) (o : OptionValues) (s t : Stage) → Follows v k s t
+    → HaveValues rows o s → HaveValues (rows_with rows (Some (positional_name k, v ∷ []))) o t
+place_pending k v rows o s t follows h = subst (λ r. HaveValues r o t)
+    (sym (rows_with-place k v rows)) (place_used k v rows o s t follows h)
 
 -- ---- what is pending
 
 -- a first use of an option has no fault
-pub no_fault-option : (name : OptionName) (v : Text) (rows : List Row) → has_row (id_of name) rows ≡ false
-    → pending_fault rows (Some (id_of name, v ∷ [])) ≡ []
+pub no_fault-option : (name : OptionName) (v : Text) (rows : List Row) → has_row (option_text name) rows ≡ false
+    → pending_fault rows (Some (option_text name, v ∷ [])) ≡ []
 no_fault-option workers v rows h = rw h refl
 no_fault-option clone v rows h = rw h refl
 
 -- a second one has
-pub fault-twice : (name : OptionName) (v : Text) (rows : List Row) → has_row (id_of name) rows ≡ true
-    → pending_fault rows (Some (id_of name, v ∷ [])) ≡ kind.ArgumentConflict ∷ []
+pub fault-twice : (name : OptionName) (v : Text) (rows : List Row) → has_row (option_text name) rows ≡ true
+    → pending_fault rows (Some (option_text name, v ∷ [])) ≡ kind.ArgumentConflict ∷ []
 fault-twice workers v rows h = rw h refl
 fault-twice clone v rows h = rw h refl
 
@@ -252,6 +329,6 @@ no_fault-place second v rows h = rw h refl
 
 -- an option without its value has one
 pub fault-missing : (name : OptionName) (rows : List Row)
-    → pending_fault rows (Some (id_of name, [])) ≡ kind.InvalidValue ∷ []
+    → pending_fault rows (Some (option_text name, [])) ≡ kind.InvalidValue ∷ []
 fault-missing workers rows = refl
 fault-missing clone rows = refl

@@ -18,7 +18,7 @@ use Rattle.clap.specs.declared.builder.value_parser.Reading.TheVariants.{AsWritt
 use Rattle.clap.specs.declared.parser.matches.ValueSource.TheVariants.{CommandLine}
 use Rattle.command_words.specs.Application.{cloner_app}
 use Rattle.command_words.specs.Clap.{unless_fault, values_in}
-use Rattle.command_words.specs.Rules.{OptionName, workers, clone}
+use Rattle.command_words.specs.Rules.{OptionName, workers, clone, option_text, option_word}
 use Rattle.command_words.specs.Values.{GivenView}
 
 -- the command, built
@@ -108,18 +108,9 @@ walk_at_end rows p positional position = refl
 
 -- ---- `--NAME`
 
--- NAME
-abbrev pub id_of : OptionName → Text
-id_of workers = codes "workers"
-id_of clone = codes "clone"
-
--- 45 is `-`, 61 is `=`
-abbrev pub long : OptionName → Text
-long name = 45 ∷ 45 ∷ id_of name
-
 -- what was pending before may fail
 pub fault_of_name : (name : OptionName) (rows : List Row) (p : Option (Text × List Text)) (waiting : Waiting)
-    (position : ℕ) → turn_fault shape [] (walk_between rows p waiting position false) (long name)
+    (position : ℕ) → turn_fault shape [] (walk_between rows p waiting position false) (option_word name)
     ≡ or_else (pending_fault rows p) []
 fault_of_name workers rows p idle position = refl
 fault_of_name workers rows p (option id) position = refl
@@ -130,8 +121,8 @@ fault_of_name clone rows p positional position = refl
 
 -- the option waits for its value
 pub walk_of_name : (name : OptionName) (rows : List Row) (p : Option (Text × List Text)) (position : ℕ)
-    → walked shape.rules [] (walk_between rows p idle position false) (long name)
-    ≡ walk_between (rows_with rows p) (Some (id_of name, [])) (option (id_of name)) position false
+    → walked shape.rules [] (walk_between rows p idle position false) (option_word name)
+    ≡ walk_between (rows_with rows p) (Some (option_text name, [])) (option (option_text name)) position false
 unfolding walked
 walk_of_name workers rows p position = refl
 walk_of_name clone rows p position = refl
@@ -145,8 +136,8 @@ repeated id rows = cond (has_row id rows && true) (kind.ArgumentConflict ∷ [])
 -- what was pending may fail, or the option has a value already
 pub fault_of_value : (name : OptionName) (v : Text) (rows : List Row) (p : Option (Text × List Text))
     (waiting : Waiting) (position : ℕ)
-    → turn_fault shape [] (walk_between rows p waiting position false) (long name ++ (61 ∷ v))
-    ≡ or_else (or_else (pending_fault rows p) (or_else (repeated (id_of name) (rows_with rows p)) [])) []
+    → turn_fault shape [] (walk_between rows p waiting position false) (option_word name ++ (61 ∷ v))
+    ≡ or_else (or_else (pending_fault rows p) (or_else (repeated (option_text name) (rows_with rows p)) [])) []
 fault_of_value workers v rows p idle position = refl
 fault_of_value workers v rows p (option id) position = refl
 fault_of_value workers v rows p positional position = refl
@@ -156,8 +147,8 @@ fault_of_value clone v rows p positional position = refl
 
 -- the option is used
 pub walk_of_value : (name : OptionName) (v : Text) (rows : List Row) (p : Option (Text × List Text)) (position : ℕ)
-    → walked shape.rules [] (walk_between rows p idle position false) (long name ++ (61 ∷ v))
-    ≡ walk_between (used (id_of name) v (rows_with rows p)) None idle position false
+    → walked shape.rules [] (walk_between rows p idle position false) (option_word name ++ (61 ∷ v))
+    ≡ walk_between (used (option_text name) v (rows_with rows p)) None idle position false
 unfolding walked
 walk_of_value workers v rows p position = refl
 walk_of_value clone v rows p position = refl
@@ -172,19 +163,19 @@ pub record IsPlain (word : Text) : Type 0 where
 
 -- as the value that an option waits for
 pub fault_of_next : (name : OptionName) (word : Text) (rows : List Row) (position : ℕ) → IsPlain word
-    → turn_fault shape [] (walk_between rows (Some (id_of name, [])) (option (id_of name)) position false) word ≡ []
+    → turn_fault shape [] (walk_between rows (Some (option_text name, [])) (option (option_text name)) position false) word ≡ []
 fault_of_next workers word rows position plain = rw (plain.no_end, plain.no_long, plain.no_short) refl
 fault_of_next clone word rows position plain = rw (plain.no_end, plain.no_long, plain.no_short) refl
 
 -- it is pending with the option
 pub walk_of_next : (name : OptionName) (word : Text) (rows : List Row) (position : ℕ) → IsPlain word
-    → walked shape.rules [] (walk_between rows (Some (id_of name, [])) (option (id_of name)) position false) word
-    ≡ walk_between rows (Some (id_of name, word ∷ [])) idle position false
+    → walked shape.rules [] (walk_between rows (Some (option_text name, [])) (option (option_text name)) position false) word
+    ≡ walk_between rows (Some (option_text name, word ∷ [])) idle position false
 unfolding walked
 walk_of_next workers word rows position plain = rw (plain.no_end, plain.no_long, plain.no_short) refl
 walk_of_next clone word rows position plain = rw (plain.no_end, plain.no_long, plain.no_short) refl
 
--- as a positional: the first, the second or the third
+-- as a positional: the first to the third
 pub data Place : Type 0 where
   mode : Place
   first : Place
@@ -212,6 +203,19 @@ next_positional second = 4
 not_several : (id : Text) (p : Option (Text × List Text))
     → (option_map_or (λ q. bytes_eq q.0 id) p false && false) ≡ false
 not_several id p = and_right (option_map_or (λ q. bytes_eq q.0 id) p false) false refl
+
+-- settled, an option's use is a use of it
+pub rows_with-option : (name : OptionName) (v : Text) (rows : List Row)
+    → rows_with rows (Some (option_text name, v ∷ [])) ≡ used (option_text name) v rows
+rows_with-option workers v rows = refl
+rows_with-option clone v rows = refl
+
+-- and so is a positional's
+pub rows_with-place : (k : Place) (v : Text) (rows : List Row)
+    → rows_with rows (Some (positional_name k, v ∷ [])) ≡ used (positional_name k) v rows
+rows_with-place mode v rows = refl
+rows_with-place first v rows = refl
+rows_with-place second v rows = refl
 
 -- what was pending before may fail
 pub fault_of_plain : (k : Place) (word : Text) (rows : List Row) (p : Option (Text × List Text)) → IsPlain word
@@ -275,11 +279,11 @@ abbrev pub long_name : Text → Text
 long_name text = before_first (λ x. x == 61) text
 
 -- `--` before another name
-pub refused_long : (x : ℕ) (text : Text) → bytes_eq (codes "workers") (long_name (x ∷ text)) ≡ false
-    → bytes_eq (codes "clone") (long_name (x ∷ text)) ≡ false → IsRefused (45 ∷ 45 ∷ x ∷ text)
-refused_long x text no_workers no_clone rows p idle position = rw (no_workers, no_clone) refl
-refused_long x text no_workers no_clone rows p (option id) position = rw (no_workers, no_clone) refl
-refused_long x text no_workers no_clone rows p positional position = rw (no_workers, no_clone) refl
+pub refused_long : (x : ℕ) (text : Text)
+    → ((name : OptionName) → bytes_eq (option_text name) (long_name (x ∷ text)) ≡ false) → IsRefused (45 ∷ 45 ∷ x ∷ text)
+refused_long x text other rows p idle position = rw (other workers, other clone) refl
+refused_long x text other rows p (option id) position = rw (other workers, other clone) refl
+refused_long x text other rows p positional position = rw (other workers, other clone) refl
 
 -- no option is one character
 no_bundle : (x c : ℕ) (text : Text) (h : Held) → h.skip ≡ 0 → slice_get (chars (x ∷ text)) 0 ≡ Some c

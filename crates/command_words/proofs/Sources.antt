@@ -1,105 +1,96 @@
--- Where the texts of a request come from.
+-- What is asked of a study that is made of a number.
 use Rattle.std.proofs.Common.{◌≡◌, ◌&&◌, ℕ, Bool, true, false, cond, List, [], ◌∷◌, codes, refl, subst, IfSome}
 use Rattle.std.proofs.Common.{Option, Some, None, bytes_eq, option_map, option_and_then}
-use Rattle.sim_base.specs.Names.{is_name}
-use Rattle.command_words.specs.declared.request.Mode.{Mode}
-use Rattle.command_words.specs.declared.request.Mode.TheVariants.{All, One, Live}
 use Rattle.command_words.specs.declared.request.TheConstants.{MOST_STUDY}
 use Rattle.command_words.specs.Numbers.{number_to}
-use Rattle.command_words.specs.Requests.{LiveIsNamed, RequestView, by_positionals, form_of, gen_form}
-use Rattle.command_words.specs.Requests.{FileNames, Number, form_of_one, form_of_two, is_text, solo_form, study_form}
-use Rattle.command_words.specs.Requests.{study_of, workers_of}
+use Rattle.command_words.specs.declared.request.Mode.{Mode}
+use Rattle.command_words.specs.declared.request.Mode.TheVariants.{Report, Run, Solo}
+use Rattle.command_words.specs.Requests.{AssignmentView, FileNames, Live, MadeIsReported, Number, RequestView, Study}
+use Rattle.command_words.specs.Requests.{by_positionals, clone_alone, form_of, form_of_one, form_of_two}
+use Rattle.command_words.specs.Requests.{if_named, is_text, live_by, live_form, solo_form, study_form, study_of}
+use Rattle.command_words.specs.Requests.{workers_alone}
 use Rattle.command_words.specs.Rules.{values}
 use Rattle.command_words.specs.Values.{GivenView}
 
--- in mode Live they are two files by their names
-abbrev IsNamedIfLive : RequestView → Type 0
-IsNamedIfLive r = r.assignment.mode ≡ Live
-    → (model : List ℕ) × (script : List ℕ) × (r.assignment.source ≡ FileNames model script)
+-- of a made study the report is written
+abbrev IsReportIfMade : AssignmentView → Type 0
+IsReportIfMade (Study (Number n) mode) = mode ≡ Report
+IsReportIfMade (Study (FileNames model script) mode) = Unit {0}
+IsReportIfMade (Live model script) = Unit {0}
 
--- what may be asked, likewise
-abbrev AreNamedIfLive : Option RequestView → Type 0
-AreNamedIfLive request = IfSome request IsNamedIfLive
+-- of what may be asked, likewise
+abbrev AreReportsIfMade : Option RequestView → Type 0
+AreReportsIfMade request = IfSome request (λ r. IsReportIfMade r.assignment)
 
--- ---- if
+-- ---- what each form gives
+
 -- a choice of two, where both are so
-cond-named : (b : Bool) (x y : Option RequestView) → AreNamedIfLive x → AreNamedIfLive y → AreNamedIfLive (cond b x y)
-cond-named true x y h k = h
-cond-named false x y h k = k
+cond-reports : (b : Bool) (x y : Option RequestView) → AreReportsIfMade x → AreReportsIfMade y
+    → AreReportsIfMade (cond b x y)
+cond-reports true x y h k = h
+cond-reports false x y h k = k
 
--- ---- a study of two files, or of a number by all clones
+-- what may be there, where it is so of each
+map-reports : {A : Type 0} (f : A → RequestView) (x : Option A) → ((a : A) → IsReportIfMade (f a).assignment)
+    → AreReportsIfMade (option_map f x)
+map-reports f None each = tt
+map-reports f (Some a) each = each a
 
--- two files have names
-of_files : (mode : Mode) (model script : List ℕ) (workers : Option ℕ)
-    → AreNamedIfLive (option_map (study_of mode (FileNames model script)) workers)
-of_files mode model script None = tt
-of_files mode model script (Some n) = λ _. (model, script, refl)
+-- where both names of files are there
+named-reports : (first second : List ℕ) (x : Option RequestView) → AreReportsIfMade x
+    → AreReportsIfMade (if_named first second x)
+named-reports first second x h = cond-reports (is_text first && is_text second) x None h tt
 
--- a number is run by all clones
-of_number : (number : ℕ) (workers : Option ℕ) → AreNamedIfLive (option_map (study_of All (Number number)) workers)
-of_number number None = tt
-of_number number (Some n) = λ e. absurd cc
+-- a study of two files
+study-reports : (mode : Mode) (model script : List ℕ) (v : GivenView)
+    → AreReportsIfMade (study_form mode model script v)
+study-reports mode model script v = named-reports model script _
+    (map-reports (study_of (FileNames model script) mode) (workers_alone v.workers v.clone) (λ n. tt))
 
--- ---- the forms
-
--- `run` and `live`
-study_form-named : (mode : Mode) (model script : List ℕ) (workers clone : Option (List ℕ))
-    → AreNamedIfLive (study_form mode model script workers clone)
-study_form-named mode model script workers (Some clone) = tt
-study_form-named mode model script workers None =
-    cond-named (is_text model && is_text script)
-    (option_map (study_of mode (FileNames model script)) (workers_of workers)) None
-    (of_files mode model script (workers_of workers)) tt
+-- `live`
+live-reports : (model script : List ℕ) (v : GivenView) → AreReportsIfMade (live_form model script v)
+live-reports model script v = named-reports model script _
+    (map-reports (live_by model script) (workers_alone v.workers v.clone) (λ n. tt))
 
 -- `solo`
-solo_form-named : (model script : List ℕ) (workers clone : Option (List ℕ))
-    → AreNamedIfLive (solo_form model script workers clone)
-solo_form-named model script None (Some clone) =
-    cond-named ((is_text model && is_text script) && is_name clone)
-    (Some (study_of (One clone) (FileNames model script) 1)) None
-    (λ _. (model, script, refl)) tt
-solo_form-named model script None None = tt
-solo_form-named model script (Some workers) clone = tt
+solo-reports : (model script : List ℕ) (v : GivenView) → AreReportsIfMade (solo_form model script v)
+solo-reports model script v = named-reports model script _
+    (map-reports (λ name. study_of (FileNames model script) (Solo name) 1) (clone_alone v.workers v.clone) (λ n. tt))
 
 -- `gen` of a number that was read
-gen_form-number : (number workers : Option ℕ)
-    → AreNamedIfLive (option_and_then (λ n. option_map (study_of All (Number n)) workers) number)
-gen_form-number None workers = tt
-gen_form-number (Some n) workers = of_number n workers
+made-reports : (number workers : Option ℕ)
+    → AreReportsIfMade (option_and_then (λ n. option_map (study_of (Number n) Report) workers) number)
+made-reports None workers = tt
+made-reports (Some n) workers = map-reports (study_of (Number n) Report) workers (λ w. refl)
 
--- `gen`
-gen_form-named : (number : List ℕ) (workers clone : Option (List ℕ)) → AreNamedIfLive (gen_form number workers clone)
-gen_form-named number workers (Some clone) = tt
-gen_form-named number workers None = gen_form-number (number_to MOST_STUDY number) (workers_of workers)
+-- ---- all forms
 
--- the modes of two positionals more
-form_of_two-named : (mode model script : List ℕ) (workers clone : Option (List ℕ))
-    → AreNamedIfLive (form_of_two mode model script workers clone)
-form_of_two-named mode model script workers clone =
-    cond-named (bytes_eq mode (codes "run")) _ _ (study_form-named All model script workers clone)
-    (cond-named (bytes_eq mode (codes "solo")) _ _ (solo_form-named model script workers clone)
-    (cond-named (bytes_eq mode (codes "live")) _ None (study_form-named Live model script workers clone) tt))
+-- of one positional more
+one-reports : (mode number : List ℕ) (v : GivenView) → AreReportsIfMade (form_of_one mode number v)
+one-reports mode number v = cond-reports (bytes_eq mode (codes "gen")) _ None
+    (made-reports (number_to MOST_STUDY number) (workers_alone v.workers v.clone)) tt
 
--- the mode of one positional more
-form_of_one-named : (mode number : List ℕ) (workers clone : Option (List ℕ))
-    → AreNamedIfLive (form_of_one mode number workers clone)
-form_of_one-named mode number workers clone =
-    cond-named (bytes_eq mode (codes "gen")) _ None (gen_form-named number workers clone) tt
+-- of two
+two-reports : (mode first second : List ℕ) (v : GivenView) → AreReportsIfMade (form_of_two mode first second v)
+two-reports mode first second v =
+    cond-reports (bytes_eq mode (codes "run")) _ _ (study-reports Run first second v)
+    (cond-reports (bytes_eq mode (codes "solo")) _ _ (solo-reports first second v)
+    (cond-reports (bytes_eq mode (codes "live")) _ None (live-reports first second v) tt))
 
 -- any positionals
-by_positionals-named : (words : List (List ℕ)) (workers clone : Option (List ℕ))
-    → AreNamedIfLive (by_positionals words workers clone)
-by_positionals-named [] workers clone = tt
-by_positionals-named (mode ∷ []) workers clone = tt
-by_positionals-named (mode ∷ number ∷ []) workers clone = form_of_one-named mode number workers clone
-by_positionals-named (mode ∷ model ∷ script ∷ []) workers clone = form_of_two-named mode model script workers clone
-by_positionals-named (mode ∷ model ∷ script ∷ word ∷ words) workers clone = tt
+positionals-report : (words : List (List ℕ)) (v : GivenView) → AreReportsIfMade (by_positionals words v)
+positionals-report [] v = tt
+positionals-report (mode ∷ []) v = tt
+positionals-report (mode ∷ first ∷ []) v = one-reports mode first v
+positionals-report (mode ∷ first ∷ second ∷ []) v = two-reports mode first second v
+positionals-report (mode ∷ first ∷ second ∷ third ∷ words) v = tt
 
 -- any values
-form_of-named : (v : Option GivenView) → AreNamedIfLive (option_and_then form_of v)
-form_of-named None = tt
-form_of-named (Some v) = by_positionals-named v.positionals v.workers v.clone
+values-report : (v : Option GivenView) → AreReportsIfMade (option_and_then form_of v)
+values-report None = tt
+values-report (Some v) = positionals-report v.positionals v
 
 -- any words
-pub live_is_named : LiveIsNamed
-live_is_named words r e = subst AreNamedIfLive e (form_of-named (values words))
+pub made_is_reported : MadeIsReported
+made_is_reported words r number mode e is =
+    subst IsReportIfMade is (subst AreReportsIfMade e (values-report (values words)))

@@ -16,8 +16,8 @@ use Rattle.std.proofs.lemmas.Str.{IsUtf8-past_char, chars-encodes, encode_ascii}
 use Rattle.clap.specs.Lexer.{long_of_rest, short_of_rest, strip_byte}
 use Rattle.clap.specs.Walk.{Text}
 use Rattle.command_words.specs.Rules.{DashedWord, OptionName, bare_option, clone, dashed_word, ending, is_dashed}
-use Rattle.command_words.specs.Rules.{option_with_value, unknown, workers}
-use Rattle.command_words.proofs.ClapSteps.{IsPlain, IsRefused, id_of, long, long_name, refused_long, refused_short}
+use Rattle.command_words.specs.Rules.{option_or, option_text, option_with_value, option_word, unknown, workers}
+use Rattle.command_words.proofs.ClapSteps.{IsPlain, IsRefused, long_name, refused_long, refused_short}
 
 -- ---- words that do not begin with `-`, and `-` itself
 
@@ -64,31 +64,31 @@ names text name e = ⊎_elim
     (cases_lt (position_or_len is_equals text) (length text))
 
 -- `--NAME=V` begins with `--NAME=`
-starts : (name : OptionName) (word v : Text) → word ≡ long name ++ (61 ∷ v)
-    → starts_with nat_eq word (long name ++ (61 ∷ [])) ≡ true
+starts : (name : OptionName) (word v : Text) → word ≡ option_word name ++ (61 ∷ v)
+    → starts_with nat_eq word (option_word name ++ (61 ∷ [])) ≡ true
 starts workers word v e = (starts_is Decides-eqb word (codes "--workers=") _ refl).1 v e
 starts clone word v e = (starts_is Decides-eqb word (codes "--clone=") _ refl).1 v e
 
 -- what begins with `--NAME=` is `--NAME=V`
-starts_back : (name : OptionName) (word : Text) → starts_with nat_eq word (long name ++ (61 ∷ [])) ≡ true
-    → word ≡ (long name ++ (61 ∷ [])) ++ drop (length (long name ++ (61 ∷ []))) word
+starts_back : (name : OptionName) (word : Text) → starts_with nat_eq word (option_word name ++ (61 ∷ [])) ≡ true
+    → word ≡ option_word name ++ (61 ∷ drop (length (option_word name ++ (61 ∷ []))) word)
 starts_back workers word e = (starts_is Decides-eqb word (codes "--workers=") _ refl).0 e
 starts_back clone word e = (starts_is Decides-eqb word (codes "--clone=") _ refl).0 e
 
 -- ---- what a word with a dash says
 
 -- a word that is neither has another name
-other_name : (name : OptionName) (text : Text) → bytes_eq (45 ∷ 45 ∷ text) (long name) ≡ false
-    → starts_with nat_eq (45 ∷ 45 ∷ text) (long name ++ (61 ∷ [])) ≡ false
-    → bytes_eq (id_of name) (long_name text) ≡ false
-other_name name text no_name no_value = false_from_ne_true (bytes_eq (id_of name) (long_name text)) (λ h.
+other_name : (name : OptionName) (text : Text) → bytes_eq (45 ∷ 45 ∷ text) (option_word name) ≡ false
+    → starts_with nat_eq (45 ∷ 45 ∷ text) (option_word name ++ (61 ∷ [])) ≡ false
+    → bytes_eq (option_text name) (long_name text) ≡ false
+other_name name text no_name no_value = false_from_ne_true (bytes_eq (option_text name) (long_name text)) (λ h.
     ⊎_elim
-    (λ (e : text ≡ id_of name). both_ways (bytes_eq (45 ∷ 45 ∷ text) (long name)) no_name
-    ((bytes_eq-Decides (45 ∷ 45 ∷ text) (long name)).1 (ap (λ t. 45 ∷ 45 ∷ t) e)))
-    (λ (e : text ≡ id_of name ++ (61 ∷ after_first is_equals text)).
-    both_ways (starts_with nat_eq (45 ∷ 45 ∷ text) (long name ++ (61 ∷ []))) no_value
+    (λ (e : text ≡ option_text name). both_ways (bytes_eq (45 ∷ 45 ∷ text) (option_word name)) no_name
+    ((bytes_eq-Decides (45 ∷ 45 ∷ text) (option_word name)).1 (ap (λ t. 45 ∷ 45 ∷ t) e)))
+    (λ (e : text ≡ option_text name ++ (61 ∷ after_first is_equals text)).
+    both_ways (starts_with nat_eq (45 ∷ 45 ∷ text) (option_word name ++ (61 ∷ []))) no_value
     (starts name (45 ∷ 45 ∷ text) (after_first is_equals text) (ap (λ t. 45 ∷ 45 ∷ t) e)))
-    (names text (id_of name) (sym ((bytes_eq-Decides (id_of name) (long_name text)).0 h))))
+    (names text (option_text name) (sym ((bytes_eq-Decides (option_text name) (long_name text)).0 h))))
 
 -- a text that is not empty begins with a character
 begins : (x : ℕ) (text : Text) → IsUtf8 (x ∷ text) → (c : ℕ) × (slice_get (chars (x ∷ text)) 0 ≡ Some c)
@@ -102,10 +102,8 @@ begins x text u = by u.0 u.1.0 u.1.1
 -- the word has none of the known forms
 record IsOther (word : Text) : Type 0 where
   no_end : bytes_eq word (codes "--") ≡ false
-  no_workers : bytes_eq word (codes "--workers") ≡ false
-  no_clone : bytes_eq word (codes "--clone") ≡ false
-  no_workers_value : starts_with nat_eq word (codes "--workers=") ≡ false
-  no_clone_value : starts_with nat_eq word (codes "--clone=") ≡ false
+  no_name : (name : OptionName) → bytes_eq word (option_word name) ≡ false
+  no_value : (name : OptionName) → starts_with nat_eq word (option_word name ++ (61 ∷ [])) ≡ false
 
 -- then clap refuses it
 refused : (word : Text) → IsUtf8 word → is_dashed word ≡ true → IsOther word → IsRefused word
@@ -115,9 +113,8 @@ refused (b ∷ c ∷ text) u h o = dashes b c text (eqb-true b 45 h) u o
   where
     two_dashes : (text : Text) → IsOther (45 ∷ 45 ∷ text) → IsRefused (45 ∷ 45 ∷ text)
     two_dashes [] o = absurd (true≢false o.no_end)
-    two_dashes (x ∷ text) o = refused_long x text
-        (other_name workers (x ∷ text) o.no_workers o.no_workers_value)
-        (other_name clone (x ∷ text) o.no_clone o.no_clone_value)
+    two_dashes (x ∷ text) o =
+        refused_long x text (λ name. other_name name (x ∷ text) (o.no_name name) (o.no_value name))
 
     second : (c : ℕ) (text : Text) → (c ≡ 45) ⊎ ((c == 45) ≡ false) → IsUtf8 (45 ∷ c ∷ text) → IsOther (45 ∷ c ∷ text)
         → IsRefused (45 ∷ c ∷ text)
@@ -140,48 +137,44 @@ refused (b ∷ c ∷ text) u h o = dashes b c text (eqb-true b 45 h) u o
 -- what clap makes of it
 abbrev pub Says : DashedWord → Text → Type 0
 Says ending word = word ≡ codes "--"
-Says (bare_option name) word = word ≡ long name
-Says (option_with_value name v) word = word ≡ long name ++ (61 ∷ v)
+Says (bare_option name) word = word ≡ option_word name
+Says (option_with_value name v) word = word ≡ option_word name ++ (61 ∷ v)
 Says unknown word = IsRefused word
 
--- what the rules say of it is what clap makes of it
+-- what holds of each option
+each_option : (P : OptionName → Type 0) → P workers → P clone → (name : OptionName) → P name
+each_option P w c workers = w
+each_option P w c clone = c
+
+-- what the rules say of a word that may name an option is what clap makes of it
+Says-option_or : (name : OptionName) (word : Text) (other : DashedWord)
+    → (bytes_eq word (option_word name) ≡ false → starts_with nat_eq word (option_word name ++ (61 ∷ [])) ≡ false
+    → Says other word) → Says (option_or name word other) word
+Says-option_or name word other next = at_name (bytes_eq word (option_word name)) refl
+  where
+    at_value : (t : Bool) → bytes_eq word (option_word name) ≡ false
+        → starts_with nat_eq word (option_word name ++ (61 ∷ [])) ≡ t
+        → Says (cond t (option_with_value name (drop (length (option_word name ++ (61 ∷ []))) word)) other) word
+    at_value true a b = starts_back name word b
+    at_value false a b = next a b
+
+    at_name : (t : Bool) → bytes_eq word (option_word name) ≡ t
+        → Says (cond t (bare_option name) (cond (starts_with nat_eq word (option_word name ++ (61 ∷ [])))
+        (option_with_value name (drop (length (option_word name ++ (61 ∷ []))) word)) other)) word
+    at_name true a = (bytes_eq-Decides word (option_word name)).0 a
+    at_name false a = at_value (starts_with nat_eq word (option_word name ++ (61 ∷ []))) a refl
+
+-- what the rules say of a word with a dash is what clap makes of it
 pub Says-dashed_word : (word : Text) → IsUtf8 word → is_dashed word ≡ true → Says (dashed_word word) word
 Says-dashed_word word u h = at_end (bytes_eq word (codes "--")) refl
   where
-    at_clone_value : (t : Bool) → bytes_eq word (codes "--") ≡ false → bytes_eq word (codes "--workers") ≡ false
-        → bytes_eq word (codes "--clone") ≡ false → starts_with nat_eq word (codes "--workers=") ≡ false
-        → starts_with nat_eq word (codes "--clone=") ≡ t
-        → Says (cond t (option_with_value clone (drop 8 word)) unknown) word
-    at_clone_value true a b c d e = starts_back clone word e
-    at_clone_value false a b c d e = refused word u h
-        (record { no_end = a; no_workers = b; no_clone = c; no_workers_value = d; no_clone_value = e })
-
-    at_value : (t : Bool) → bytes_eq word (codes "--") ≡ false → bytes_eq word (codes "--workers") ≡ false
-        → bytes_eq word (codes "--clone") ≡ false → starts_with nat_eq word (codes "--workers=") ≡ t
-        → Says (cond t (option_with_value workers (drop 10 word)) (cond (starts_with nat_eq word (codes "--clone="))
-        (option_with_value clone (drop 8 word)) unknown)) word
-    at_value true a b c d = starts_back workers word d
-    at_value false a b c d = at_clone_value (starts_with nat_eq word (codes "--clone=")) a b c d refl
-
-    at_clone : (t : Bool) → bytes_eq word (codes "--") ≡ false → bytes_eq word (codes "--workers") ≡ false
-        → bytes_eq word (codes "--clone") ≡ t
-        → Says (cond t (bare_option clone)
-        (cond (starts_with nat_eq word (codes "--workers=")) (option_with_value workers (drop 10 word))
-        (cond (starts_with nat_eq word (codes "--clone=")) (option_with_value clone (drop 8 word)) unknown))) word
-    at_clone true a b c = (bytes_eq-Decides word (codes "--clone")).0 c
-    at_clone false a b c = at_value (starts_with nat_eq word (codes "--workers=")) a b c refl
-
-    at_workers : (t : Bool) → bytes_eq word (codes "--") ≡ false → bytes_eq word (codes "--workers") ≡ t
-        → Says (cond t (bare_option workers) (cond (bytes_eq word (codes "--clone")) (bare_option clone)
-        (cond (starts_with nat_eq word (codes "--workers=")) (option_with_value workers (drop 10 word))
-        (cond (starts_with nat_eq word (codes "--clone=")) (option_with_value clone (drop 8 word)) unknown)))) word
-    at_workers true a b = (bytes_eq-Decides word (codes "--workers")).0 b
-    at_workers false a b = at_clone (bytes_eq word (codes "--clone")) a b refl
-
     at_end : (t : Bool) → bytes_eq word (codes "--") ≡ t
-        → Says (cond t ending (cond (bytes_eq word (codes "--workers")) (bare_option workers)
-        (cond (bytes_eq word (codes "--clone")) (bare_option clone)
-        (cond (starts_with nat_eq word (codes "--workers=")) (option_with_value workers (drop 10 word))
-        (cond (starts_with nat_eq word (codes "--clone=")) (option_with_value clone (drop 8 word)) unknown))))) word
+        → Says (cond t ending (option_or workers word (option_or clone word unknown))) word
     at_end true a = (bytes_eq-Decides word (codes "--")).0 a
-    at_end false a = at_workers (bytes_eq word (codes "--workers")) a refl
+    at_end false a =
+        Says-option_or workers word (option_or clone word unknown) (λ w wv.
+        Says-option_or clone word unknown (λ c cv. refused word u h (record {
+          no_end = a;
+          no_name = each_option (λ name. bytes_eq word (option_word name) ≡ false) w c;
+          no_value = each_option (λ name. starts_with nat_eq word (option_word name ++ (61 ∷ [])) ≡ false) wv cv;
+        })))

@@ -1,8 +1,10 @@
 -- Worked examples: command lines, and what they ask for.
 use Rattle.std.specs.Prelude.{◌≡◌, ◌==◌, ℕ, codes, List, [], ◌∷◌, map, Option, Some, None}
 use Rattle.std.specs.List.{slice_split}
-use Rattle.command_words.specs.declared.request.Mode.TheVariants.{All, One, Live}
-use Rattle.command_words.specs.Requests.{FileNames, Number, RequestView, form}
+use Rattle.command_words.specs.declared.request.Mode.{Mode}
+use Rattle.command_words.specs.declared.request.Mode.TheVariants.{Report, Run, Solo}
+use Rattle.command_words.specs.Requests.{FileNames, Number, RequestView, form, study_of}
+use Rattle.command_words.specs.Requests.{live_by as live_of}
 
 -- the words of a line, which one space parts
 abbrev pub words_of : List ℕ → List (List ℕ)
@@ -21,35 +23,29 @@ line text asks = record { words = words_of text; asks = asks }
 abbrev pub AreRight : List Example → Type 0
 AreRight examples = map (λ e. form e.words) examples ≡ map (λ e. e.asks) examples
 
--- all clones of the texts m and s, by so many workers
+-- a study of the texts m and s, in this mode and by this number of workers
+abbrev pub of_m_and_s : Mode → ℕ → Option RequestView
+of_m_and_s mode workers = Some (study_of (FileNames (codes "m") (codes "s")) mode workers)
+
+-- all clones of the texts m and s, by this number of workers
 abbrev pub run_by : ℕ → Option RequestView
-run_by workers = Some (record {
-  assignment = record { mode = All; source = FileNames (codes "m") (codes "s") };
-  workers = workers;
-})
+run_by workers = of_m_and_s Run workers
 
 -- the clone `fast` of the texts m and s
 abbrev pub solo_fast : Option RequestView
-solo_fast = Some (record {
-  assignment = record { mode = One (codes "fast"); source = FileNames (codes "m") (codes "s") };
-  workers = 1;
-})
+solo_fast = of_m_and_s (Solo (codes "fast")) 1
 
--- all clones of the texts m and s, while analysts decide, by so many workers
+-- all clones of the texts m and s, while analysts decide, by this number of workers
 abbrev pub live_by : ℕ → Option RequestView
-live_by workers = Some (record {
-  assignment = record { mode = Live; source = FileNames (codes "m") (codes "s") };
-  workers = workers;
-})
+live_by workers = Some (live_of (codes "m") (codes "s") workers)
 
--- what is made of a number, by so many workers
+-- the report of what is made of a number, by this number of workers
 abbrev pub gen_by : ℕ → ℕ → Option RequestView
-gen_by number workers = Some (record { assignment = record { mode = All; source = Number number }; workers = workers })
+gen_by number workers = Some (study_of (Number number) Report workers)
 
 -- all clones of two texts with odd names, by one worker
 abbrev pub run_named : List ℕ → List ℕ → Option RequestView
-run_named model script =
-    Some (record { assignment = record { mode = All; source = FileNames model script }; workers = 1 })
+run_named model script = Some (study_of (FileNames model script) Run 1)
 
 -- the modes; without --workers there is one worker
 abbrev pub modes : List Example
@@ -59,6 +55,8 @@ modes =
     ∷ line (codes "live m s") (live_by 1)
     ∷ line (codes "gen 7") (gen_by 7 1)
     ∷ line (codes "walk m s") None
+    ∷ line (codes "Run m s") None
+    ∷ line (codes "report m s") None
     ∷ line (codes "--help") None
     ∷ []
 

@@ -3,8 +3,10 @@ use Rattle.std.specs.Prelude.{◌≡◌, ◌&&◌, ℕ, Bool, true, false, codes
 use Rattle.std.specs.Prelude.{[], ◌∷◌, Option, Some, None, option_map, option_and_then}
 use Rattle.std.specs.Str.{bytes_eq}
 use Rattle.sim_base.specs.Names.{is_name}
+use Rattle.command_words.specs.declared.request.Assignment.{Assignment}
+use Rattle.command_words.specs.declared.request.Assignment.TheVariants as task
 use Rattle.command_words.specs.declared.request.Mode.{Mode}
-use Rattle.command_words.specs.declared.request.Mode.TheVariants.{All, One, Live}
+use Rattle.command_words.specs.declared.request.Mode.TheVariants.{Report, Run, Solo}
 use Rattle.command_words.specs.declared.request.Request.{Request}
 use Rattle.command_words.specs.declared.request.Source.{Source}
 use Rattle.command_words.specs.declared.request.Source.TheVariants as origin
@@ -18,88 +20,121 @@ pub data SourceView : Type 0 where
   FileNames : List ℕ → List ℕ → SourceView
   Number : ℕ → SourceView
 
--- an assignment: which clones are run, and from which texts, whoever does it
-pub record Assignment : Type 0 where
-  pub mode : Mode
-  pub source : SourceView
+-- an assignment, whoever does it: a study of a model and a script in a mode, or a study of two files, the model and
+-- the script, while analysts decide
+pub data AssignmentView : Type 0 where
+  Study : SourceView → Mode → AssignmentView
+  Live : List ℕ → List ℕ → AssignmentView
 
 -- what is asked, and by how many workers it is done
 pub record RequestView : Type 0 where
-  pub assignment : Assignment
+  pub assignment : AssignmentView
   pub workers : ℕ
 
--- where a request's texts come from, as plain data
+-- ---- a request as plain data
+
+-- where a study's texts come from
 abbrev pub source_view : Source → SourceView
 source_view (origin.FileNames model script) = FileNames model.now script.now
 source_view (origin.Number number) = Number number
 
--- a request as plain data
+-- what is to be done
+abbrev pub assignment_view : Assignment → AssignmentView
+assignment_view (task.Study source mode) = Study (source_view source) mode
+assignment_view (task.Live model script) = Live model.now script.now
+
+-- and by how many workers
 abbrev pub request_view : Request → RequestView
-request_view r = record { assignment = record { mode = r.mode; source = source_view r.source }; workers = r.workers }
+request_view r = record { assignment = assignment_view r.assignment; workers = r.workers }
+
+-- ---- the values of options and positionals
 
 -- a positional is not empty
 abbrev pub is_text : List ℕ → Bool
 is_text [] = false
 is_text (b ∷ bs) = true
 
--- 1 to `MOST_WORKERS`, and 1 where none is given
+-- 1 to `MOST_WORKERS`, and 1 if there is no such option
 abbrev pub workers_of : Option (List ℕ) → Option ℕ
 workers_of None = Some 1
 workers_of (Some word) = number_to MOST_WORKERS word
 
--- a study of these texts
-abbrev pub study_of : Mode → SourceView → ℕ → RequestView
-study_of mode source workers = record { assignment = record { mode = mode; source = source }; workers = workers }
+-- the name that a word is
+abbrev pub name_of : List ℕ → Option (List ℕ)
+name_of word = if is_name word then Some word else None
 
--- `run MODEL SCRIPT [--workers N]` and `live MODEL SCRIPT [--workers N]`
-abbrev pub study_form : Mode → List ℕ → List ℕ → Option (List ℕ) → Option (List ℕ) → Option RequestView
-study_form mode model script workers (Some clone) = None
-study_form mode model script workers None =
-    if is_text model && is_text script
-    then option_map (study_of mode (FileNames model script)) (workers_of workers)
-    else None
+-- the workers, if no other option is given
+abbrev pub workers_alone : Option (List ℕ) → Option (List ℕ) → Option ℕ
+workers_alone workers None = workers_of workers
+workers_alone workers (Some clone) = None
+
+-- the name of the clone, if no other option is given
+abbrev pub clone_alone : Option (List ℕ) → Option (List ℕ) → Option (List ℕ)
+clone_alone None (Some clone) = name_of clone
+clone_alone _ _ = None
+
+-- ---- the forms
+
+-- a study by this number of workers
+abbrev pub study_of : SourceView → Mode → ℕ → RequestView
+study_of source mode workers = record { assignment = Study source mode; workers = workers }
+
+-- a live study by this number of workers
+abbrev pub live_by : List ℕ → List ℕ → ℕ → RequestView
+live_by model script workers = record { assignment = Live model script; workers = workers }
+
+-- what is asked, if neither name of a file is empty
+abbrev pub if_named : List ℕ → List ℕ → Option RequestView → Option RequestView
+if_named first second request = if is_text first && is_text second then request else None
+
+-- `run MODEL SCRIPT [--workers N]`
+abbrev pub study_form : Mode → List ℕ → List ℕ → GivenView → Option RequestView
+study_form mode model script v = if_named model script
+    (option_map (study_of (FileNames model script) mode) (workers_alone v.workers v.clone))
+
+-- `live MODEL SCRIPT [--workers N]`
+abbrev pub live_form : List ℕ → List ℕ → GivenView → Option RequestView
+live_form model script v = if_named model script
+    (option_map (live_by model script) (workers_alone v.workers v.clone))
 
 -- `solo MODEL SCRIPT --clone NAME`
-abbrev pub solo_form : List ℕ → List ℕ → Option (List ℕ) → Option (List ℕ) → Option RequestView
-solo_form model script None (Some clone) =
-    if (is_text model && is_text script) && is_name clone
-    then Some (study_of (One clone) (FileNames model script) 1)
-    else None
-solo_form model script _ _ = None
+abbrev pub solo_form : List ℕ → List ℕ → GivenView → Option RequestView
+solo_form model script v = if_named model script
+    (option_map (λ name. study_of (FileNames model script) (Solo name) 1) (clone_alone v.workers v.clone))
 
 -- `gen NUMBER [--workers N]`
-abbrev pub gen_form : List ℕ → Option (List ℕ) → Option (List ℕ) → Option RequestView
-gen_form number workers (Some clone) = None
-gen_form number workers None = option_and_then (λ n. option_map (study_of All (Number n)) (workers_of workers))
+abbrev pub gen_form : List ℕ → GivenView → Option RequestView
+gen_form number v =
+    option_and_then (λ n. option_map (study_of (Number n) Report) (workers_alone v.workers v.clone))
     (number_to MOST_STUDY number)
 
--- the modes of two positionals more; a later mode of two names is one `else if` more
-abbrev pub form_of_two : List ℕ → List ℕ → List ℕ → Option (List ℕ) → Option (List ℕ) → Option RequestView
-form_of_two mode model script workers clone =
-    if bytes_eq mode (codes "run") then study_form All model script workers clone
-    else if bytes_eq mode (codes "solo") then solo_form model script workers clone
-    else if bytes_eq mode (codes "live") then study_form Live model script workers clone
+-- the mode of one positional more
+abbrev pub form_of_one : List ℕ → List ℕ → GivenView → Option RequestView
+form_of_one mode number v = if bytes_eq mode (codes "gen") then gen_form number v else None
+
+-- the modes of two positionals more; a later mode of two files is one `else if` more
+abbrev pub form_of_two : List ℕ → List ℕ → List ℕ → GivenView → Option RequestView
+form_of_two mode first second v =
+    if bytes_eq mode (codes "run") then study_form Run first second v
+    else if bytes_eq mode (codes "solo") then solo_form first second v
+    else if bytes_eq mode (codes "live") then live_form first second v
     else None
 
--- the modes of one positional more
-abbrev pub form_of_one : List ℕ → List ℕ → Option (List ℕ) → Option (List ℕ) → Option RequestView
-form_of_one mode number workers clone = if bytes_eq mode (codes "gen") then gen_form number workers clone else None
-
 -- the first positional is the mode, and the mode says how many follow
-abbrev pub by_positionals : List (List ℕ) → Option (List ℕ) → Option (List ℕ) → Option RequestView
-by_positionals (mode ∷ model ∷ script ∷ []) workers clone = form_of_two mode model script workers clone
-by_positionals (mode ∷ number ∷ []) workers clone = form_of_one mode number workers clone
-by_positionals _ workers clone = None
+abbrev pub by_positionals : List (List ℕ) → GivenView → Option RequestView
+by_positionals (mode ∷ first ∷ []) v = form_of_one mode first v
+by_positionals (mode ∷ first ∷ second ∷ []) v = form_of_two mode first second v
+by_positionals _ v = None
 
--- what the values ask for, None where they have no known form
+-- what the values ask for, None if they have no known form
 abbrev pub form_of : GivenView → Option RequestView
-form_of v = by_positionals v.positionals v.workers v.clone
+form_of v = by_positionals v.positionals v
 
--- what the words ask for, None where the command line has no known form
+-- what the words ask for, None if the command line has no known form
 abbrev pub form : List (List ℕ) → Option RequestView
 form words = option_and_then form_of (values words)
 
--- where analysts decide, the texts are two files by their names
-abbrev pub LiveIsNamed : Type 0
-LiveIsNamed = (words : List (List ℕ)) (r : RequestView) → form words ≡ Some r → r.assignment.mode ≡ Live
-    → (model : List ℕ) × (script : List ℕ) × (r.assignment.source ≡ FileNames model script)
+-- of a study whose texts are made of a number the report alone is written
+abbrev pub MadeIsReported : Type 0
+MadeIsReported = (words : List (List ℕ)) (r : RequestView) (number : ℕ) (mode : Mode) → form words ≡ Some r
+    → r.assignment ≡ Study (Number number) mode → mode ≡ Report

@@ -1,11 +1,11 @@
 -- The rules of a command line, word by word from the left.
-use Rattle.std.specs.Prelude.{◌==◌, ℕ, Bool, false, nat_eq, codes, if◌then◌else◌, List, [], ◌∷◌, ◌++◌}
+use Rattle.std.specs.Prelude.{◌==◌, ℕ, Bool, false, nat_eq, codes, if◌then◌else◌, List, [], ◌∷◌, ◌++◌, length}
 use Rattle.std.specs.Prelude.{drop, Option, Some, None, is_some, option_and_then}
 use Rattle.std.specs.List.{starts_with}
 use Rattle.std.specs.Str.{bytes_eq}
 use Rattle.command_words.specs.Values.{GivenView}
 
--- the two options
+-- the options
 pub data OptionName : Type 0 where
   workers : OptionName
   clone : OptionName
@@ -20,22 +20,35 @@ is_dashed (b ∷ c ∷ rest) = b == 45
 pub data DashedWord : Type 0 where
   -- `--`: the options end here
   ending : DashedWord
-  -- `--workers` or `--clone`: the next word is the value
+  -- an option's name behind `--`: the next word is the value
   bare_option : OptionName → DashedWord
-  -- `--workers=V` or `--clone=V`: V is the value
+  -- `--NAME=V` of an option: V is the value
   option_with_value : OptionName → List ℕ → DashedWord
   -- anything else; names aren't abbreviated
   unknown : DashedWord
 
--- what such a word says: `--`, or an option with or without its value in the word, and else unknown
+-- its name
+abbrev pub option_text : OptionName → List ℕ
+option_text workers = codes "workers"
+option_text clone = codes "clone"
+
+-- the word that names an option
+abbrev pub option_word : OptionName → List ℕ
+option_word name = codes "--" ++ option_text name
+
+-- what a word says that may name this option, with its value in the word or without; what it says else
+abbrev pub option_or : OptionName → List ℕ → DashedWord → DashedWord
+option_or name word other =
+    if bytes_eq word (option_word name) then bare_option name
+    else if starts_with nat_eq word (option_word name ++ codes "=")
+    then option_with_value name (drop (length (option_word name ++ codes "=")) word)
+    else other
+
+-- what a word with a dash says: `--`, or an option, and else unknown
 abbrev pub dashed_word : List ℕ → DashedWord
 dashed_word word =
     if bytes_eq word (codes "--") then ending
-    else if bytes_eq word (codes "--workers") then bare_option workers
-    else if bytes_eq word (codes "--clone") then bare_option clone
-    else if starts_with nat_eq word (codes "--workers=") then option_with_value workers (drop 10 word)
-    else if starts_with nat_eq word (codes "--clone=") then option_with_value clone (drop 8 word)
-    else unknown
+    else option_or workers word (option_or clone word unknown)
 
 -- one value more, None where the option has one already: each stands at most once
 abbrev pub with_value : OptionName → List ℕ → GivenView → Option GivenView

@@ -1,8 +1,8 @@
-//! Laws of the command line: `clap` finds the values that the rules find, and a live study is two files.
+//! Laws of the command line: `clap` finds the values that the rules find, and of a made study the report is written.
 //!
 //! Each function's contract is a law; there is nothing to run.
 ghost use Rattle.command_words.specs.Clap.{ClapFindsTheValues};
-ghost use Rattle.command_words.specs.Requests.{LiveIsNamed};
+ghost use Rattle.command_words.specs.Requests.{MadeIsReported};
 
 /// In each list of texts, `clap` finds for its command the values that the rules find, word by word; more than three
 /// positionals it refuses, and so does every form.
@@ -10,7 +10,7 @@ pub fn clap_finds_the_values()
     ensures { ClapFindsTheValues }
 {}
 
-/// Where analysts decide, the model and the script are two files by their names.
-pub fn live_is_named()
-    ensures { LiveIsNamed }
+/// Of a study that is made of a number the report alone is written.
+pub fn made_is_reported()
+    ensures { MadeIsReported }
 {}

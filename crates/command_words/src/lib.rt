@@ -4,17 +4,17 @@
 //!
 //! ```text
 //! cloner run MODEL SCRIPT [--workers N]     all clones of a script
-//! cloner solo MODEL SCRIPT --clone NAME     one clone by itself
+//! cloner solo MODEL SCRIPT --clone NAME     one clone alone
 //! cloner live MODEL SCRIPT [--workers N]    all clones of a script, while analysts decide
 //! cloner gen NUMBER [--workers N]           a made study, all its clones
 //! ```
 //!
-//! `read_words` gives a `Request`: the clones that are run, where the two texts come from, and the workers.
-//! What is to be done (`Assignment`) has no workers, so that no promise about the output can speak of them. An example:
+//! `read_words` gives a `Request`: what is to be done (`Assignment`), and the workers. An assignment has no workers, so
+//! that no promise about the output can speak of them. An example:
 //!
 //! ```text
 //! let request = read_words(alloc, words)?;      // run m.toml s.txt --workers=4
-//! request.source                                // FileNames { model: "m.toml", script: "s.txt" }
+//! request.assignment                            // Study { source: FileNames { .. }, mode: Run }
 //! request.workers                               // 4
 //! ```
 //!
@@ -32,5 +32,5 @@ pub mod request;
 pub mod usage;
 
 pub use reading::read_words;
-pub use request::{MOST_WORKERS, Mode, Request, Source, WordsFault};
+pub use request::{Assignment, MOST_WORKERS, Mode, Request, Source, WordsFault};
 pub use usage::usage_line;

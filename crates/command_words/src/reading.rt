@@ -1,12 +1,14 @@
 //! The reading of a command line: from its words to a request.
 ghost use Rattle.std.specs.Prelude.{◌≡◌, ◌⊎◌, ◌≤◌, IfOk, IfSome, None, Err, option_map};
-ghost use Rattle.command_words.specs.Requests.{form, form_of, form_of_one, form_of_two, is_text as is_text_of};
-ghost use Rattle.command_words.specs.Requests.{gen_form, solo_form, study_form, request_view, workers_of as workers_in};
+ghost use Rattle.command_words.specs.Requests.{clone_alone as clone_alone_of, form, form_of, form_of_one};
+ghost use Rattle.command_words.specs.Requests.{form_of_two, gen_form, is_text as is_text_of, live_form};
+ghost use Rattle.command_words.specs.Requests.{request_view, solo_form, study_form};
+ghost use Rattle.command_words.specs.Requests.{workers_alone as workers_alone_of, workers_of as workers_in};
 ghost use Rattle.command_words.specs.Views.{given_view};
 
 use crate::given::{Given, given_words};
 use crate::number::number_to;
-use crate::request::{MOST_STUDY, MOST_WORKERS, Mode, Request, Source, WordsFault};
+use crate::request::{Assignment, MOST_STUDY, MOST_WORKERS, Mode, Request, Source, WordsFault};
 use sim_base::Name;
 use sim_outer::Word;
 use std::alloc::{AllocError, Global};
@@ -33,103 +35,121 @@ fn workers_of(word: Option<&str>) -> Option<u32>
     }
 }
 
-// `run MODEL SCRIPT [--workers N]` and `live MODEL SCRIPT [--workers N]`
+// How many workers are asked for, if no other option is given.
+fn workers_alone(given: &Given) -> Option<u32>
+    ensures value { result ≡ workers_alone_of (given_view given.now).workers (given_view given.now).clone }
+    ensures some { IfSome result (λ n. 1 ≤ n) }
+    ensures few { IfSome result (λ n. n ≤ MOST_WORKERS) }
+{
+    match given.clone {
+        None => workers_of(given.workers),
+        Some(_) => None,
+    }
+}
+
+// The name of the clone, if no other option is given.
+fn clone_alone(given: &Given) -> Option<Name>
+    ensures value { result ≡ clone_alone_of (given_view given.now).workers (given_view given.now).clone }
+{
+    match (given.workers, given.clone) {
+        (None, Some(clone)) => Name::read(clone.as_bytes()),
+        _ => None,
+    }
+}
+
+// `run MODEL SCRIPT [--workers N]`
 fn study_request<'a>(
     mode: Mode,
     model: &'a str,
     script: &'a str,
-    workers: Option<&str>,
-    clone: Option<&str>,
+    given: &Given,
 ) -> Option<Request<'a>>
     ensures value { option_map request_view result ≡ study_form mode model.entry.now script.entry.now
-        (option_map (λ s. s.now) workers.entry) (option_map (λ s. s.now) clone.entry) }
+        (given_view given.now) }
 {
-    if clone.is_some() || !is_text(model) || !is_text(script) {
+    if !is_text(model) || !is_text(script) {
         return None;
     }
-    let workers = workers_of(workers)?;
+    let workers = workers_alone(given)?;
+    let source = Source::FileNames { model, script };
     Some(Request {
-        mode,
-        source: Source::FileNames { model, script },
+        assignment: Assignment::Study { source, mode },
+        workers,
+    })
+}
+
+// `live MODEL SCRIPT [--workers N]`
+fn live_request<'a>(model: &'a str, script: &'a str, given: &Given) -> Option<Request<'a>>
+    ensures value { option_map request_view result ≡ live_form model.entry.now script.entry.now (given_view given.now) }
+{
+    if !is_text(model) || !is_text(script) {
+        return None;
+    }
+    let workers = workers_alone(given)?;
+    Some(Request {
+        assignment: Assignment::Live { model, script },
         workers,
     })
 }
 
 // `solo MODEL SCRIPT --clone NAME`
-fn solo_request<'a>(
-    model: &'a str,
-    script: &'a str,
-    workers: Option<&str>,
-    clone: Option<&str>,
-) -> Option<Request<'a>>
-    ensures value { option_map request_view result ≡ solo_form model.entry.now script.entry.now
-        (option_map (λ s. s.now) workers.entry) (option_map (λ s. s.now) clone.entry) }
+fn solo_request<'a>(model: &'a str, script: &'a str, given: &Given) -> Option<Request<'a>>
+    ensures value { option_map request_view result ≡ solo_form model.entry.now script.entry.now (given_view given.now) }
 {
-    if workers.is_some() || !is_text(model) || !is_text(script) {
+    if !is_text(model) || !is_text(script) {
         return None;
     }
-    let clone = clone?;
-    match Name::read(clone.as_bytes()) {
-        Some(name) => Some(Request {
-            mode: Mode::One(name),
-            source: Source::FileNames { model, script },
-            workers: 1,
-        }),
-        None => None,
-    }
+    let mode = Mode::Solo(clone_alone(given)?);
+    let source = Source::FileNames { model, script };
+    Some(Request {
+        assignment: Assignment::Study { source, mode },
+        workers: 1,
+    })
 }
 
 // `gen NUMBER [--workers N]`
-fn gen_request<'a>(number: &str, workers: Option<&str>, clone: Option<&str>) -> Option<Request<'a>>
-    ensures value { option_map request_view result ≡ gen_form number.now (option_map (λ s. s.now) workers.entry)
-        (option_map (λ s. s.now) clone.entry) }
+fn gen_request<'a>(number: &str, given: &Given) -> Option<Request<'a>>
+    ensures value { option_map request_view result ≡ gen_form number.now (given_view given.now) }
 {
-    if clone.is_some() {
-        return None;
-    }
     let number = number_to(MOST_STUDY, number.as_bytes())?;
-    let workers = workers_of(workers)?;
+    let workers = workers_alone(given)?;
+    let source = Source::Number(number);
     Some(Request {
-        mode: Mode::All,
-        source: Source::Number(number),
+        assignment: Assignment::Study {
+            source,
+            mode: Mode::Report,
+        },
         workers,
     })
 }
 
-// What a mode with two positionals behind it asks for.
-fn request_of_two<'a>(
-    mode: &str,
-    model: &'a str,
-    script: &'a str,
-    workers: Option<&str>,
-    clone: Option<&str>,
-) -> Option<Request<'a>>
-    ensures value { option_map request_view result ≡ form_of_two mode.now model.entry.now script.entry.now
-        (option_map (λ s. s.now) workers.entry) (option_map (λ s. s.now) clone.entry) }
+// What a mode with one more positional asks for.
+fn request_of_one<'a>(mode: &str, number: &str, given: &Given) -> Option<Request<'a>>
+    ensures value { option_map request_view result ≡ form_of_one mode.now number.now (given_view given.now) }
 {
-    if mode == "run" {
-        study_request(Mode::All, model, script, workers, clone)
-    } else if mode == "solo" {
-        solo_request(model, script, workers, clone)
-    } else if mode == "live" {
-        study_request(Mode::Live, model, script, workers, clone)
+    if mode == "gen" {
+        gen_request(number, given)
     } else {
         None
     }
 }
 
-// What a mode with one positional behind it asks for.
-fn request_of_one<'a>(
+// What a mode with two more positionals asks for.
+fn request_of_two<'a>(
     mode: &str,
-    number: &str,
-    workers: Option<&str>,
-    clone: Option<&str>,
+    first: &'a str,
+    second: &'a str,
+    given: &Given,
 ) -> Option<Request<'a>>
-    ensures value { option_map request_view result ≡ form_of_one mode.now number.now
-        (option_map (λ s. s.now) workers.entry) (option_map (λ s. s.now) clone.entry) }
+    ensures value { option_map request_view result ≡ form_of_two mode.now first.entry.now second.entry.now
+        (given_view given.now) }
 {
-    if mode == "gen" {
-        gen_request(number, workers, clone)
+    if mode == "run" {
+        study_request(Mode::Run, first, second, given)
+    } else if mode == "solo" {
+        solo_request(first, second, given)
+    } else if mode == "live" {
+        live_request(first, second, given)
     } else {
         None
     }
@@ -142,13 +162,12 @@ fn request_of<'a>(given: &Given<'a>) -> Option<Request<'a>>
     let mode = given.mode?;
     let first = given.first?;
     match given.second {
-        Some(second) => request_of_two(mode, first, second, given.workers, given.clone),
-        None => request_of_one(mode, first, given.workers, given.clone),
+        None => request_of_one(mode, first, given),
+        Some(second) => request_of_two(mode, first, second, given),
     }
 }
 
-/// What the words ask for: `run MODEL SCRIPT [--workers N]`, `solo MODEL SCRIPT --clone NAME`,
-/// `live MODEL SCRIPT [--workers N]` or `gen NUMBER [--workers N]`.
+/// What the words ask for: one of the forms of the usage line.
 ///
 /// Words of no known form give `Usage`; reading takes memory, and may be refused it.
 pub fn read_words<'a>(alloc: Global, words: &'a [Word]) -> Result<Request<'a>, WordsFault>

@@ -1,4 +1,4 @@
-//! What a command line asks for: which clones are run, from which texts, and by how many workers.
+//! What a command line asks for: what is to be done, and by how many workers.
 ghost use Rattle.std.specs.Prelude.{◌≤◌};
 ghost use Rattle.command_words.specs.declared.request.TheConstants.{MOST_WORKERS};
 
@@ -10,15 +10,15 @@ pub const MOST_WORKERS: u32 = sim_base::limits::MOST_WORKERS;
 /// The greatest number that a study may be made of.
 pub(crate) const MOST_STUDY: u32 = 999_999;
 
-/// Which of a script's clones are run.
+/// Which of a script's clones are run, once all its decisions are made, and what is written of them.
 #[derive(Clone, Copy, Debug, PartialEq, Eq)]
 pub enum Mode {
-    /// All of them.
-    All,
-    /// The one of this name, by itself.
-    One(Name),
-    /// All of them, while analysts decide.
-    Live,
+    /// All of them: their traces and the report.
+    Run,
+    /// All of them: the report alone.
+    Report,
+    /// The one of this name, alone: its trace.
+    Solo(Name),
 }
 
 /// Where the model and the script come from.
@@ -30,14 +30,21 @@ pub enum Source<'a> {
     Number(u32),
 }
 
+/// What is to be done.
+#[derive(Clone, Copy, Debug)]
+pub enum Assignment<'a> {
+    /// A study of a model and a script.
+    Study { source: Source<'a>, mode: Mode },
+    /// A study of two files, the model and the script, whose analysts decide while it runs.
+    Live { model: &'a str, script: &'a str },
+}
+
 /// What is to be done, and by how many workers.
 #[derive(Clone, Copy, Debug)]
 pub struct Request<'a> {
-    /// Which clones are run.
-    pub mode: Mode,
-    /// Where their texts come from.
-    pub source: Source<'a>,
-    /// How many workers run them, from 1 to [`MOST_WORKERS`].
+    /// What is to be done.
+    pub assignment: Assignment<'a>,
+    /// The number of workers, from 1 to [`MOST_WORKERS`].
     pub workers: u32,
     ghost some: { 1 ≤ workers },
     ghost few: { workers ≤ MOST_WORKERS },

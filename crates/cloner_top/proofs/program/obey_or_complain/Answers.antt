@@ -1,8 +1,7 @@
 use Rattle.std.proofs.Common.{ap, refl, Err, option_map}
 use Rattle.command_words.specs.Requests.{RequestView, request_view}
 use Rattle.cloner_top.specs.Answers.{success}
-use Rattle.cloner_top.proofs.Endings.{overrun_is, unwritten}
-use Rattle.cloner_top.proofs.Obeying.{no_fetches, words_answer}
+use Rattle.cloner_top.proofs.Endings.{no_fetches, overrun_is, unwritten, words_answer}
 use Rattle.cloner_top.proofs.program.obey_or_complain.Goals as goal
 
 pub returns-in-Err-clause-answer : goal.returns-in-Err-clause-answer
@@ -14,11 +13,11 @@ returns-in-Err-clause-answer g c =
 pub returns-in-Err-clause-fetches : goal.returns-in-Err-clause-fetches
 returns-in-Err-clause-fetches g c = no_fetches _ _ _ refl
 
-pub returns-in-Ok-read_run_and_write-clause-answer : goal.returns-in-Ok-read_run_and_write-clause-answer
-returns-in-Ok-read_run_and_write-clause-answer g c =
+pub returns-in-Ok-prepare_and_write-clause-answer : goal.returns-in-Ok-prepare_and_write-clause-answer
+returns-in-Ok-prepare_and_write-clause-answer g c =
     success (request_view c.in-Ok.request).assignment
-    (ap (option_map (λ (r : RequestView). r.assignment)) c.in-Ok.ensures.value) c.in-Ok-read_run_and_write.ensures.ok
-    c.in-Ok-read_run_and_write.ensures.fetched refl
+    (ap (option_map (λ (r : RequestView). r.assignment)) c.in-Ok.ensures.value) c.in-Ok-prepare_and_write.ensures.ok
+    c.in-Ok-prepare_and_write.ensures.fetched refl
 
 pub returns-in-Err-Refused-clause-answer : goal.returns-in-Err-Refused-clause-answer
 returns-in-Err-Refused-clause-answer g c =

@@ -1,17 +1,15 @@
 use Rattle.cloner_top.proofs.Puts.{first_not_put}
-use Rattle.cloner_top.proofs.RunPuts.{journal_put, run_cut}
+use Rattle.cloner_top.proofs.RunPuts.{journal_done}
 use Rattle.cloner_top.proofs.putting.put_live.Goals as goal
 
-pub returns-in-Ok-put_text-clause-ok : goal.returns-in-Ok-put_text-clause-ok
-returns-in-Ok-put_text-clause-ok g c =
-    journal_put _ _ _ _ _ c.in-Ok.ensures.ready.net_is c.in-Ok.ensures.ready.clones_are _ _ _ _
-    c.in-Ok-put_text.ensures.ok c.put_prepared.ensures.ok
+pub returns-in-Ok-put_text : goal.returns-in-Ok-put_text
+returns-in-Ok-put_text g c = record {
+  done = journal_done _ _ _ _ _ c.in-Ok.ensures.ready.net_is c.in-Ok.ensures.ready.clones_are _ _ _
+      c.in-Ok-put_text.ensures.done c.put_text.ensures.later _ c.put_prepared.ensures.done
+      c.put_prepared.ensures.cause;
+}
 
-pub returns-in-Ok-put_text-clause-err : goal.returns-in-Ok-put_text-clause-err
-returns-in-Ok-put_text-clause-err g c =
-    run_cut _ _ _ _ _ c.in-Ok.ensures.ready.net_is c.in-Ok.ensures.ready.clones_are _ _ _ _
-    c.in-Ok-put_text.ensures.ok c.put_text.ensures.later c.put_prepared.ensures.err c.put_prepared.ensures.cause
-
-pub returns-in-Err-put_text-clause-err : goal.returns-in-Err-put_text-clause-err
-returns-in-Err-put_text-clause-err g c =
-    first_not_put _ _ _ _ _ c.in-Err-put_text.ensures.err c.in-Err-put_text.ensures.cause
+pub returns-in-Err-put_text : goal.returns-in-Err-put_text
+returns-in-Err-put_text g c = record {
+  done = first_not_put _ _ _ _ _ c.in-Err-put_text.ensures.done c.in-Err-put_text.ensures.cause;
+}

@@ -1,15 +1,14 @@
-use Rattle.std.proofs.Common.{◌∙◌, ap, subst, sym}
+use Rattle.std.proofs.Common.{◌∙◌, ap, refl, subst, sym}
 use Rattle.sim_base.specs.Clones.{clone_at}
 use Rattle.rolling_text.specs.WorldTraces.{AreShort}
-use Rattle.cloner_top.proofs.Runs.{run_stops, short_planned}
-use Rattle.std.proofs.Common.{refl}
+use Rattle.cloner_top.proofs.Runs.{run_exceeds, short_planned}
 use Rattle.cloner_top.proofs.running.run_world.Goals as goal
 
 pub returns-in-Err-LimitMet-clause-err : goal.returns-in-Err-LimitMet-clause-err
 returns-in-Err-LimitMet-clause-err g c = λ texts.
     let name = c.name.ensures.value ∙ ap (λ l. (clone_at l c.in-Err-LimitMet.who).name) c.lists-lists.ensures.value in
-    run_stops _ _ _ _ texts _ _ _ _ _ _ refl (rw c.in-Err-LimitMet.field-0-is at c.in-Err-LimitMet.ensures.ran.fault)
-    c.deref.ensures name c.stop_at.ensures
+    run_exceeds _ _ _ _ texts _ _ _ _ _ _ refl (rw c.in-Err-LimitMet.field-0-is at c.in-Err-LimitMet.ensures.ran.fault)
+    c.deref.ensures name c.limit_at.ensures
 
 pub returns-in-Ok-clause-may_report : goal.returns-in-Ok-clause-may_report
 returns-in-Ok-clause-may_report g c =

@@ -1,0 +1,35 @@
+-- What is ready to be run: all that is asked was read and decided, and no message is handled yet.
+use Rattle.std.specs.Prelude.{Option}
+use Rattle.sim_outer.specs.Files.{Files}
+use Rattle.command_words.specs.Requests.{AssignmentView}
+use Rattle.study_run.specs.Accepted.{IsAcceptedJournal}
+use Rattle.cloner_top.specs.declared.prepared.Prepared.{Prepared}
+use Rattle.cloner_top.specs.declared.prepared.Prepared.TheVariants.{Decided, Undecided}
+use Rattle.cloner_top.specs.declared.refusal.Refusal.{Refusal}
+use Rattle.cloner_top.specs.declared.refusal.Refusal.TheVariants.{NotRead, OutOfMemory, Stopped}
+use Rattle.cloner_top.specs.Answers.{IsLawfulEnding}
+use Rattle.cloner_top.specs.Deciding.{clones_of_book}
+use Rattle.cloner_top.specs.Endings.{Ending, MayLive, MaySimulate, early_stop}
+use Rattle.cloner_top.specs.Texts.{IsDue, IsUnread}
+
+-- how it may end
+abbrev pub MayEndFrom : Prepared → Ending → Type 0
+MayEndFrom (Decided decided) end =
+    MaySimulate decided.mode decided.plan.model.value (clones_of_book decided.plan.book) end
+MayEndFrom (Undecided study) end = MayLive study.model.value study.script end
+
+-- the decisions that are made were all accepted
+abbrev pub IsReady : Prepared → Type 0
+IsReady (Decided decided) = IsAcceptedJournal decided.plan.book.net decided.plan.book.events
+IsReady (Undecided study) = Unit {0}
+
+-- it is what is asked: however it ends, that is a lawful ending
+abbrev pub IsPrepared : Option Files → AssignmentView → Prepared → Type 0
+IsPrepared files a p = (end : Ending) → MayEndFrom p end → IsLawfulEnding files a end
+
+-- why nothing is ready: out of memory, a text that was due was not read, or it stops
+abbrev pub IsNotPrepared : Type 0 → Option Files → AssignmentView → Refusal → Type 0
+IsNotPrepared rose files a OutOfMemory = Unit {0}
+IsNotPrepared rose files a (NotRead text) = IsDue a files text × IsUnread rose a files text
+IsNotPrepared rose files a (Stopped stop) = IsLawfulEnding files a (early_stop stop)
+IsNotPrepared rose files a refusal = ⊥

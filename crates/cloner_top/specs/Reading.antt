@@ -1,0 +1,63 @@
+-- Texts that are fetched and read, and why not.
+use Rattle.std.specs.Prelude.{◌≡◌, ℕ, List, Option, Ok, Err}
+use Rattle.sim_outer.specs.Files.{Files}
+use Rattle.net_model.specs.Net.{Net}
+use Rattle.net_model.specs.Text.{model}
+use Rattle.decision_script.specs.Reading.{script}
+use Rattle.decision_script.specs.Stating.{ScriptView}
+use Rattle.command_words.specs.Requests.{AssignmentView}
+use Rattle.cloner_top.specs.declared.reading.Origin as code
+use Rattle.cloner_top.specs.declared.reading.Origin.TheVariants as from
+use Rattle.cloner_top.specs.declared.refusal.Refusal.{Refusal}
+use Rattle.cloner_top.specs.declared.refusal.Refusal.TheVariants.{NotRead, OutOfMemory, Stopped}
+use Rattle.cloner_top.specs.declared.refusal.Text.{Text}
+use Rattle.cloner_top.specs.declared.refusal.Text.TheVariants.{Model, Script}
+use Rattle.cloner_top.specs.declared.stop.Stop.{Stop}
+use Rattle.cloner_top.specs.declared.stop.Stop.TheVariants.{BadModel, BadScript}
+use Rattle.cloner_top.specs.Texts.{IsTextOf, IsUnread, Origin, in_file, made, made_text}
+
+-- where a text comes from, as plain data
+abbrev pub origin_view : code.Origin → Text → Origin
+origin_view (from.InFile name) text = in_file name.now
+origin_view (from.Made number) text = made (made_text text number)
+
+-- out of memory, or the text was not read
+abbrev pub IsNotFetched : Type 0 → AssignmentView → Option Files → Text → Refusal → Type 0
+IsNotFetched rose a files text OutOfMemory = Unit {0}
+IsNotFetched rose a files text (NotRead which) = (which ≡ text) × IsUnread rose a files text
+IsNotFetched rose a files text refusal = ⊥
+
+-- the rule of models that a text breaks
+abbrev pub IsBadModel : List ℕ → Stop → Type 0
+IsBadModel text (BadModel fault) = model text ≡ Err fault
+IsBadModel text stop = ⊥
+
+-- and the rule of scripts
+abbrev pub IsBadScript : List ℕ → Stop → Type 0
+IsBadScript text (BadScript fault) = script text ≡ Err fault
+IsBadScript text stop = ⊥
+
+-- the model's text is this model
+pub record IsModelOf (a : AssignmentView) (files : Option Files) (net : Net) : Type 0 where
+  pub m : List ℕ
+  pub text : IsTextOf a files Model m
+  pub is_model : model m ≡ Ok net
+
+-- the script's text is this script
+pub record IsScriptOf (a : AssignmentView) (files : Option Files) (stated : ScriptView) : Type 0 where
+  pub s : List ℕ
+  pub text : IsTextOf a files Script s
+  pub is_script : script s ≡ Ok stated
+
+-- the script's text is none, for which it stops
+pub record IsNoScriptOf (a : AssignmentView) (files : Option Files) (stop : Stop) : Type 0 where
+  pub s : List ℕ
+  pub text : IsTextOf a files Script s
+  pub is_bad : IsBadScript s stop
+
+-- why there is no script
+abbrev pub IsUnscripted : Type 0 → AssignmentView → Option Files → Refusal → Type 0
+IsUnscripted rose a files OutOfMemory = Unit {0}
+IsUnscripted rose a files (NotRead text) = (text ≡ Script) × IsUnread rose a files Script
+IsUnscripted rose a files (Stopped stop) = IsNoScriptOf a files stop
+IsUnscripted rose a files refusal = ⊥

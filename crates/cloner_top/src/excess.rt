@@ -1,0 +1,56 @@
+//! What exceeds a limit, which is found while messages are handled.
+ghost use Rattle.std.specs.Prelude.{◌≡◌};
+ghost use Rattle.cloner_top.specs.Stops.{excess_line, excess_status, limit_line};
+
+use crate::error_line::ErrorLine;
+use sim_base::Name;
+
+/// What exceeds a limit.
+#[derive(Clone, Copy, Debug, PartialEq, Eq)]
+pub enum Excess {
+    /// The log of this station in this clone.
+    LimitMet {
+        limit: u64,
+        station: Name,
+        clone: Name,
+    },
+}
+
+// The line of a limit that is met.
+fn line_of_limit(limit: u64, station: &Name, clone: &Name) -> ErrorLine
+    ensures { result ≡ limit_line limit station.now clone.now }
+{
+    let mut line = ErrorLine::new();
+    line.push("cloner: limit ");
+    line.push_number(limit);
+    line.push(" met at station ");
+    line.push_name(station);
+    line.push(" in clone ");
+    line.push_name(clone);
+    line.push("\n");
+    line
+}
+
+impl Excess {
+    /// The status of the program.
+    pub fn status(&self) -> u8
+        ensures { result ≡ excess_status self.now }
+    {
+        match self {
+            Excess::LimitMet { .. } => 7,
+        }
+    }
+
+    /// The line that tells it.
+    pub fn line(&self) -> ErrorLine
+        ensures { result ≡ excess_line self.now }
+    {
+        match self {
+            Excess::LimitMet {
+                limit,
+                station,
+                clone,
+            } => line_of_limit(*limit, station, clone),
+        }
+    }
+}

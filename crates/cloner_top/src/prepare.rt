@@ -1,0 +1,168 @@
+//! Reads what is asked and decides it: all that comes before the first message.
+ghost use Rattle.std.specs.Prelude.{◌≡◌, ◌≤◌, ℕ, List, IfErr, IfOk, OnOk};
+ghost use Rattle.sim_outer.specs.Counts.{AreCounted, HasRisen};
+ghost use Rattle.command_words.specs.Requests as requests;
+ghost use Rattle.command_words.specs.Requests.{SourceView, assignment_view};
+ghost use Rattle.cloner_top.specs.Deciding.{IsDecided, IsRefusal};
+ghost use Rattle.cloner_top.specs.Prepared.{IsNotPrepared, IsPrepared, IsReady};
+ghost use Rattle.cloner_top.specs.Reading.{IsModelOf, IsScriptOf, IsUnscripted};
+ghost use Rattle.cloner_top.specs.Refusals.{IsMemoryOrStop};
+ghost use Rattle.cloner_top.specs.Texts.{all_fetches, fetches_of, origin_of};
+
+use crate::deciding::decide_script;
+use crate::prepared::{Decided, Plan, Prepared, Study};
+use crate::reading::{fetch_text, read_model_text, read_script_text};
+use crate::refusal::{Refusal, Text};
+use command_words::{Assignment, Mode};
+use decision_script::Script;
+use net_model::Model;
+use sim_outer::Inputs;
+use std::alloc::Global;
+use std::sync::Arc;
+
+// The plan of a model and a script: all decisions are made at front 0, before the simulation begins. Nothing is
+// simulated.
+fn plan_study(alloc: Global, model: Arc<Model>, script: &Script) -> Result<Plan, Refusal>
+    ensures model { IfOk result (λ plan. plan.model.value ≡ model.value) }
+    ensures book { IfOk result (λ plan. IsDecided model.value script.now plan.book) }
+    ensures err { IfErr result (λ r. IsMemoryOrStop (IsRefusal model.value script.now) r) }
+{
+    let Ok(shared) = Arc::try_clone(&model) else {
+        return Err(Refusal::OutOfMemory);
+    };
+    match decide_script(alloc, shared, script) {
+        Ok(book) => Ok(Plan { model, book }),
+        Err(refusal) => Err(refusal),
+    }
+}
+
+// Fetches the model, and reads it.
+fn fetch_model<I: Inputs>(
+    alloc: Global,
+    inputs: &mut I,
+    assignment: &Assignment,
+) -> Result<Model, Refusal>
+    ensures ok { IfOk result (λ net. IsModelOf (assignment_view assignment.now) (I.view inputs.old).files net) }
+    ensures err { IfErr result (λ r. IsNotPrepared (HasRisen (I.view inputs.old).faults (I.view inputs.new).faults)
+        (I.view inputs.old).files (assignment_view assignment.now) r) }
+    ensures later { (I.view inputs.old).faults ≤ (I.view inputs.new).faults }
+    ensures same { (I.view inputs.new).files ≡ (I.view inputs.old).files }
+    ensures counted { AreCounted (fetches_of (origin_of (assignment_view assignment.now) Text.Model))
+        (I.view inputs.old).calls (I.view inputs.new).calls }
+{
+    let text = match fetch_text(alloc, inputs, assignment, Text::Model) {
+        Ok(text) => text,
+        Err(refusal) => return Err(refusal),
+    };
+    match read_model_text(alloc, text.as_slice()) {
+        Ok(model) => Ok(model),
+        Err(refusal) => Err(refusal),
+    }
+}
+
+// Fetches the script, and reads it.
+fn fetch_script<I: Inputs>(
+    alloc: Global,
+    inputs: &mut I,
+    assignment: &Assignment,
+) -> Result<Script, Refusal>
+    ensures ok { IfOk result (λ s. IsScriptOf (assignment_view assignment.now) (I.view inputs.old).files s) }
+    ensures err { IfErr result (λ r. IsUnscripted (HasRisen (I.view inputs.old).faults (I.view inputs.new).faults)
+        (assignment_view assignment.now) (I.view inputs.old).files r) }
+    ensures later { (I.view inputs.old).faults ≤ (I.view inputs.new).faults }
+    ensures same { (I.view inputs.new).files ≡ (I.view inputs.old).files }
+    ensures counted { AreCounted (fetches_of (origin_of (assignment_view assignment.now) Text.Script))
+        (I.view inputs.old).calls (I.view inputs.new).calls }
+{
+    let text = match fetch_text(alloc, inputs, assignment, Text::Script) {
+        Ok(text) => text,
+        Err(refusal) => return Err(refusal),
+    };
+    match read_script_text(alloc, text.as_slice()) {
+        Ok(script) => Ok(script),
+        Err(refusal) => Err(refusal),
+    }
+}
+
+// A study of a model and a script whose decisions are all made first; the model was read.
+fn prepare_study<I: Inputs>(
+    alloc: Global,
+    inputs: &mut I,
+    assignment: &Assignment,
+    mode: Mode,
+    model: Arc<Model>,
+) -> Result<Prepared, Refusal>
+    requires study { (source : SourceView) × (assignment_view assignment.now ≡ requests.Study source mode) }
+    requires model { IsModelOf (assignment_view assignment.now) (I.view inputs.old).files model.value }
+    ensures ready { IfOk result IsReady }
+    ensures ok { IfOk result (λ p. IsPrepared (I.view inputs.old).files (assignment_view assignment.now) p) }
+    ensures err { IfErr result (λ r. IsNotPrepared (HasRisen (I.view inputs.old).faults (I.view inputs.new).faults)
+        (I.view inputs.old).files (assignment_view assignment.now) r) }
+    ensures later { (I.view inputs.old).faults ≤ (I.view inputs.new).faults }
+    ensures same { (I.view inputs.new).files ≡ (I.view inputs.old).files }
+    ensures counted { AreCounted (fetches_of (origin_of (assignment_view assignment.now) Text.Script))
+        (I.view inputs.old).calls (I.view inputs.new).calls }
+{
+    let script = match fetch_script(alloc, inputs, assignment) {
+        Ok(script) => script,
+        Err(refusal) => return Err(refusal),
+    };
+    match plan_study(alloc, model, &script) {
+        Ok(plan) => Ok(Prepared::Decided(Decided { mode, plan })),
+        Err(refusal) => Err(refusal),
+    }
+}
+
+// A live study; the model was read.
+fn prepare_live<I: Inputs>(
+    alloc: Global,
+    inputs: &mut I,
+    assignment: &Assignment,
+    model: Arc<Model>,
+) -> Result<Prepared, Refusal>
+    requires live { (m : List ℕ) × ((s : List ℕ) × (assignment_view assignment.now ≡ requests.Live m s)) }
+    requires model { IsModelOf (assignment_view assignment.now) (I.view inputs.old).files model.value }
+    ensures ready { IfOk result IsReady }
+    ensures ok { IfOk result (λ p. IsPrepared (I.view inputs.old).files (assignment_view assignment.now) p) }
+    ensures err { IfErr result (λ r. IsNotPrepared (HasRisen (I.view inputs.old).faults (I.view inputs.new).faults)
+        (I.view inputs.old).files (assignment_view assignment.now) r) }
+    ensures later { (I.view inputs.old).faults ≤ (I.view inputs.new).faults }
+    ensures same { (I.view inputs.new).files ≡ (I.view inputs.old).files }
+    ensures counted { AreCounted (fetches_of (origin_of (assignment_view assignment.now) Text.Script))
+        (I.view inputs.old).calls (I.view inputs.new).calls }
+{
+    match fetch_script(alloc, inputs, assignment) {
+        Ok(script) => Ok(Prepared::Undecided(Study { model, script })),
+        Err(refusal) => Err(refusal),
+    }
+}
+
+/// What is asked, read and decided, or why not. No message is handled.
+pub(crate) fn prepare<I: Inputs>(
+    alloc: Global,
+    inputs: &mut I,
+    assignment: &Assignment,
+) -> Result<Prepared, Refusal>
+    ensures ready { IfOk result IsReady }
+    ensures ok { IfOk result (λ p. IsPrepared (I.view inputs.old).files (assignment_view assignment.now) p) }
+    ensures err { IfErr result (λ r. IsNotPrepared (HasRisen (I.view inputs.old).faults (I.view inputs.new).faults)
+        (I.view inputs.old).files (assignment_view assignment.now) r) }
+    ensures later { (I.view inputs.old).faults ≤ (I.view inputs.new).faults }
+    ensures same { (I.view inputs.new).files ≡ (I.view inputs.old).files }
+    ensures fetched { OnOk result (AreCounted (all_fetches (assignment_view assignment.now))
+        (I.view inputs.old).calls (I.view inputs.new).calls) }
+    ensures few { (n : ℕ) × ((n ≤ all_fetches (assignment_view assignment.now))
+        × AreCounted n (I.view inputs.old).calls (I.view inputs.new).calls) }
+{
+    let model = match fetch_model(alloc, inputs, assignment) {
+        Ok(model) => model,
+        Err(refusal) => return Err(refusal),
+    };
+    let Ok(model) = Arc::new(alloc, model) else {
+        return Err(Refusal::OutOfMemory);
+    };
+    match *assignment {
+        Assignment::Study { mode, .. } => prepare_study(alloc, inputs, assignment, mode, model),
+        Assignment::Live { .. } => prepare_live(alloc, inputs, assignment, model),
+    }
+}

@@ -1,0 +1,71 @@
+//! Runs what is prepared, and writes its texts.
+ghost use Rattle.std.specs.Prelude.{IfErr, OnOk};
+ghost use Rattle.cloner_top.specs.Deciding.{clones_of_book};
+ghost use Rattle.cloner_top.specs.Endings.{MaySimulate};
+ghost use Rattle.cloner_top.specs.Outsides.{IsDone, IsHalted, IsStudyPut};
+ghost use Rattle.cloner_top.specs.Prepared.{IsReady, MayEndFrom};
+ghost use Rattle.study_run.specs.Accepted.{IsAcceptedJournal};
+
+use crate::alone::write_alone;
+use crate::halt::Halt;
+use crate::live::write_live;
+use crate::prepared::{Decided, Prepared};
+use crate::refusal::Refusal;
+use crate::running::{write_report, write_run};
+use command_words::Mode;
+use crew_pool::{Gate, Workers};
+use sim_base::Steps;
+use sim_outer::Sink;
+use std::alloc::Global;
+use std::sync::Wait;
+use std::sync::ledger::Ledger;
+use std::thread::Threads;
+
+// Runs decided clones as their mode asks, and writes its texts.
+fn write_decided<O: Sink, G: Gate, L: Ledger, R: Threads + Wait + Sync>(
+    rt: &R,
+    alloc: Global,
+    gate: &G,
+    workers: Workers,
+    decided: &Decided,
+    out: &mut O,
+    steps: &mut Steps<L>,
+) -> Result<(), Refusal>
+    requires accepted { IsAcceptedJournal decided.now.plan.book.net decided.now.plan.book.events }
+    ensures done { IsDone
+        (MaySimulate decided.now.mode decided.now.plan.model.value (clones_of_book decided.now.plan.book))
+        steps.old steps.new (O.view out.old) (O.view out.new) result }
+{
+    match decided.mode {
+        Mode::Run => write_run(rt, alloc, gate, workers, &decided.plan, out, steps),
+        Mode::Report => write_report(rt, alloc, gate, workers, &decided.plan, out, steps),
+        Mode::Solo(name) => write_alone(alloc, &name, &decided.plan, out, steps),
+    }
+}
+
+/// Runs what is prepared, and writes its texts.
+pub(crate) fn write_prepared<O: Sink, G: Gate, L: Ledger, R: Threads + Wait + Sync>(
+    rt: &R,
+    alloc: Global,
+    gate: &G,
+    workers: Workers,
+    prepared: &Prepared,
+    out: &mut O,
+    steps: &mut Steps<L>,
+) -> Result<(), Halt>
+    requires ready { IsReady prepared.now }
+    ensures ok { OnOk result (IsStudyPut (MayEndFrom prepared.now) steps.old steps.new
+        (O.view out.old) (O.view out.new)) }
+    ensures err { IfErr result (λ h. IsHalted (MayEndFrom prepared.now) steps.old steps.new
+        (O.view out.old) (O.view out.new) h) }
+{
+    match prepared {
+        Prepared::Decided(decided) => {
+            match write_decided(rt, alloc, gate, workers, decided, out, steps) {
+                Ok(()) => Ok(()),
+                Err(refusal) => Err(Halt::Refused(refusal)),
+            }
+        }
+        Prepared::Undecided(study) => write_live(rt, alloc, gate, workers, study, out, steps),
+    }
+}
