@@ -162,7 +162,8 @@ module _ (words : Option AssignmentView) (before after : Outside) where
   unread_cause _ (usage none refused inputs steps) three = absurd (omega (arith, three))
   unread_cause _ (unread a text is due not refused steps) three =
       record { a = a; asks = is; text = text; due = due; unread = not }
-  unread_cause _ (stopped a s is may refused steps) three = absurd (let l = stop_status-low s in omega (arith, three, l))
+  unread_cause _ (stopped a s is may refused steps) three =
+      absurd (let l = stop_status-low s in omega (arith, three, l))
   unread_cause _ (exceeded a told e is why refused) three =
       absurd (let l = excess_status-low e in omega (arith, three, l))
   unread_cause _ (cut a is off told) three = absurd (omega (arith, three))

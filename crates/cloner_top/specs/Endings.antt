@@ -15,13 +15,14 @@ use Rattle.world_core.specs.Overs.{most_handled}
 use Rattle.world_core.specs.Worlds.{total_handled}
 use Rattle.trace_report.specs.Outputs.{clone_text, report}
 use Rattle.study_run.specs.Limits.{AreWithin, IsWithin, MeetsLimit, MeetsLimitAlone}
+use Rattle.study_stats.specs.Rows.{statistics}
 use Rattle.journal_text.specs.declared.looked.Looked.{Looked}
 use Rattle.journal_text.specs.JournalText.{journal_text}
 use Rattle.live_study.specs.Engines.{MeetsLimitLast}
 use Rattle.live_study.specs.Looks.{AreLooks, AreMadeLooks}
 use Rattle.live_study.specs.Scripts.{IsJournalOf}
 use Rattle.command_words.specs.declared.request.Mode.{Mode}
-use Rattle.command_words.specs.declared.request.Mode.TheVariants.{Report, Solo}
+use Rattle.command_words.specs.declared.request.Mode.TheVariants.{Report, Solo, Stats}
 use Rattle.command_words.specs.Requests.{AssignmentView, Live, Study}
 use Rattle.cloner_top.specs.declared.excess.Excess.{Excess}
 use Rattle.cloner_top.specs.declared.excess.Excess.TheVariants.{LimitMet}
@@ -58,9 +59,10 @@ pub data MayRun (net : Net) (clones : List Clone) (meets : ℕ → ℕ → Type 
 unfoldable pub run_texts : Net → List Clone → List (List ℕ)
 run_texts net clones = map (clone_text net) clones ++ report net clones ∷ []
 
--- what each mode of all clones writes: the report alone, or those texts
+-- what each mode of all clones writes: the report alone, the statistics of their servers, or those texts
 abbrev pub mode_texts : Mode → Net → List Clone → List (List ℕ)
 mode_texts Report net clones = report net clones ∷ []
+mode_texts Stats net clones = statistics net clones ∷ []
 mode_texts mode net clones = run_texts net clones
 
 -- which station and which clone are told at the limit: in each mode of all clones the first
@@ -110,7 +112,8 @@ pub data MayLive (net : Net) (s : ScriptView) : Ending → Type 0 where
       → MayLive net s
       (whole_output (journal_text s.analysts book.events looks ∷ run_texts net (after net book.events).clones)
       (total_handled net (after net book.events).clones net.horizon))
-  over_live : (book : BookView) (looks : List Looked) (station who : ℕ) → IsJournalOf net s book → AreMadeLooks net s looks
+  over_live : (book : BookView) (looks : List Looked) (station who : ℕ) → IsJournalOf net s book
+      → AreMadeLooks net s looks
       → MeetsLimitLast net book.events station who
       → MayLive net s (overrun (journal_text s.analysts book.events looks ∷ [])
       (limit_met_at net station (clone_at (after net book.events).clones who).name)

@@ -47,7 +47,8 @@ pub record IsStudy (files : Option Files) (a : AssignmentView) (net : Net) (stat
 
 -- all clones were run, no log of any is beyond the limit, and these texts were put, each in one call; a step for each
 -- message that the clones do not share
-pub record WritesAll (texts : Net → List Clone → List (List ℕ)) (before after : Outside) (a : AssignmentView) : Type 0 where
+pub record WritesAll (texts : Net → List Clone → List (List ℕ)) (before after : Outside) (a : AssignmentView) :
+    Type 0 where
   pub net : Net
   pub stated : ScriptView
   pub study : IsStudy before.inputs.files a net stated
@@ -55,8 +56,8 @@ pub record WritesAll (texts : Net → List Clone → List (List ℕ)) (before af
   pub put : ArePut (texts net (clones_of net stated)) before.output after.output
   pub steps : after.steps ≡ before.steps + total_handled net (clones_of net stated) net.horizon
 
--- this part of the clone of this name was run alone, none of its logs is beyond the limit, and the text of the clone was
--- put
+-- this part of the clone of this name was run alone, none of its logs is beyond the limit, and the text of the clone
+-- was put
 pub record WritesOne (name : List ℕ) (part : Net → Clone → Clone) (written : Net → Clone → Result (List ℕ) Excess)
     (before after : Outside) (a : AssignmentView) : Type 0 where
   pub net : Net

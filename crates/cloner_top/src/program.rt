@@ -132,13 +132,14 @@ fn obey_or_complain<I: Inputs, O: Sink, E: Sink, G: Gate, L: Ledger, R: Threads 
 /// `run MODEL SCRIPT` runs all clones that the script makes in one world, which they share, and writes the trace text
 /// of each and then the report; `live MODEL SCRIPT` has the analysts of the script decide and look while that world
 /// runs, and writes their journal before the rest; `gen NUMBER` runs the model and the script made of the number, and
-/// writes the report alone; `solo MODEL SCRIPT --clone NAME` runs one clone by itself and writes its trace text. Each
-/// text is put in one call, and all memory is taken before the first. The status is 0 where all is written. Otherwise
-/// the error sink is told why in one line; where the limit is met in a live study, its journal is told before the line:
+/// writes the report alone; `stats MODEL SCRIPT` runs as `run` does and writes the statistics of each clone's servers;
+/// `solo MODEL SCRIPT --clone NAME` runs one clone alone and writes its trace text. Each text is put in one call, and
+/// all memory is taken before the first. The status is 0 if all is written. Otherwise the error sink is told why in one
+/// line. If the limit is met in a live study, its journal is told before the line:
 ///
 /// 1. memory was refused, at any place before the first put;
 /// 2. the command line has no known form;
-/// 3. a file was not read, which comes only where the inputs had a fault or have no such file;
+/// 3. a file that was due was not read, which comes only where the inputs had a fault or have no such file;
 /// 4. the model's text is no model;
 /// 5. the script's text is no script;
 /// 6. a decision is refused, or there is no clone of the name; in a live study the journal shows what is refused;

@@ -3,6 +3,7 @@ ghost use Rattle.std.specs.Prelude.{◌≡◌, ◌≤◌, ◌∷◌, [], IfErr, 
 ghost use Rattle.trace_report.specs.Outputs.{report};
 ghost use Rattle.trace_report.specs.TraceText.{trace_text};
 ghost use Rattle.study_run.specs.Reports.{MayReport};
+ghost use Rattle.study_stats.specs.Rows.{statistics};
 ghost use Rattle.cloner_top.specs.Endings.{run_texts};
 ghost use Rattle.cloner_top.specs.Outsides.{AreDone, ArePutOrCut};
 ghost use Rattle.cloner_top.specs.RunTexts.{IsReadyRun, MayPutRun};
@@ -18,6 +19,7 @@ use std::alloc::Global;
 use std::sync::Wait;
 use std::thread::Threads;
 use study_run::make_report;
+use study_stats::make_statistics;
 use world_core::World;
 
 /// Puts one text.
@@ -59,6 +61,22 @@ pub(crate) fn put_report<O: Sink>(
     ensures done { AreDone (report model.now world.now.clones ∷ []) (O.view out.old) (O.view out.new) result }
 {
     match make_report(alloc, model, world) {
+        Ok(text) => put_text(out, text.as_slice()),
+        Err(NoMemory) => Err(Refusal::OutOfMemory),
+    }
+}
+
+/// Puts the statistics of a world at the horizon.
+pub(crate) fn put_stats<O: Sink>(
+    alloc: Global,
+    model: &Model,
+    world: &World,
+    out: &mut O,
+) -> Result<(), Refusal>
+    requires may_report { MayReport model.now world.now }
+    ensures done { AreDone (statistics model.now world.now.clones ∷ []) (O.view out.old) (O.view out.new) result }
+{
+    match make_statistics(alloc, model, world) {
         Ok(text) => put_text(out, text.as_slice()),
         Err(NoMemory) => Err(Refusal::OutOfMemory),
     }

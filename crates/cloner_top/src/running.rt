@@ -13,7 +13,7 @@ ghost use Rattle.cloner_top.specs.Outsides.{IsDone, IsNoRun};
 
 use crate::excess::Excess;
 use crate::prepared::Plan;
-use crate::putting::{put_report, put_run};
+use crate::putting::{put_report, put_run, put_stats};
 use crate::refusal::Refusal;
 use command_words::Mode;
 use crew_pool::{Gate, Workers};
@@ -126,6 +126,26 @@ pub(crate) fn write_report<O: Sink, G: Gate, L: Ledger, R: Threads + Wait + Sync
 {
     match run_world(rt, alloc, gate, workers, plan, steps) {
         Ok(world) => put_report(alloc, &plan.model, &world, out),
+        Err(refusal) => Err(refusal),
+    }
+}
+
+/// Runs all clones, and writes the statistics of their servers.
+pub(crate) fn write_stats<O: Sink, G: Gate, L: Ledger, R: Threads + Wait + Sync>(
+    rt: &R,
+    alloc: Global,
+    gate: &G,
+    workers: Workers,
+    plan: &Plan,
+    out: &mut O,
+    steps: &mut Steps<L>,
+) -> Result<(), Refusal>
+    requires accepted { IsAcceptedJournal plan.now.book.net plan.now.book.events }
+    ensures done { IsDone (MaySimulate Mode.Stats plan.now.model.value (clones_of_book plan.now.book))
+        steps.old steps.new (O.view out.old) (O.view out.new) result }
+{
+    match run_world(rt, alloc, gate, workers, plan, steps) {
+        Ok(world) => put_stats(alloc, &plan.model, &world, out),
         Err(refusal) => Err(refusal),
     }
 }

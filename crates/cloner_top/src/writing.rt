@@ -11,7 +11,7 @@ use crate::halt::Halt;
 use crate::live::write_live;
 use crate::prepared::{Decided, Prepared};
 use crate::refusal::Refusal;
-use crate::running::{write_report, write_run};
+use crate::running::{write_report, write_run, write_stats};
 use command_words::Mode;
 use crew_pool::{Gate, Workers};
 use sim_base::Steps;
@@ -39,6 +39,7 @@ fn write_decided<O: Sink, G: Gate, L: Ledger, R: Threads + Wait + Sync>(
     match decided.mode {
         Mode::Run => write_run(rt, alloc, gate, workers, &decided.plan, out, steps),
         Mode::Report => write_report(rt, alloc, gate, workers, &decided.plan, out, steps),
+        Mode::Stats => write_stats(rt, alloc, gate, workers, &decided.plan, out, steps),
         Mode::Solo(name) => write_alone(alloc, &name, &decided.plan, out, steps),
     }
 }

@@ -21,16 +21,19 @@ use Rattle.command_words.specs.Rules.{DashedWord, OptionName, after_dashed, bare
 use Rattle.command_words.specs.Rules.{is_dashed, option_text, option_with_value, option_word, read, unknown}
 use Rattle.command_words.specs.Rules.{values, with_positionals, with_value, workers}
 use Rattle.command_words.specs.Values.{GivenView}
-use Rattle.command_words.proofs.ClapRows.{Follows, HaveValues, OptionValues, Stage, at_first, at_mode, at_second, at_start}
+use Rattle.command_words.proofs.ClapRows.{Follows, HaveValues, OptionValues, Stage, at_first, at_mode, at_second}
+use Rattle.command_words.proofs.ClapRows.{at_start}
 use Rattle.command_words.proofs.ClapRows.{fault-missing, fault-twice, free_place, is_given, listed}
 use Rattle.command_words.proofs.ClapRows.{next_place, no_fault-option, no_fault-place, no_options, none, not_given, one}
-use Rattle.command_words.proofs.ClapRows.{option_pending, option_used, place, place_pending, three, two, values_at, values_in-have}
+use Rattle.command_words.proofs.ClapRows.{option_pending, option_used, place, place_pending, three, two, values_at}
+use Rattle.command_words.proofs.ClapRows.{values_in-have}
 use Rattle.command_words.proofs.ClapRows.{with_option, with_value-new, with_value-twice}
 use Rattle.command_words.proofs.ClapSteps.{IsPlain, Place, end_of, fault_at_end, fault_behind, fault_of_fourth}
 use Rattle.command_words.proofs.ClapSteps.{fault_of_fourth_behind, fault_of_name, fault_of_next, fault_of_plain}
 use Rattle.command_words.proofs.ClapSteps.{fault_of_value, first, mode, next_positional, pending_fault, positional_name}
 use Rattle.command_words.proofs.ClapSteps.{positional_number, repeated, rows_with, second, shape, used}
-use Rattle.command_words.proofs.ClapSteps.{values_from, values_from-refused, values_from-taken, walk_at_end, walk_behind}
+use Rattle.command_words.proofs.ClapSteps.{values_from, values_from-refused, values_from-taken, walk_at_end}
+use Rattle.command_words.proofs.ClapSteps.{walk_behind}
 use Rattle.command_words.proofs.ClapSteps.{walk_between, walk_of_name, walk_of_next, walk_of_plain, walk_of_value}
 use Rattle.command_words.proofs.WordShapes.{IsPlain-of_undashed, Says, Says-dashed_word}
 
@@ -146,7 +149,8 @@ values_from-end rows p waiting ended o s clear st =
 abbrev Behind : List Text → Type 0
 Behind words = (rows : List Row) (p : Option (Text × List Text)) (waiting : Waiting) (o : OptionValues) (s : Stage)
     → pending_fault rows p ≡ [] → HaveValues (rows_with rows p) o s
-    → values_from (walk_between rows p waiting (place s) true) words ≡ up_to_three (with_positionals words (values_at o s))
+    → values_from (walk_between rows p waiting (place s) true) words
+    ≡ up_to_three (with_positionals words (values_at o s))
 
 -- one of them, at this place
 behind_at : (k : Place) (s t : Stage) (word : Text) (rest : List Text) → Follows word k s t → Behind rest

@@ -209,7 +209,8 @@ is_given rows o s name w h some = (h.options name).there ∙ ap is_some some
 pub option_used : (name : OptionName) (v : Text) (rows : List Row) (o : OptionValues) (s : Stage) → HaveValues rows o s
     → o name ≡ None → HaveValues (used (option_text name) v rows) (with_option name v o) s
 option_used name v rows o s h unused = record {
-  options = λ n. of_option name n free (subst (λ x. Tells rows (option_text name) x) unused (h.options name)) (h.options n);
+  options = λ n. of_option name n free (subst (λ x. Tells rows (option_text name) x) unused (h.options name))
+      (h.options n);
   places = λ k. tells-other (option_text name) (positional_name k) v rows (at_place k s) free (option_or_place name k)
       (h.places k);
 }
@@ -218,10 +219,12 @@ option_used name v rows o s h unused = record {
     free = not_given rows o s name h unused
 
     of_option : (name n : OptionName) → has_row (option_text name) rows ≡ false → Tells rows (option_text name) None
-        → Tells rows (option_text n) (o n) → Tells (used (option_text name) v rows) (option_text n) (with_option name v o n)
+        → Tells rows (option_text n) (o n)
+        → Tells (used (option_text name) v rows) (option_text n) (with_option name v o n)
     of_option workers workers f t old = tells-same (option_text workers) v rows refl t
     of_option workers clone f t old = tells-other (option_text workers) (option_text clone) v rows (o clone) f refl old
-    of_option clone workers f t old = tells-other (option_text clone) (option_text workers) v rows (o workers) f refl old
+    of_option clone workers f t old =
+        tells-other (option_text clone) (option_text workers) v rows (o workers) f refl old
     of_option clone clone f t old = tells-same (option_text clone) v rows refl t
 
 -- the same, while it is pending
@@ -297,7 +300,8 @@ place_used k v rows o s t follows h = record {
     of_place _ _ _ (at_first a) first f u old = tells-same (codes "first") v rows refl u
     of_place _ _ _ (at_first a) second f u old = tells-other (codes "first") (codes "second") v rows None f refl old
     of_place _ _ _ (at_second a b) mode f u old = tells-other (codes "second") (codes "mode") v rows (Some a) f refl old
-    of_place _ _ _ (at_second a b) first f u old = tells-other (codes "second") (codes "first") v rows (Some b) f refl old
+    of_place _ _ _ (at_second a b) first f u old =
+        tells-other (codes "second") (codes "first") v rows (Some b) f refl old
     of_place _ _ _ (at_second a b) second f u old = tells-same (codes "second") v rows refl u
 
 -- the same, while it is pending

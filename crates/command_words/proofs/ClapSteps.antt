@@ -163,13 +163,15 @@ pub record IsPlain (word : Text) : Type 0 where
 
 -- as the value that an option waits for
 pub fault_of_next : (name : OptionName) (word : Text) (rows : List Row) (position : ℕ) → IsPlain word
-    → turn_fault shape [] (walk_between rows (Some (option_text name, [])) (option (option_text name)) position false) word ≡ []
+    → turn_fault shape []
+    (walk_between rows (Some (option_text name, [])) (option (option_text name)) position false) word ≡ []
 fault_of_next workers word rows position plain = rw (plain.no_end, plain.no_long, plain.no_short) refl
 fault_of_next clone word rows position plain = rw (plain.no_end, plain.no_long, plain.no_short) refl
 
 -- it is pending with the option
 pub walk_of_next : (name : OptionName) (word : Text) (rows : List Row) (position : ℕ) → IsPlain word
-    → walked shape.rules [] (walk_between rows (Some (option_text name, [])) (option (option_text name)) position false) word
+    → walked shape.rules []
+    (walk_between rows (Some (option_text name, [])) (option (option_text name)) position false) word
     ≡ walk_between rows (Some (option_text name, word ∷ [])) idle position false
 unfolding walked
 walk_of_next workers word rows position plain = rw (plain.no_end, plain.no_long, plain.no_short) refl
@@ -280,7 +282,8 @@ long_name text = before_first (λ x. x == 61) text
 
 -- `--` before another name
 pub refused_long : (x : ℕ) (text : Text)
-    → ((name : OptionName) → bytes_eq (option_text name) (long_name (x ∷ text)) ≡ false) → IsRefused (45 ∷ 45 ∷ x ∷ text)
+    → ((name : OptionName) → bytes_eq (option_text name) (long_name (x ∷ text)) ≡ false)
+    → IsRefused (45 ∷ 45 ∷ x ∷ text)
 refused_long x text other rows p idle position = rw (other workers, other clone) refl
 refused_long x text other rows p (option id) position = rw (other workers, other clone) refl
 refused_long x text other rows p positional position = rw (other workers, other clone) refl

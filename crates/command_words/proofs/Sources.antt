@@ -4,7 +4,7 @@ use Rattle.std.proofs.Common.{Option, Some, None, bytes_eq, option_map, option_a
 use Rattle.command_words.specs.declared.request.TheConstants.{MOST_STUDY}
 use Rattle.command_words.specs.Numbers.{number_to}
 use Rattle.command_words.specs.declared.request.Mode.{Mode}
-use Rattle.command_words.specs.declared.request.Mode.TheVariants.{Report, Run, Solo}
+use Rattle.command_words.specs.declared.request.Mode.TheVariants.{Report, Run, Solo, Stats}
 use Rattle.command_words.specs.Requests.{AssignmentView, FileNames, Live, MadeIsReported, Number, RequestView, Study}
 use Rattle.command_words.specs.Requests.{by_positionals, clone_alone, form_of, form_of_one, form_of_two}
 use Rattle.command_words.specs.Requests.{if_named, is_text, live_by, live_form, solo_form, study_form, study_of}
@@ -75,7 +75,8 @@ two-reports : (mode first second : List ℕ) (v : GivenView) → AreReportsIfMad
 two-reports mode first second v =
     cond-reports (bytes_eq mode (codes "run")) _ _ (study-reports Run first second v)
     (cond-reports (bytes_eq mode (codes "solo")) _ _ (solo-reports first second v)
-    (cond-reports (bytes_eq mode (codes "live")) _ None (live-reports first second v) tt))
+    (cond-reports (bytes_eq mode (codes "live")) _ _ (live-reports first second v)
+    (cond-reports (bytes_eq mode (codes "stats")) _ None (study-reports Stats first second v) tt)))
 
 -- any positionals
 positionals-report : (words : List (List ℕ)) (v : GivenView) → AreReportsIfMade (by_positionals words v)

@@ -2,7 +2,7 @@
 use Rattle.std.specs.Prelude.{◌≡◌, ◌==◌, ℕ, codes, List, [], ◌∷◌, map, Option, Some, None}
 use Rattle.std.specs.List.{slice_split}
 use Rattle.command_words.specs.declared.request.Mode.{Mode}
-use Rattle.command_words.specs.declared.request.Mode.TheVariants.{Report, Run, Solo}
+use Rattle.command_words.specs.declared.request.Mode.TheVariants.{Report, Run, Solo, Stats}
 use Rattle.command_words.specs.Requests.{FileNames, Number, RequestView, form, study_of}
 use Rattle.command_words.specs.Requests.{live_by as live_of}
 
@@ -54,6 +54,7 @@ modes =
     ∷ line (codes "solo m s --clone fast") solo_fast
     ∷ line (codes "live m s") (live_by 1)
     ∷ line (codes "gen 7") (gen_by 7 1)
+    ∷ line (codes "stats m s") (of_m_and_s Stats 1)
     ∷ line (codes "walk m s") None
     ∷ line (codes "Run m s") None
     ∷ line (codes "report m s") None
@@ -67,6 +68,7 @@ option_values =
     ∷ line (codes "run m s --workers=4") (run_by 4)
     ∷ line (codes "solo m s --clone=fast") solo_fast
     ∷ line (codes "live m s --workers 4") (live_by 4)
+    ∷ line (codes "stats m s --workers 2") (of_m_and_s Stats 2)
     -- no value, or an empty one
     ∷ line (codes "run m s --workers") None
     ∷ line (codes "run m s --workers=") None
@@ -119,6 +121,8 @@ positionals =
     ∷ line (codes "run m s x") None
     ∷ line (codes "live m") None
     ∷ line (codes "live m s t") None
+    ∷ line (codes "stats m") None
+    ∷ line (codes "stats m s t") None
     ∷ line (codes "gen") None
     ∷ line (codes "gen 7 8") None
     ∷ line (codes "run  s") None
@@ -132,6 +136,7 @@ options_of_modes =
     line (codes "run m s --clone base") None
     ∷ line (codes "live m s --clone x") None
     ∷ line (codes "gen 7 --clone fast") None
+    ∷ line (codes "stats m s --clone fast") None
     ∷ line (codes "solo m s --clone fast --workers 4") None
     ∷ line (codes "solo m s") None
     -- what is no name

@@ -6,7 +6,7 @@ use Rattle.sim_base.specs.Names.{is_name}
 use Rattle.command_words.specs.declared.request.Assignment.{Assignment}
 use Rattle.command_words.specs.declared.request.Assignment.TheVariants as task
 use Rattle.command_words.specs.declared.request.Mode.{Mode}
-use Rattle.command_words.specs.declared.request.Mode.TheVariants.{Report, Run, Solo}
+use Rattle.command_words.specs.declared.request.Mode.TheVariants.{Report, Run, Solo, Stats}
 use Rattle.command_words.specs.declared.request.Request.{Request}
 use Rattle.command_words.specs.declared.request.Source.{Source}
 use Rattle.command_words.specs.declared.request.Source.TheVariants as origin
@@ -87,7 +87,7 @@ live_by model script workers = record { assignment = Live model script; workers 
 abbrev pub if_named : List ℕ → List ℕ → Option RequestView → Option RequestView
 if_named first second request = if is_text first && is_text second then request else None
 
--- `run MODEL SCRIPT [--workers N]`
+-- `run MODEL SCRIPT [--workers N]` and `stats MODEL SCRIPT [--workers N]`
 abbrev pub study_form : Mode → List ℕ → List ℕ → GivenView → Option RequestView
 study_form mode model script v = if_named model script
     (option_map (study_of (FileNames model script) mode) (workers_alone v.workers v.clone))
@@ -118,6 +118,7 @@ form_of_two mode first second v =
     if bytes_eq mode (codes "run") then study_form Run first second v
     else if bytes_eq mode (codes "solo") then solo_form first second v
     else if bytes_eq mode (codes "live") then live_form first second v
+    else if bytes_eq mode (codes "stats") then study_form Stats first second v
     else None
 
 -- the first positional is the mode, and the mode says how many follow

@@ -1,12 +1,13 @@
 //! The words of the command line, read with `clap`.
 //!
-//! A planner says which study is to be run in one of four ways; options stand anywhere before a word `--`:
+//! A planner says which study is to be run in one of five ways; options stand anywhere before a word `--`:
 //!
 //! ```text
 //! cloner run MODEL SCRIPT [--workers N]     all clones of a script
 //! cloner solo MODEL SCRIPT --clone NAME     one clone alone
 //! cloner live MODEL SCRIPT [--workers N]    all clones of a script, while analysts decide
 //! cloner gen NUMBER [--workers N]           a made study, all its clones
+//! cloner stats MODEL SCRIPT [--workers N]   all clones of a script: the statistics of their servers
 //! ```
 //!
 //! `read_words` gives a `Request`: what is to be done (`Assignment`), and the workers. An assignment has no workers, so

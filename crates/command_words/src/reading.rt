@@ -57,7 +57,7 @@ fn clone_alone(given: &Given) -> Option<Name>
     }
 }
 
-// `run MODEL SCRIPT [--workers N]`
+// `run MODEL SCRIPT [--workers N]` and `stats MODEL SCRIPT [--workers N]`
 fn study_request<'a>(
     mode: Mode,
     model: &'a str,
@@ -150,6 +150,8 @@ fn request_of_two<'a>(
         solo_request(first, second, given)
     } else if mode == "live" {
         live_request(first, second, given)
+    } else if mode == "stats" {
+        study_request(Mode::Stats, first, second, given)
     } else {
         None
     }

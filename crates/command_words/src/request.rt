@@ -17,6 +17,8 @@ pub enum Mode {
     Run,
     /// All of them: the report alone.
     Report,
+    /// All of them: the statistics of their servers.
+    Stats,
     /// The one of this name, alone: its trace.
     Solo(Name),
 }

@@ -8,6 +8,7 @@ mod live;
 mod many;
 mod models;
 mod refusals;
+mod statistics;
 mod texts;
 mod words;
 

@@ -113,3 +113,29 @@ horizon = 1
 name = "out"
 kind = "sink"
 "#;
+
+/// A desk to which each other job returns.
+pub const FEEDBACK: &str = r#"lookahead = 2
+horizon = 30
+[[station]]
+name = "gate"
+kind = "source"
+every = [3, 3]
+jobs = 3
+link = [{ to = "desk", delay = 2 }]
+[[station]]
+name = "desk"
+kind = "server"
+servers = 1
+room = 2
+service = [4, 4]
+link = [{ to = "turn", delay = 2 }]
+[[station]]
+name = "turn"
+kind = "router"
+by = "turn"
+link = [{ to = "desk", delay = 2 }, { to = "out", delay = 2 }]
+[[station]]
+name = "out"
+kind = "sink"
+"#;

@@ -8,7 +8,7 @@ use std::test::Fail;
 use std::thread::Threads;
 
 const USAGE: &str =
-    "usage: cloner run MODEL SCRIPT [--workers N], solo MODEL SCRIPT --clone NAME, live MODEL SCRIPT [--workers N], gen NUMBER [--workers N]\n";
+    "usage: cloner run MODEL SCRIPT [--workers N], solo MODEL SCRIPT --clone NAME, live MODEL SCRIPT [--workers N], gen NUMBER [--workers N], stats MODEL SCRIPT [--workers N]\n";
 
 /// What a command line shows, and its words.
 type Words = (&'static str, &'static [&'static str]);
@@ -48,6 +48,11 @@ const NO_FORM: &[Words] = &[
     ("number 0", &["gen", "0"]),
     ("a number too great", &["gen", "1000000"]),
     ("a clone of a made study", &["gen", "7", "--clone", "base"]),
+    ("no script for statistics", &["stats", "m"]),
+    (
+        "a clone where all have statistics",
+        &["stats", "m", "s", "--clone", "base"],
+    ),
     ("help", &["--help"]),
 ];
 

@@ -32,7 +32,8 @@ returns-in-Err-LimitMet g c = record {
         c.in-Err-LimitMet.station c.in-Err-LimitMet.field-0-1 c.limit_at.result
         (rw c.in-Err-LimitMet.field-0-is at c.in-Err-LimitMet.ensures.fault)
         (subst (λ (n : Net). c.limit_at.result ≡ limit_met_at n c.in-Err-LimitMet.station c.args.name.now)
-        (c.deref-in-Err-LimitMet.ensures ∙ sym c.deref.ensures) (rw c.in-Err-LimitMet.field-0-is at c.limit_at.ensures)),
+        (c.deref-in-Err-LimitMet.ensures ∙ sym c.deref.ensures)
+        (rw c.in-Err-LimitMet.field-0-is at c.limit_at.ensures)),
     refl,
   );
 }
