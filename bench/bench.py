@@ -3,8 +3,8 @@
 
     bench/bench.py [--bin FILE] [--rounds N] [--workers N] [--only PART] [--plot FILE] [WORKLOAD ..]
 
-Parts: `workloads` (beside the plain simulator), `solo`, `start`, `growth` (also a plot as SVG), and
-`simpy`; by default all. Within each round all programs run in turn, with their output thrown away. Before
+Parts: `workloads` (beside the plain simulator), `solo`, `stats`, `start`, `growth` (also a plot as SVG),
+and `simpy`; by default all. Within each round all programs run in turn, with their output thrown away. Before
 that each runs once for its bytes and its peak memory, and the bytes must be equal. Status 1 where a run
 failed or bytes differ. README.md says what the columns mean.
 """
@@ -24,7 +24,7 @@ HERE = Path(__file__).resolve().parent
 TOP = HERE.parent
 CRATE = TOP / "crates" / "cloner_cli"
 BUILT = CRATE / "out" / "cloner_cli"
-PARTS = ("workloads", "solo", "start", "growth", "simpy")
+PARTS = ("workloads", "solo", "stats", "start", "growth", "simpy")
 
 
 def arguments():
@@ -153,6 +153,21 @@ def measure_solo(bench):
         printed([name, f"{messages:,}", f"{nanoseconds:.0f}", f"{ratio(times, 'solo', 'plain', 1):.2f}"])
 
 
+def measure_stats(bench):
+    """The table of `cloner stats`, which handles the messages of `cloner run` and writes figures in place of texts."""
+    headed("`cloner stats`: processor time", ["workload", "lines of figures", "`run`, to plain", "`stats`, to plain",
+                                              "`stats`, to `run`"])
+    for name in ("clinic", "gen", "early", "equal", "wide"):
+        files = bench.files(name)
+        commands = {"plain": [bench.plain, *files], "run": [bench.cloner, "run", *files],
+                    "stats": [bench.cloner, "stats", *files]}
+        lines = peak_and_bytes(commands["stats"], bench.folder)[1].count(b"\n") - 1
+        times = rounds_of(commands, bench.rounds)
+        ratios = [f"{ratio(times, one, other, 1):.2f}"
+                  for one, other in (("run", "plain"), ("stats", "plain"), ("stats", "run"))]
+        printed([name, f"{lines:,}", *ratios])
+
+
 def measure_start(bench):
     """How long the small example takes, beside a program that does nothing."""
     times = rounds_of({"small": bench.small, "true": ["/bin/true"]}, max(bench.rounds, 5) * 20)
@@ -234,6 +249,8 @@ def main():
             measure_workloads(bench, chosen.workloads)
         if "solo" in parts:
             measure_solo(bench)
+        if "stats" in parts:
+            measure_stats(bench)
         if "start" in parts:
             measure_start(bench)
         if "growth" in parts:
