@@ -236,7 +236,7 @@ class TablesOfFormats(unittest.TestCase):
         self.assertEqual([row.status for row in self.tables.statuses()], [0, 1, 2, 3, 4, 5, 6, 6, 7, 8])
         self.assertEqual(self.tables.parameters()["weight"].taken_by, "router by weights")
         self.assertEqual(list(self.tables.script_forms()), ["analyst", "fork", "set", "end", "look"])
-        self.assertEqual(len(self.tables.commands()), 4)
+        self.assertEqual(len(self.tables.commands()), 5)
 
     def test_links_become_pages(self):
         self.assertEqual(unlinked("[the rules](#rules)"), "see docs/FORMATS.md#rules")
