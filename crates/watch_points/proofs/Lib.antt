@@ -1,0 +1,16 @@
+pub mod OneLine
+pub mod Elements
+pub mod ClonePlaces
+pub mod NamesBack
+pub mod AcceptedWatches
+pub mod Seen
+pub mod Found
+pub mod Passing
+pub mod Following
+pub mod StartedWatches
+pub mod PassingWatcher
+pub mod FollowedClones
+pub mod WholePass
+pub mod PlaceOrder
+pub mod MadeBranch
+pub mod CloneNumbers

@@ -1,0 +1,13 @@
+use Rattle.std.proofs.Common.{refl}
+use Rattle.sim_draw.specs.Drawing.{word, generator, state_after}
+use Rattle.run_laws.specs.Machine.{run_to}
+use Rattle.stations.specs.Handling.{handle}
+use Rattle.watch_points.proofs.examples.branches_in_the_order_of_the_watches.Goals as goal
+
+pub returns-clause-due : goal.returns-clause-due
+unfolding run_to handle word generator state_after
+returns-clause-due c = refl
+
+pub returns-clause-made : goal.returns-clause-made
+unfolding run_to handle word generator state_after
+returns-clause-made c = refl

@@ -1,0 +1,30 @@
+use Rattle.std.proofs.Common.{◌≡◌, length, ap, sym, subst, arith}
+use Rattle.watch_points.specs.Watchers.{Follows, WatcherView}
+use Rattle.watch_points.proofs.WholePass.{IsStep-more, IsStep-none, passing-end, passing-start}
+use Rattle.watch_points.proofs.watcher.Watcher.after.Goals as goal
+
+pub watches-init : goal.watches-init
+watches-init c = record {
+  passing = passing-start c.args.self.now c.args.world c.requires.follows c.requires.window
+      (let same = c.front-front.ensures.value in let within = c.front-front.ensures.within in omega arith)
+      c.lists-lists.ensures.in_net.plans;
+  step = IsStep-none c.args.self.now c.args.world;
+}
+
+pub returns-clause-follows : goal.returns-clause-follows
+returns-clause-follows c =
+    let many : c.len-i-end.result ≡ length c.args.self.now.active =
+    let same = ap (λ (w : WatcherView). length w.active) c.self.view_is in
+    omega (arith, c.len-i-end.ensures, c.self.inside.active.ok.0, same) in
+    subst (λ (w : WatcherView). Follows (record w { front = c.front-front.result }) c.watches.world.net
+    c.watches.world.clones c.watches.world.front) (sym c.self-2.view_is)
+    (passing-end c.args.self.now c.watches.self c.args.world c.watches.world c.watches.i c.len-i-end.result
+    c.front-front.result c.watches.invariant.passing c.watches.invariant.step many c.watches.auto.i-end
+    c.watches-test.false c.front-front.ensures.value)
+
+pub watches-preserved : goal.watches-preserved
+watches-preserved c = record {
+  passing = c.in_ok-world.ensures.passing;
+  step = IsStep-more c.args.self.now c.watches.self c.look.new.self c.args.world c.watches.world c.in_ok-world.world
+      c.watches.invariant.step c.in_ok-world.ensures.step;
+}

@@ -1,0 +1,13 @@
+pub mod Faults
+pub mod Sentences
+pub mod Reading
+pub mod Checking
+pub mod Triggers
+pub mod FittingWatches
+pub mod Progress
+pub mod Passes
+pub mod Watchers
+pub mod Starting
+pub mod CloneNumbers
+pub mod Laws
+pub mod Examples
