@@ -1,0 +1,3 @@
+pub mod FewerClones
+pub mod Windows
+pub mod Whole

@@ -1,0 +1,72 @@
+//! What a run with watches does after each of its windows.
+ghost use Rattle.std.specs.Prelude.{◌≡◌, IfOk, IfErr};
+ghost use Rattle.run_laws.specs.Fronts.{IsWindow};
+ghost use Rattle.stations.specs.Runs.{simulation};
+ghost use Rattle.watch_points.specs.Watchers.{Follows};
+ghost use Rattle.watched_run.specs.Stops.{HasPlace, numbered_fault};
+ghost use Rattle.watched_run.specs.Watching.{HasBranches};
+
+use sim_base::NoMemory;
+use std::alloc::Global;
+use study_run::{Onwards, StudyFault};
+use watch_points::Watcher;
+use world_core::{World, WorldFault};
+
+// The world with the branches of the watches that are due in its last window.
+fn make_branches(alloc: Global, watcher: &mut Watcher, world: World) -> Result<World, StudyFault>
+    requires follows { Follows watcher.old world.net world.clones watcher.old.front }
+    requires window { IsWindow (simulation world.net) world.clones watcher.old.front world.front }
+    ensures made { IfOk result (λ n. HasBranches watcher.old watcher.new world n) }
+    ensures memory { IfErr result (λ e. e ≡ StudyFault.NoMemory) }
+{
+    match watcher.after(alloc, world) {
+        Ok(world) => {
+            // for its clauses: the clones' decisions are for stations
+            let _lists = world.lists();
+            Ok(world)
+        }
+        Err(NoMemory) => Err(StudyFault::NoMemory),
+    }
+}
+
+// A window's fault as the run's, with the clone's number.
+fn fault_of(watcher: &Watcher, fault: WorldFault) -> StudyFault
+    requires place { HasPlace watcher.now fault }
+    ensures value { result ≡ numbered_fault watcher.now fault }
+{
+    match fault {
+        WorldFault::NoMemory => StudyFault::NoMemory,
+        WorldFault::EventLimit { station, who, .. } => StudyFault::LimitMet {
+            station,
+            who: watcher.clone_number(who),
+        },
+    }
+}
+
+/// A run with watches: after each window the branches of the watches that are due are made. A fault has a clone's
+/// number in place of its place (`Watcher::clone_number`).
+#[derive(Drop)]
+pub struct WatchedRun {
+    /// The watches.
+    pub watcher: Watcher,
+}
+
+impl Onwards for WatchedRun {
+    ghost use Rattle.watched_run.specs.Watching.{HasStopped, HasWatched};
+
+    ghost has_gone_on = { λ old new.
+        HasWatched old.follow_up.watcher old.world old.steps new.follow_up.watcher new.world new.steps };
+
+    ghost has_stopped = { λ old steps e. HasStopped old.follow_up.watcher old.world old.steps steps e };
+
+    fn after_window(
+        &mut self,
+        alloc: Global,
+        window: Result<World, WorldFault>,
+    ) -> Result<World, StudyFault> {
+        match window {
+            Ok(world) => make_branches(alloc, &mut self.watcher, world),
+            Err(fault) => Err(fault_of(&self.watcher, fault)),
+        }
+    }
+}

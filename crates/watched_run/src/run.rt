@@ -1,0 +1,197 @@
+//! The run of a study with watches: all clones in one world, window by window up to the horizon (stop time).
+ghost use Rattle.std.specs.Prelude.{◌≡◌, ◌∷◌, [], Ok, IfOk, IfErr};
+ghost use Rattle.sim_base.specs.Clones.{base};
+ghost use Rattle.world_core.specs.Taking.{AreAccepted, clones_after_calls};
+ghost use Rattle.world_core.specs.Overs.{NoneBeyond};
+ghost use Rattle.watch_points.specs.Checking.{fit};
+ghost use Rattle.watch_points.specs.Laws.{watch_order};
+ghost use Rattle.watch_points.specs.Watchers.{watches_of};
+ghost use Rattle.watched_run.specs.Watching.{BeginsWithWatches, IsWatchedRun};
+
+use crate::follow_up::WatchedRun;
+use crew_pool::{Gate, Workers};
+use decision_book::Call;
+use net_model::Model;
+use sim_base::{NoMemory, Steps};
+use std::alloc::Global;
+use std::sync::ledger::Ledger;
+use std::sync::{Arc, Wait};
+use std::thread::Threads;
+use study_run::{StudyFault, go_alone, go_to_horizon};
+use watch_points::{Watcher, Watches};
+use world_core::World;
+
+/// The world of a run with watches at the horizon, and its clones' places in the order of the watches.
+#[derive(Drop)]
+pub struct WatchedWorld {
+    /// All clones, in the order in which they were made.
+    pub world: World,
+    /// The places of the script's clones, then of the branches in the order of the watches.
+    pub order: Vec<u32>,
+}
+
+// The first world of a run with watches, and the watches.
+#[derive(Drop)]
+struct Beginning {
+    world: World,
+    follow_up: WatchedRun,
+}
+
+// A second handle on the model.
+fn share_model(model: &Arc<Model>) -> Result<Arc<Model>, NoMemory>
+    ensures value { IfOk result (λ m. m.value ≡ model.now.value) }
+{
+    let shared = model.clone()?;
+    Ok(shared)
+}
+
+// The world of all clones that the calls make, before anything is handled.
+fn open_world(alloc: Global, model: &Arc<Model>, calls: &[Call]) -> Result<World, NoMemory>
+    requires accepted { AreAccepted model.now.value (base ∷ []) 0 calls.now }
+    ensures net { IfOk result (λ w. w.net ≡ model.now.value) }
+    ensures front { IfOk result (λ w. w.front ≡ 0) }
+    ensures clones { IfOk result (λ w. w.clones ≡ clones_after_calls model.now.value (base ∷ []) calls.now) }
+{
+    let shared = model.clone()?;
+    let world = World::new(alloc, shared)?;
+    let world = world.take(alloc, calls)?;
+    Ok(world)
+}
+
+// The world of all clones that the calls make, with the watches, before anything is handled.
+fn begin(
+    alloc: Global,
+    model: &Arc<Model>,
+    calls: &[Call],
+    w: &Watches,
+) -> Result<Beginning, NoMemory>
+    requires accepted { AreAccepted model.now.value (base ∷ []) 0 calls.now }
+    requires fits { fit model.now.value (clones_after_calls model.now.value (base ∷ []) calls.now) w.now ≡ Ok tt }
+    ensures net { IfOk result (λ b. b.world.net ≡ model.now.value) }
+    ensures front { IfOk result (λ b. b.world.front ≡ 0) }
+    ensures clones { IfOk result (λ b. b.world.clones ≡ clones_after_calls model.now.value (base ∷ []) calls.now) }
+    ensures watches { IfOk result (λ b. watches_of b.follow_up.watcher.active ≡ w.now) }
+    ensures has_watches { IfOk result (λ b. BeginsWithWatches b.follow_up.watcher b.world) }
+{
+    let world = open_world(alloc, model, calls)?;
+    let shared = share_model(model)?;
+    let watcher = Watcher::new(alloc, shared, world.lists(), w)?;
+    Ok(Beginning {
+        world,
+        follow_up: WatchedRun { watcher },
+    })
+}
+
+// The world at the horizon with its order.
+fn put_in_order(
+    alloc: Global,
+    follow_up: &WatchedRun,
+    world: World,
+) -> Result<WatchedWorld, StudyFault>
+    ensures world { IfOk result (λ r. r.world ≡ world) }
+    ensures order { IfOk result (λ r. r.order.items ≡ watch_order follow_up.now.watcher) }
+    ensures within { IfOk result (λ r. NoneBeyond world.net world.clones world.front) }
+    ensures memory { IfErr result (λ e. e ≡ StudyFault.NoMemory) }
+{
+    // for its clauses: no log is beyond the limit
+    let _short = world.lists();
+    match follow_up.watcher.order(alloc) {
+        Ok(order) => Ok(WatchedWorld { world, order }),
+        Err(NoMemory) => Err(StudyFault::NoMemory),
+    }
+}
+
+// Goes on to the horizon in the caller's thread.
+fn go_on_alone<L: Ledger>(
+    alloc: Global,
+    beginning: Beginning,
+    steps: &mut Steps<L>,
+) -> Result<WatchedWorld, StudyFault>
+    requires front { beginning.world.front ≡ 0 }
+    requires has_watches { BeginsWithWatches beginning.follow_up.watcher beginning.world }
+    ensures runs { IsWatchedRun beginning.world.net beginning.world.clones
+        (watches_of beginning.follow_up.watcher.active) steps.old steps.new result }
+{
+    let Beginning {
+        world,
+        mut follow_up,
+    } = beginning;
+    match go_alone(alloc, &mut follow_up, world, steps) {
+        Ok(world) => put_in_order(alloc, &follow_up, world),
+        Err(fault) => Err(fault),
+    }
+}
+
+// Goes on to the horizon with so many workers.
+fn go_on<G: Gate, L: Ledger, R: Threads + Wait + Sync>(
+    rt: &R,
+    alloc: Global,
+    workers: Workers,
+    gate: &G,
+    beginning: Beginning,
+    steps: &mut Steps<L>,
+) -> Result<WatchedWorld, StudyFault>
+    requires front { beginning.world.front ≡ 0 }
+    requires has_watches { BeginsWithWatches beginning.follow_up.watcher beginning.world }
+    ensures runs { IsWatchedRun beginning.world.net beginning.world.clones
+        (watches_of beginning.follow_up.watcher.active) steps.old steps.new result }
+{
+    let Beginning {
+        world,
+        mut follow_up,
+    } = beginning;
+    match go_to_horizon(rt, alloc, workers, gate, &mut follow_up, world, steps) {
+        Ok(world) => put_in_order(alloc, &follow_up, world),
+        Err(fault) => Err(fault),
+    }
+}
+
+/// Runs a study with watches in the caller's thread: the world of a model takes the calls at front 0, which were
+/// accepted, and goes to the horizon. After each window the branches of the watches that are due are made. It waits for
+/// nobody, so its clauses promise that it returns.
+pub fn run_watched_sequentially<L: Ledger>(
+    alloc: Global,
+    model: &Arc<Model>,
+    calls: &[Call],
+    w: &Watches,
+    steps: &mut Steps<L>,
+) -> Result<WatchedWorld, StudyFault>
+    requires accepted { AreAccepted model.now.value (base ∷ []) 0 calls.now }
+    requires fits { fit model.now.value (clones_after_calls model.now.value (base ∷ []) calls.now) w.now ≡ Ok tt }
+    ensures runs { IsWatchedRun model.now.value (clones_after_calls model.now.value (base ∷ []) calls.now) w.now
+        steps.old steps.new result }
+{
+    match begin(alloc, model, calls, w) {
+        Ok(beginning) => go_on_alone(alloc, beginning, steps),
+        Err(NoMemory) => Err(StudyFault::NoMemory),
+    }
+}
+
+/// Runs a study with watches and so many workers: the world of a model takes the calls at front 0, which were accepted,
+/// and goes to the horizon. After each window the branches of the watches that are due are made. With one worker it is
+/// `run_watched_sequentially`.
+///
+/// No clause has a term for the workers or the gate.
+pub fn run_watched<G: Gate, L: Ledger, R: Threads + Wait + Sync>(
+    rt: &R,
+    alloc: Global,
+    workers: Workers,
+    gate: &G,
+    model: &Arc<Model>,
+    calls: &[Call],
+    w: &Watches,
+    steps: &mut Steps<L>,
+) -> Result<WatchedWorld, StudyFault>
+    requires accepted { AreAccepted model.now.value (base ∷ []) 0 calls.now }
+    requires fits { fit model.now.value (clones_after_calls model.now.value (base ∷ []) calls.now) w.now ≡ Ok tt }
+    ensures runs { IsWatchedRun model.now.value (clones_after_calls model.now.value (base ∷ []) calls.now) w.now
+        steps.old steps.new result }
+{
+    if workers.count == 1 {
+        return run_watched_sequentially(alloc, model, calls, w, steps);
+    }
+    match begin(alloc, model, calls, w) {
+        Ok(beginning) => go_on(rt, alloc, workers, gate, beginning, steps),
+        Err(NoMemory) => Err(StudyFault::NoMemory),
+    }
+}
