@@ -253,7 +253,7 @@ fn the_fullest_model_is_read(rt: HostRuntime) -> Result<(), Fail> {
     let full = full_stations(rt.alloc(), text.as_slice());
     let took = start.elapsed(&rt)?;
     assert_eq!(rt; full, 64);
-    assert!(rt; took < Duration::from_secs(1), "it took {took:?}");
+    assert!(rt; took < Duration::from_secs(10), "it took {took:?}");
     Ok(())
 }
 
@@ -287,13 +287,14 @@ fn many_keys(alloc: Global, count: u32) -> Result<Vec<u8>, AllocError> {
     Ok(text)
 }
 
-/// Whether the text is refused within a second with this number at the top, and names this key, or none.
+/// Whether the text is refused soon with this number at the top, and names this key, or none. It takes a twentieth of a
+/// second. A host that pauses may need ten; a walk that is quadratic takes longer.
 fn is_refused_soon(rt: &HostRuntime, text: &[u8], number: u32, key: &str) -> Result<bool, Fail> {
     let start = Instant::now(rt)?;
     let is = is_refused(rt.alloc(), text, number, 0, key);
     let took = start.elapsed(rt)?;
     println!(*rt; "refusal {number}: {took:?}")?;
-    Ok(is && took < Duration::from_secs(1))
+    Ok(is && took < Duration::from_secs(10))
 }
 
 #[test]
