@@ -1,10 +1,13 @@
 #!/usr/bin/env python3
-"""check_docs.py [--bin FILE] [PAGE ..]
+"""Checks that the pages are true of the checkout.
 
-Runs each command of the pages (all that show commands, where none is named) at the top of the checkout, and compares
-what it prints with the page. A command is a block ```sh; what it prints is the block ```text right behind it. `cloner`
-is the built program, crates/cloner_cli/out/cloner_cli where no other is named. Ends with status 1 where something is
-otherwise.
+    tools/check_docs.py [--bin FILE] [PAGE ..]
+    tools/check_docs.py --facts
+
+First it compares the facts that scripts can make with the pages that state them. `--facts` stops there, and
+needs no built program. Then it runs each command of the pages at the top of the checkout, and compares what it
+prints with the page. A command is a block ```sh; what it prints is the block ```text right after it. `cloner`
+is the built program, crates/cloner_cli/out/cloner_cli if no other is named. The status is 1 if anything differs.
 """
 import argparse
 import os
@@ -14,14 +17,29 @@ import subprocess
 import sys
 import tempfile
 
+import definitions
+
 TOP = os.path.join(os.path.dirname(os.path.abspath(__file__)), "..")
 PROGRAM = os.path.join(TOP, "crates", "cloner_cli", "out", "cloner_cli")
 PAGES = ["README.md", "examples/README.md", "docs/PLANNING.md", "docs/FORMATS.md"]
 
 
+def read(page):
+    """The text of a page."""
+    with open(os.path.join(TOP, page), encoding="utf-8") as file:
+        return file.read()
+
+
+def facts():
+    """What pages state otherwise than the checkout does, in words."""
+    counted = definitions.counts(definitions.rested_on()[0])
+    if counted not in read("docs/PROVED.md"):
+        yield f"docs/PROVED.md: the contract of cloner rests on {counted}"
+
+
 def commands(page):
-    """Each command of a page with what it is shown to print, None where nothing is shown."""
-    text = open(os.path.join(TOP, page), encoding="utf-8").read()
+    """Each command of a page with what it is shown to print, None if nothing is shown."""
+    text = read(page)
     blocks = re.findall(r"^```(\w*)\n(.*?)^```$", text, re.S | re.M)
     for (kind, command), (next_kind, shown) in zip(blocks, blocks[1:] + [("", "")]):
         if kind == "sh":
@@ -37,7 +55,7 @@ def printed(command, path):
 
 
 def check(pages, path):
-    """How many commands print what is shown, and how many something else, or fail where nothing is shown."""
+    """The number of commands that print what is shown, and of those that don't, or fail if nothing is shown."""
     same, other = 0, 0
     for page in pages:
         for command, shown in commands(page):
@@ -52,16 +70,21 @@ def check(pages, path):
 
 
 def main():
-    """Checks the pages that are asked for; gives 1 where something is otherwise."""
+    """Checks the facts, and then the pages that are asked for; returns 1 if anything differs."""
     parser = argparse.ArgumentParser(description=__doc__, formatter_class=argparse.RawDescriptionHelpFormatter)
     parser.add_argument("--bin", default=PROGRAM)
+    parser.add_argument("--facts", action="store_true")
     parser.add_argument("pages", nargs="*", default=PAGES)
     told = parser.parse_args()
+    wrong = list(facts())
+    print("\n".join(wrong) or "the facts are as stated")
+    if told.facts:
+        return 1 if wrong else 0
     with tempfile.TemporaryDirectory() as folder:
         shutil.copy(told.bin, os.path.join(folder, "cloner"))
         same, other = check(told.pages, folder + os.pathsep + os.environ["PATH"])
     print(f"{same} as shown, {other} otherwise")
-    return 1 if other else 0
+    return 1 if other or wrong else 0
 
 
 if __name__ == "__main__":
