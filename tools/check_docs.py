@@ -18,6 +18,7 @@ import sys
 import tempfile
 
 import definitions
+import glossary
 
 TOP = os.path.join(os.path.dirname(os.path.abspath(__file__)), "..")
 PROGRAM = os.path.join(TOP, "crates", "cloner_cli", "out", "cloner_cli")
@@ -35,6 +36,9 @@ def facts():
     counted = definitions.counts(definitions.rested_on()[0])
     if counted not in read("docs/PROVED.md"):
         yield f"docs/PROVED.md: the contract of cloner rests on {counted}"
+    page = read("docs/GLOSSARY.md")
+    if glossary.with_table(page) != page:
+        yield "docs/GLOSSARY.md: run tools/glossary.py --write"
 
 
 def commands(page):
