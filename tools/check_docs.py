@@ -17,18 +17,13 @@ import subprocess
 import sys
 import tempfile
 
+import crate_list
 import definitions
 import glossary
+from crate_list import TOP, read
 
-TOP = os.path.join(os.path.dirname(os.path.abspath(__file__)), "..")
 PROGRAM = os.path.join(TOP, "crates", "cloner_cli", "out", "cloner_cli")
 PAGES = ["README.md", "examples/README.md", "docs/PLANNING.md", "docs/FORMATS.md"]
-
-
-def read(page):
-    """The text of a page."""
-    with open(os.path.join(TOP, page), encoding="utf-8") as file:
-        return file.read()
 
 
 def facts():
@@ -36,9 +31,16 @@ def facts():
     counted = definitions.counts(definitions.rested_on()[0])
     if counted not in read("docs/PROVED.md"):
         yield f"docs/PROVED.md: the contract of cloner rests on {counted}"
-    page = read("docs/GLOSSARY.md")
-    if glossary.with_table(page) != page:
-        yield "docs/GLOSSARY.md: run tools/glossary.py --write"
+    for script, maker in [("crate_list.py", crate_list), ("glossary.py", glossary)]:
+        page = read(maker.PAGE)
+        if crate_list.with_made(page, script, maker.table()) != page:
+            yield f"{maker.PAGE}: run tools/{script} --write"
+    listed = ", ".join(f"`{crate}`" for crate in crate_list.names())
+    if listed not in read("README.md"):
+        yield f"README.md: the crates are {listed}"
+    drawn = re.search(r"^```text\n(.*?)^```$", read("docs/ARCHITECTURE.md"), re.S | re.M).group(1)
+    for word in set(re.findall(r"\w+_\w+", drawn)) - set(crate_list.names()):
+        yield f"docs/ARCHITECTURE.md: {word} is no crate"
 
 
 def commands(page):

@@ -14,8 +14,9 @@ import argparse
 import os
 import re
 
-TOP = os.path.dirname(os.path.dirname(os.path.abspath(__file__)))
-CRATES = os.path.join(TOP, "crates")
+import crate_list
+
+CRATES = os.path.join(crate_list.TOP, "crates")
 TOP_CALL = "cloner_top/src/program.rt:cloner"
 
 USE = re.compile(r"^\s*(pub )?(?:ghost )?use Rattle\.([\w.]+?)(?:\.\{([^}]*)\}| as (\w+))?;?$", re.M)
@@ -96,8 +97,7 @@ class Module:
         self.path = path
         crate, _, rest = path.partition(".specs.")
         self.file = os.path.join(crate, "specs", *rest.split(".")) + ".antt"
-        with open(os.path.join(CRATES, self.file), encoding="utf-8") as file:
-            text = file.read()
+        text = crate_list.read(os.path.join("crates", self.file))
         self.names, self.aliases, self.shared = imports_of(text)
         self.definitions = {}
         for each in blocks(path, text):
@@ -170,24 +170,16 @@ def names_in(text, names, aliases, module):
 def clauses_of(place):
     """The names that a function's clauses cite."""
     file, _, function = place.partition(":")
-    with open(os.path.join(CRATES, file), encoding="utf-8") as opened:
-        text = opened.read()
+    text = crate_list.read(os.path.join("crates", file))
     names, aliases, _ = imports_of(text)
     head = re.search(rf"^\s*pub fn {function}\b.*?^\s*\{{$", text, re.S | re.M).group()
     clauses = re.sub(r"//.*", "", head[head.index("ensures"):])
     return names_in(clauses, names, aliases, None)
 
 
-def crate_order():
-    """The crates, lowest first."""
-    with open(os.path.join(TOP, "crates.txt"), encoding="utf-8") as file:
-        return [re.split(r"[ :]", line)[0] for line in file if not line.startswith("#")]
-
-
 def module_order(crate):
     """The modules of a crate's `specs/`, in the order of Lib.antt."""
-    with open(os.path.join(CRATES, crate, "specs", "Lib.antt"), encoding="utf-8") as file:
-        return re.findall(r"^pub mod (\w+)", file.read(), re.M)
+    return re.findall(r"^pub mod (\w+)", crate_list.read(f"crates/{crate}/specs/Lib.antt"), re.M)
 
 
 def rested_on(place=TOP_CALL):
@@ -195,7 +187,7 @@ def rested_on(place=TOP_CALL):
     library = Library()
     for path, name in clauses_of(place):
         library.reach(path, name)
-    crates = crate_order()
+    crates = crate_list.names()
     modules = {crate: module_order(crate) for crate in {path.split(".")[0] for path, _ in library.reached}}
 
     def order(definition):
