@@ -24,6 +24,26 @@ from crate_list import TOP, read
 
 PROGRAM = os.path.join(TOP, "crates", "cloner_cli", "out", "cloner_cli")
 PAGES = ["README.md", "examples/README.md", "docs/PLANNING.md", "docs/FORMATS.md"]
+NAMING_PAGES = ["docs/ARCHITECTURE.md", "docs/DECISIONS.md", "docs/EXTENDING.md", "docs/PROVED.md", "docs/THEORY.md"]
+
+
+def words_of_sources():
+    """All words of the sources, and the names of their files and folders."""
+    words = set(re.findall(r"\w+", read("crates.txt")))
+    for top in ["bench", "crates", "planning", "tools"]:
+        for path, _, files in os.walk(os.path.join(TOP, top)):
+            for file in files:
+                if file.endswith((".rt", ".antt", ".edit", ".py", ".c")):
+                    name = os.path.join(path, file)
+                    words.update(re.findall(r"\w+", read(name) + " " + name))
+    return words
+
+
+def unknown_names(page, known):
+    """The names of code in a page that no source has: words with a capital or `_`, but those with `KIND`."""
+    quoted = re.findall(r"(?<!`)`([^`\n]+)`(?!`)", re.sub(r"^```.*?^```$", "", read(page), flags=re.S | re.M))
+    words = {word for code in quoted for word in re.findall(r"\b[a-zA-Z]\w+", code)}
+    return sorted(word for word in words if re.search("[A-Z_]", word) and "KIND" not in word and word not in known)
 
 
 def facts():
@@ -39,8 +59,12 @@ def facts():
     if listed not in read("README.md"):
         yield f"README.md: the crates are {listed}"
     drawn = re.search(r"^```text\n(.*?)^```$", read("docs/ARCHITECTURE.md"), re.S | re.M).group(1)
-    for word in set(re.findall(r"\w+_\w+", drawn)) - set(crate_list.names()):
+    for word in sorted(set(re.findall(r"\w+_\w+", drawn)) - set(crate_list.names())):
         yield f"docs/ARCHITECTURE.md: {word} is no crate"
+    known = words_of_sources()
+    for page in NAMING_PAGES:
+        for word in unknown_names(page, known):
+            yield f"{page}: {word} is in no source"
 
 
 def commands(page):
