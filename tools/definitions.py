@@ -4,7 +4,7 @@
     tools/definitions.py            # one line a definition: place, name, number of lines
     tools/definitions.py --text     # the definitions themselves, under their comments
     tools/definitions.py --count    # the counts alone, in the words of docs/PROVED.md
-    tools/definitions.py --of study_run/src/running.rt:run_study
+    tools/definitions.py --of study_run/src/study.rt:run_study
 
 Starts at the clauses of a function and follows each name through the `use` lines of `specs/`. The lowest crate
 comes first, and in it the modules in the order of Lib.antt. Lines are counted without comments and blank lines.
@@ -218,7 +218,7 @@ def main():
         place = each.module.replace(".", "/") + f".antt:{each.line}"
         print(f"crates/{place} {each.name} {len(each.lines)}")
         if asked.text:
-            print("\n".join(each.comment + each.lines), end="\n\n")
+            print("\n".join(each.around + each.comment + each.lines), end="\n\n")
     for crate, file, name in [] if asked.count else types:
         print(f"crates/{crate}/src/{file} {name}")
     print(counts(definitions) + f"; {len(types)} types and constants of the code")
