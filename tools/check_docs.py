@@ -41,9 +41,41 @@ def words_of_sources():
 
 def unknown_names(page, known):
     """The names of code in a page that no source has: words with a capital or `_`, but those with `KIND`."""
-    quoted = re.findall(r"(?<!`)`([^`\n]+)`(?!`)", re.sub(r"^```.*?^```$", "", read(page), flags=re.S | re.M))
+    quoted = re.findall(r"(?<!`)`([^`\n]+)`(?!`)", prose(page))
     words = {word for code in quoted for word in re.findall(r"\b[a-zA-Z]\w+", code)}
     return sorted(word for word in words if re.search("[A-Z_]", word) and "KIND" not in word and word not in known)
+
+
+def prose(page):
+    """The text of a page without its blocks of code."""
+    return re.sub(r"^```.*?^```$", "", read(page), flags=re.S | re.M)
+
+
+def anchors(page):
+    """The names by which links reach the headings of a page."""
+    headings = re.findall(r"^#+ (.*)$", prose(page), re.M)
+    return {re.sub(r"[^\w\- ]", "", heading.strip().lower()).replace(" ", "-") for heading in headings}
+
+
+def broken_links(page):
+    """The links of a page to files or headings that do not exist."""
+    for link in re.findall(r"\]\(([^)\s]+)\)", prose(page)):
+        file, _, anchor = link.partition("#")
+        target = os.path.normpath(os.path.join(os.path.dirname(page), file)) if file else page
+        if link.startswith("http"):
+            continue
+        if not os.path.exists(os.path.join(TOP, target)):
+            yield link
+        elif anchor and target.endswith(".md") and anchor not in anchors(target):
+            yield link
+
+
+def pages():
+    """All pages."""
+    for folder in ["", "bench", "docs", "examples", "tools"]:
+        for file in sorted(os.listdir(os.path.join(TOP, folder))):
+            if file.endswith(".md"):
+                yield os.path.join(folder, file)
 
 
 def facts():
@@ -65,6 +97,9 @@ def facts():
     for page in NAMING_PAGES:
         for word in unknown_names(page, known):
             yield f"{page}: {word} is in no source"
+    for page in pages():
+        for link in broken_links(page):
+            yield f"{page}: {link} leads nowhere"
 
 
 def commands(page):
