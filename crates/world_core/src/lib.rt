@@ -37,10 +37,12 @@
 #![tactic(auto)]
 
 mod looking;
+pub mod parts;
 mod racks;
 mod taking;
 mod tracing;
 pub mod world;
 
+pub use parts::WorldParts;
 pub use station_steps::Window;
-pub use world::{LARGE_WINDOW, World, WorldFault};
+pub use world::{LARGE_WINDOW, World, WorldFault, beyond_limit};

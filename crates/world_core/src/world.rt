@@ -82,9 +82,9 @@ fn open_all(alloc: Global, model: &Model) -> Result<Vec<TimedProc>, NoMemory>
     Ok(procs)
 }
 
-// The fault of a window in which the station at this place is the first with a log over the limit, and there the
-// clone is the first.
-fn beyond_limit(model: &Model, place: u32, who: u32) -> WorldFault
+/// The fault of a window in which the station at this place, from 0, is the first with a log over the limit, and there
+/// the clone is the first.
+pub fn beyond_limit(model: &Model, place: u32, who: u32) -> WorldFault
     requires few { place < MOST_STATIONS }
     ensures value { result ≡ EventLimit (place + 1) who model.now.limit }
 {
