@@ -1,0 +1,4 @@
+pub mod NetClocks
+pub mod LinkWorlds
+pub mod RoundFaults
+pub mod Examples

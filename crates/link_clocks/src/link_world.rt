@@ -1,0 +1,294 @@
+//! The world of all clones, each station at the clock of its inbound links.
+ghost use Rattle.std.specs.Prelude.{◌≡◌, ◌+◌, ◌∷◌, [], ◌↔◌, suc, IfOk, IfErr, IsTrue, OnOk};
+ghost use Rattle.sim_base.specs.Clones.{base};
+ghost use Rattle.net_model.specs.Net.{HasStation};
+ghost use Rattle.net_model.specs.Rules.{IsNet};
+ghost use Rattle.world_core.specs.Taking.{AreAccepted, clones_after_calls};
+ghost use Rattle.link_clocks.specs.NetClocks.{clock, AreAllDone};
+ghost use Rattle.link_clocks.specs.LinkWorlds.{total_after};
+ghost use Rattle.link_clocks.specs.RoundFaults.{IsRoundFault, NoneBeyondAfter};
+
+use crate::clocks::{Clocks, are_all};
+use crew_pool::{Crew, Gate};
+use decision_book::Call;
+use net_model::Model;
+use sim_base::{NoMemory, Steps};
+use station_steps::{
+    Buffers, SharedEnds, SharedLists, TimedProc, Window, WindowResult, deliver_all, pass_gate,
+    step_by_crew, step_in_place,
+};
+use std::alloc::Global;
+use std::sync::ledger::Ledger;
+use std::sync::{Arc, Wait};
+use world_core::{World, WorldFault, WorldParts, beyond_limit};
+
+/// All clones, each station at its own clock: the copies of every station represent them there.
+#[derive(Drop)]
+pub struct LinkWorld {
+    model: Arc<Model>,
+    lists: SharedLists,
+    ends: SharedEnds,
+    procs: Vec<TimedProc>,
+    clocks: Clocks,
+    buffers: Buffers,
+}
+
+impl std::marker::Model for LinkWorld {
+    ghost use Rattle.link_clocks.specs.LinkWorlds.{LinkView, LinkStands};
+
+    ghost Value = { LinkView };
+
+    ghost view = { λ w. record { net = w.model.value; clones = w.lists.clones; rounds = w.clocks.rounds } };
+
+    ghost invariant = { λ w. LinkStands w.model.value w.lists.clones w.ends w.clocks.rounds
+        w.clocks.now.items w.clocks.next.items w.procs.items };
+}
+
+// Each station's bound is its time in the list.
+fn bound_by(buffers: &mut Buffers, times: &[u64]) -> Result<(), NoMemory>
+    ensures same { OnOk result (buffers.new.bounds.items ≡ times.now) }
+{
+    buffers.bounds.clear();
+    buffers.bounds.extend_from_slice(times)?;
+    Ok(())
+}
+
+impl LinkWorld {
+    /// The clones of a world at front 0, each station at clock 0.
+    ///
+    /// # Errors
+    ///
+    /// Out of memory, the world is given up.
+    pub fn of(alloc: Global, world: World) -> Result<LinkWorld, NoMemory>
+        requires first { world.front ≡ 0 }
+        ensures begins { IfOk result (λ w. w ≡ record { net = world.net; clones = world.clones; rounds = 0 }) }
+    {
+        let WorldParts {
+            model,
+            lists,
+            ends,
+            procs,
+            buffers,
+        } = world.into_parts();
+        let clocks = Clocks::new(alloc, &model)?;
+        Ok(LinkWorld {
+            model,
+            lists,
+            ends,
+            procs,
+            clocks,
+            buffers,
+        })
+    }
+
+    /// The clones that the calls make, each station at clock 0. The calls were accepted at front 0.
+    ///
+    /// # Errors
+    ///
+    /// Out of memory.
+    pub fn new(alloc: Global, model: Arc<Model>, calls: &[Call]) -> Result<LinkWorld, NoMemory>
+        requires accepted { AreAccepted model.value (base ∷ []) 0 calls.now }
+        ensures begins { IfOk result (λ w. w ≡ record {
+          net = model.value;
+          clones = clones_after_calls model.value (base ∷ []) calls.now;
+          rounds = 0;
+        }) }
+    {
+        let world = World::new(alloc, model)?;
+        let world = world.take(alloc, calls)?;
+        let linked = LinkWorld::of(alloc, world)?;
+        Ok(linked)
+    }
+
+    /// The number of rounds that were made.
+    pub fn rounds(&self) -> u64
+        ensures value { result ≡ self.now.rounds }
+    {
+        self.clocks.rounds
+    }
+
+    /// The clock of a station, by its number from 1. It takes no memory.
+    pub fn clock(&self, station: u32) -> u64
+        requires is_station { HasStation self.now.net station }
+        ensures value { result ≡ clock self.now.net self.now.rounds station }
+    {
+        self.clocks.now[station as usize - 1]
+    }
+
+    /// Whether the clocks of all stations are at the horizon. It takes no memory.
+    pub fn is_done(&self) -> bool
+        ensures value { IsTrue result ↔ AreAllDone self.now.net self.now.rounds }
+        ensures valid { IsNet self.now.net }
+    {
+        are_all(self.clocks.now.as_slice(), self.model.horizon())
+    }
+
+    /// Whether two stations or more have something due in the next round, so that a crew pays for it. It is a hint.
+    pub fn wants_crew(&self) -> bool {
+        let mut one_is_busy = false;
+        for i in 0..self.procs.len() {
+            if !self.procs[i].is_idle(self.clocks.next[i]) {
+                if one_is_busy {
+                    return true;
+                }
+                one_is_busy = true;
+            }
+        }
+        false
+    }
+
+    /// Handles what comes before its next clock at each station, separately, and gives each station what the others
+    /// sent to it, all in the caller's thread.
+    ///
+    /// # Errors
+    ///
+    /// Out of memory, or if a log would get longer than the limit, the world is given up.
+    pub fn round_in_place<L: Ledger>(
+        self,
+        alloc: Global,
+        steps: &mut Steps<L>,
+    ) -> Result<LinkWorld, WorldFault>
+        requires going { ¬ (AreAllDone self.net self.rounds) }
+        // what it gives: the same world after one round more
+        ensures value { IfOk result (λ w. w ≡ record self { rounds = suc self.rounds }) }
+        // what is counted: the messages that the stations handle, each once for all clones of a copy
+        ensures steps { IfOk result (λ w. steps.new + total_after self.net self.clones self.rounds
+            ≡ steps.old + total_after self.net self.clones (suc self.rounds)) }
+        // no log is beyond the limit, or the fault names the first that is
+        ensures short { IfOk result (λ w. NoneBeyondAfter self.net self.clones (suc self.rounds)) }
+        ensures fault { IfErr result (λ e. IsRoundFault self.net self.clones self.rounds steps.old steps.new e) }
+    {
+        let LinkWorld {
+            model,
+            lists,
+            ends,
+            procs,
+            clocks,
+            mut buffers,
+        } = self;
+        bound_by(&mut buffers, clocks.next.as_slice())?;
+        let stepped = step_in_place(alloc, &model, ends.ends(), procs, buffers, steps)?;
+        let WindowResult {
+            mut procs,
+            buffers,
+            over,
+            handled: _,
+        } = stepped;
+        if let Some((place, who)) = over {
+            return Err(beyond_limit(&model, place, who));
+        }
+        deliver_all(&mut procs, buffers.sent.as_slice())?;
+        let clocks = clocks.after_round(&model);
+        Ok(LinkWorld {
+            model,
+            lists,
+            ends,
+            procs,
+            clocks,
+            buffers,
+        })
+    }
+
+    // The same by the crew. What was sent to a station it takes at its next step.
+    fn round_by_crew<G: Gate, L: Ledger, R: Wait>(
+        self,
+        rt: &R,
+        alloc: Global,
+        crew: &mut Crew<'_, Window, G>,
+        steps: &mut Steps<L>,
+    ) -> Result<LinkWorld, WorldFault>
+        requires going { ¬ (AreAllDone self.net self.rounds) }
+        ensures value { IfOk result (λ w. w ≡ record self { rounds = suc self.rounds }) }
+        ensures steps { IfOk result (λ w. steps.new + total_after self.net self.clones self.rounds
+            ≡ steps.old + total_after self.net self.clones (suc self.rounds)) }
+        ensures short { IfOk result (λ w. NoneBeyondAfter self.net self.clones (suc self.rounds)) }
+        ensures fault { IfErr result (λ e. IsRoundFault self.net self.clones self.rounds steps.old steps.new e) }
+    {
+        let LinkWorld {
+            model,
+            lists,
+            ends,
+            procs,
+            clocks,
+            mut buffers,
+        } = self;
+        let work = Window::shared(alloc, &model, &ends)?;
+        bound_by(&mut buffers, clocks.next.as_slice())?;
+        let stepped = step_by_crew(rt, alloc, crew, work, procs, buffers, steps)?;
+        let WindowResult {
+            procs,
+            buffers,
+            over,
+            handled: _,
+        } = stepped;
+        if let Some((place, who)) = over {
+            return Err(beyond_limit(&model, place, who));
+        }
+        let clocks = clocks.after_round(&model);
+        Ok(LinkWorld {
+            model,
+            lists,
+            ends,
+            procs,
+            clocks,
+            buffers,
+        })
+    }
+
+    /// Handles what comes before its next clock at each station, separately, and gives each station what the others
+    /// sent to it. If two stations or more have something due, the crew does it: each station is a task, whether or not
+    /// something is due there. If not, the caller's thread steps the stations in place, after the gate was called for
+    /// each.
+    ///
+    /// # Errors
+    ///
+    /// Out of memory, or if a log would get longer than the limit, the world is given up.
+    pub fn round<G: Gate, L: Ledger, R: Wait>(
+        self,
+        rt: &R,
+        alloc: Global,
+        crew: &mut Crew<'_, Window, G>,
+        steps: &mut Steps<L>,
+    ) -> Result<LinkWorld, WorldFault>
+        requires going { ¬ (AreAllDone self.net self.rounds) }
+        // what it gives: the same world after one round more
+        ensures value { IfOk result (λ w. w ≡ record self { rounds = suc self.rounds }) }
+        // what is counted: the messages that the stations handle, each once for all clones of a copy
+        ensures steps { IfOk result (λ w. steps.new + total_after self.net self.clones self.rounds
+            ≡ steps.old + total_after self.net self.clones (suc self.rounds)) }
+        // no log is beyond the limit, or the fault names the first that is
+        ensures short { IfOk result (λ w. NoneBeyondAfter self.net self.clones (suc self.rounds)) }
+        ensures fault { IfErr result (λ e. IsRoundFault self.net self.clones self.rounds steps.old steps.new e) }
+    {
+        let shares = self.wants_crew() || crew.gate().shares_small_work();
+        if crew.is_single() || !shares {
+            pass_gate(rt, crew.gate(), self.model.len());
+            return self.round_in_place(alloc, steps);
+        }
+        self.round_by_crew(rt, alloc, crew, steps)
+    }
+
+    /// The world at the horizon.
+    pub fn into_world(self) -> World
+        requires done { AreAllDone self.net self.rounds }
+        ensures value { result ≡ record { net = self.net; clones = self.clones; front = self.net.horizon } }
+    {
+        let LinkWorld {
+            model,
+            lists,
+            ends,
+            procs,
+            clocks: _,
+            buffers,
+        } = self;
+        let front = model.horizon();
+        let parts = WorldParts {
+            model,
+            lists,
+            ends,
+            procs,
+            buffers,
+        };
+        World::of_parts(parts, front)
+    }
+}
