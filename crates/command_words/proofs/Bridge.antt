@@ -16,99 +16,99 @@ use Rattle.clap.specs.Walk.{finished, settled, with_default}
 use Rattle.clap.specs.declared.error.kind.ErrorKind.{ErrorKind}
 use Rattle.clap.specs.declared.error.kind.ErrorKind.TheVariants as kind
 use Rattle.command_words.specs.Application.{cloner_app}
-use Rattle.command_words.specs.Clap.{ClapFindsTheValues, clap_values, unless_fault, up_to_three, values_in}
+use Rattle.command_words.specs.Clap.{ClapFindsTheValues, clap_values, unless_fault, up_to_four, values_in}
 use Rattle.command_words.specs.Rules.{DashedWord, OptionName, after_dashed, bare_option, clone, dashed_word, ending}
 use Rattle.command_words.specs.Rules.{is_dashed, option_text, option_with_value, option_word, read, unknown}
 use Rattle.command_words.specs.Rules.{values, with_positionals, with_value, workers}
 use Rattle.command_words.specs.Values.{GivenView}
 use Rattle.command_words.proofs.ClapRows.{Follows, HaveValues, OptionValues, Stage, at_first, at_mode, at_second}
 use Rattle.command_words.proofs.ClapRows.{at_start}
-use Rattle.command_words.proofs.ClapRows.{fault-missing, fault-twice, free_place, is_given, listed}
+use Rattle.command_words.proofs.ClapRows.{at_third, fault-missing, fault-twice, four, free_place, is_given, listed}
 use Rattle.command_words.proofs.ClapRows.{next_place, no_fault-option, no_fault-place, no_options, none, not_given, one}
 use Rattle.command_words.proofs.ClapRows.{option_pending, option_used, place, place_pending, three, two, values_at}
 use Rattle.command_words.proofs.ClapRows.{values_in-have}
 use Rattle.command_words.proofs.ClapRows.{with_option, with_value-new, with_value-twice}
-use Rattle.command_words.proofs.ClapSteps.{IsPlain, Place, end_of, fault_at_end, fault_behind, fault_of_fourth}
-use Rattle.command_words.proofs.ClapSteps.{fault_of_fourth_behind, fault_of_name, fault_of_next, fault_of_plain}
+use Rattle.command_words.proofs.ClapSteps.{IsPlain, Place, end_of, fault_at_end, fault_behind, fault_of_fifth}
+use Rattle.command_words.proofs.ClapSteps.{fault_of_fifth_behind, fault_of_name, fault_of_next, fault_of_plain}
 use Rattle.command_words.proofs.ClapSteps.{fault_of_value, first, mode, next_positional, pending_fault, positional_name}
-use Rattle.command_words.proofs.ClapSteps.{positional_number, repeated, rows_with, second, shape, used}
+use Rattle.command_words.proofs.ClapSteps.{positional_number, repeated, rows_with, second, shape, third, used}
 use Rattle.command_words.proofs.ClapSteps.{values_from, values_from-refused, values_from-taken, walk_at_end}
 use Rattle.command_words.proofs.ClapSteps.{walk_behind}
 use Rattle.command_words.proofs.ClapSteps.{walk_between, walk_of_name, walk_of_next, walk_of_plain, walk_of_value}
 use Rattle.command_words.proofs.WordShapes.{IsPlain-of_undashed, Says, Says-dashed_word}
 
--- ---- more than three positionals
+-- ---- more than four positionals
 
--- values with four positionals or more
-abbrev pub many : OptionValues → Text → Text → Text → Text → List Text → GivenView
-many o x y z u more = record {
+-- values with five positionals or more
+abbrev pub many : OptionValues → Text → Text → Text → Text → Text → List Text → GivenView
+many o x y z u t more = record {
   workers = o workers;
   clone = o clone;
-  positionals = x ∷ y ∷ z ∷ u ∷ more;
+  positionals = x ∷ y ∷ z ∷ u ∷ t ∷ more;
 }
 
 -- clap has no place for them
-pub more_than_three : (w c : Option Text) (x y z u : Text) (more : List Text)
-    → up_to_three (record { workers = w; clone = c; positionals = x ∷ y ∷ z ∷ u ∷ more }) ≡ None
-more_than_three w c x y z u more =
-    let long_list : nat_le (length (x ∷ y ∷ z ∷ u ∷ more)) 3 ≡ false =
-    lt-leb (length (x ∷ y ∷ z ∷ u ∷ more)) 3 (omega arith) in
+pub more_than_four : (w c : Option Text) (x y z u t : Text) (more : List Text)
+    → up_to_four (record { workers = w; clone = c; positionals = x ∷ y ∷ z ∷ u ∷ t ∷ more }) ≡ None
+more_than_four w c x y z u t more =
+    let long_list : nat_le (length (x ∷ y ∷ z ∷ u ∷ t ∷ more)) 4 ≡ false =
+    lt-leb (length (x ∷ y ∷ z ∷ u ∷ t ∷ more)) 4 (omega arith) in
     rw long_list refl
 
 -- nothing that follows makes them fewer
-abbrev StaysMany : List Text → Text → Text → Text → Text → Type 0
-StaysMany rest x y z u = (due : Option OptionName) (o : OptionValues) (more : List Text)
-    → option_and_then up_to_three (read rest due (many o x y z u more)) ≡ None
+abbrev StaysMany : List Text → Text → Text → Text → Text → Text → Type 0
+StaysMany rest x y z u t = (due : Option OptionName) (o : OptionValues) (more : List Text)
+    → option_and_then up_to_four (read rest due (many o x y z u t more)) ≡ None
 
 -- the value of an option is no positional less
-many_value : (name : OptionName) (v : Text) (rest : List Text) (o : OptionValues) (x y z u : Text) (more : List Text)
-    → StaysMany rest x y z u
-    → option_and_then up_to_three (option_and_then (read rest None) (with_value name v (many o x y z u more))) ≡ None
-many_value name v rest o x y z u more again = by (o name) refl
+many_value : (name : OptionName) (v : Text) (rest : List Text) (o : OptionValues) (x y z u t : Text) (more : List Text)
+    → StaysMany rest x y z u t
+    → option_and_then up_to_four (option_and_then (read rest None) (with_value name v (many o x y z u t more))) ≡ None
+many_value name v rest o x y z u t more again = by (o name) refl
   where
     by : (given : Option Text) → o name ≡ given
-        → option_and_then up_to_three (option_and_then (read rest None) (with_value name v (many o x y z u more)))
+        → option_and_then up_to_four (option_and_then (read rest None) (with_value name v (many o x y z u t more)))
         ≡ None
-    by None e = ap (λ g. option_and_then up_to_three (option_and_then (read rest None) g))
-        (with_value-new name v o (x ∷ y ∷ z ∷ u ∷ more) e)
+    by None e = ap (λ g. option_and_then up_to_four (option_and_then (read rest None) g))
+        (with_value-new name v o (x ∷ y ∷ z ∷ u ∷ t ∷ more) e)
         ∙ again None (with_option name v o) more
-    by (Some w) e = ap (λ g. option_and_then up_to_three (option_and_then (read rest None) g))
-        (with_value-twice name v w o (x ∷ y ∷ z ∷ u ∷ more) e)
+    by (Some w) e = ap (λ g. option_and_then up_to_four (option_and_then (read rest None) g))
+        (with_value-twice name v w o (x ∷ y ∷ z ∷ u ∷ t ∷ more) e)
 
 -- nor is a word with a dash
-many_dashed : (d : DashedWord) (rest : List Text) (o : OptionValues) (x y z u : Text) (more : List Text)
-    → StaysMany rest x y z u
-    → option_and_then up_to_three (after_dashed d rest (read rest) (many o x y z u more)) ≡ None
-many_dashed ending rest o x y z u more again =
-    more_than_three (o workers) (o clone) x y z u (more ++ rest)
-many_dashed (bare_option name) rest o x y z u more again = again (Some name) o more
-many_dashed (option_with_value name v) rest o x y z u more again = many_value name v rest o x y z u more again
-many_dashed unknown rest o x y z u more again = refl
+many_dashed : (d : DashedWord) (rest : List Text) (o : OptionValues) (x y z u t : Text) (more : List Text)
+    → StaysMany rest x y z u t
+    → option_and_then up_to_four (after_dashed d rest (read rest) (many o x y z u t more)) ≡ None
+many_dashed ending rest o x y z u t more again =
+    more_than_four (o workers) (o clone) x y z u t (more ++ rest)
+many_dashed (bare_option name) rest o x y z u t more again = again (Some name) o more
+many_dashed (option_with_value name v) rest o x y z u t more again = many_value name v rest o x y z u t more again
+many_dashed unknown rest o x y z u t more again = refl
 
 -- nor any word where nothing is due
-many_free : (b : Bool) (word : Text) (rest : List Text) (o : OptionValues) (x y z u : Text) (more : List Text)
-    → StaysMany rest x y z u
-    → option_and_then up_to_three (cond b (after_dashed (dashed_word word) rest (read rest) (many o x y z u more))
-    (read rest None (with_positionals (word ∷ []) (many o x y z u more)))) ≡ None
-many_free true word rest o x y z u more again = many_dashed (dashed_word word) rest o x y z u more again
-many_free false word rest o x y z u more again = again None o (more ++ (word ∷ []))
+many_free : (b : Bool) (word : Text) (rest : List Text) (o : OptionValues) (x y z u t : Text) (more : List Text)
+    → StaysMany rest x y z u t
+    → option_and_then up_to_four (cond b (after_dashed (dashed_word word) rest (read rest) (many o x y z u t more))
+    (read rest None (with_positionals (word ∷ []) (many o x y z u t more)))) ≡ None
+many_free true word rest o x y z u t more again = many_dashed (dashed_word word) rest o x y z u t more again
+many_free false word rest o x y z u t more again = again None o (more ++ (word ∷ []))
 
 -- nor any word where a value is due
-many_due : (b : Bool) (name : OptionName) (word : Text) (rest : List Text) (o : OptionValues) (x y z u : Text)
-    (more : List Text) → StaysMany rest x y z u
-    → option_and_then up_to_three (cond b None
-    (option_and_then (read rest None) (with_value name word (many o x y z u more)))) ≡ None
-many_due true name word rest o x y z u more again = refl
-many_due false name word rest o x y z u more again = many_value name word rest o x y z u more again
+many_due : (b : Bool) (name : OptionName) (word : Text) (rest : List Text) (o : OptionValues) (x y z u t : Text)
+    (more : List Text) → StaysMany rest x y z u t
+    → option_and_then up_to_four (cond b None
+    (option_and_then (read rest None) (with_value name word (many o x y z u t more)))) ≡ None
+many_due true name word rest o x y z u t more again = refl
+many_due false name word rest o x y z u t more again = many_value name word rest o x y z u t more again
 
 -- so they stay too many, whatever the words
-too_many : (words : List Text) (x y z u : Text) → StaysMany words x y z u
-too_many [] x y z u None o more = more_than_three (o workers) (o clone) x y z u more
-too_many [] x y z u (Some name) o more = refl
-too_many (word ∷ rest) x y z u None o more =
-    many_free (is_dashed word) word rest o x y z u more (too_many rest x y z u)
-too_many (word ∷ rest) x y z u (Some name) o more =
-    many_due (is_dashed word) name word rest o x y z u more (too_many rest x y z u)
+too_many : (words : List Text) (x y z u t : Text) → StaysMany words x y z u t
+too_many [] x y z u t None o more = more_than_four (o workers) (o clone) x y z u t more
+too_many [] x y z u t (Some name) o more = refl
+too_many (word ∷ rest) x y z u t None o more =
+    many_free (is_dashed word) word rest o x y z u t more (too_many rest x y z u t)
+too_many (word ∷ rest) x y z u t (Some name) o more =
+    many_due (is_dashed word) name word rest o x y z u t more (too_many rest x y z u t)
 
 -- ---- the end of the words
 
@@ -119,20 +119,22 @@ at_last : (rows : List Row) (p : Option (Text × List Text)) (waiting : Waiting)
 unfolding walk_fault
 at_last rows p waiting position ended = refl
 
--- what the rows tell is at most three positionals
-up_to_three-at : (o : OptionValues) (s : Stage) → up_to_three (values_at o s) ≡ Some (values_at o s)
-up_to_three-at o none = refl
-up_to_three-at o (one a) = refl
-up_to_three-at o (two a b) = refl
-up_to_three-at o (three a b d) = refl
+-- what the rows tell is at most four positionals
+up_to_four-at : (o : OptionValues) (s : Stage) → up_to_four (values_at o s) ≡ Some (values_at o s)
+up_to_four-at o none = refl
+up_to_four-at o (one a) = refl
+up_to_four-at o (two a b) = refl
+up_to_four-at o (three a b d) = refl
+up_to_four-at o (four a b c d) = refl
 
 -- and no word more leaves it so
-up_to_three-end : (o : OptionValues) (s : Stage)
-    → up_to_three (with_positionals [] (values_at o s)) ≡ Some (values_at o s)
-up_to_three-end o none = refl
-up_to_three-end o (one a) = refl
-up_to_three-end o (two a b) = refl
-up_to_three-end o (three a b d) = refl
+up_to_four-end : (o : OptionValues) (s : Stage)
+    → up_to_four (with_positionals [] (values_at o s)) ≡ Some (values_at o s)
+up_to_four-end o none = refl
+up_to_four-end o (one a) = refl
+up_to_four-end o (two a b) = refl
+up_to_four-end o (three a b d) = refl
+up_to_four-end o (four a b c d) = refl
 
 -- clap finds what its rows tell
 values_from-end : (rows : List Row) (p : Option (Text × List Text)) (waiting : Waiting) (ended : Bool)
@@ -150,14 +152,14 @@ abbrev Behind : List Text → Type 0
 Behind words = (rows : List Row) (p : Option (Text × List Text)) (waiting : Waiting) (o : OptionValues) (s : Stage)
     → pending_fault rows p ≡ [] → HaveValues (rows_with rows p) o s
     → values_from (walk_between rows p waiting (place s) true) words
-    ≡ up_to_three (with_positionals words (values_at o s))
+    ≡ up_to_four (with_positionals words (values_at o s))
 
 -- one of them, at this place
 behind_at : (k : Place) (s t : Stage) (word : Text) (rest : List Text) → Follows word k s t → Behind rest
     → (rows : List Row) (p : Option (Text × List Text)) (waiting : Waiting) (o : OptionValues)
     → pending_fault rows p ≡ [] → HaveValues (rows_with rows p) o s
     → values_from (walk_between rows p waiting (positional_number k) true) (word ∷ rest)
-    ≡ up_to_three (with_positionals rest (values_at o t))
+    ≡ up_to_four (with_positionals rest (values_at o t))
 behind_at k s t word rest follows again rows p waiting o clear st =
     values_from-taken (walk_between rows p waiting (positional_number k) true)
     (walk_between (rows_with rows p) (Some (positional_name k, word ∷ [])) idle (next_positional k) true)
@@ -168,10 +170,10 @@ behind_at k s t word rest follows again rows p waiting o clear st =
     (no_fault-place k word (rows_with rows p) (free_place word k s t (rows_with rows p) o follows st))
     (place_pending k word (rows_with rows p) o s t follows st)
 
--- so it is of all, and a fourth is refused
+-- so it is of all, and a fifth is refused
 behind : (words : List Text) → Behind words
 behind [] rows p waiting o s clear st =
-    values_from-end rows p waiting true o s clear st ∙ sym (up_to_three-end o s)
+    values_from-end rows p waiting true o s clear st ∙ sym (up_to_four-end o s)
 behind (word ∷ rest) rows p waiting o none clear st =
     behind_at mode none (one word) word rest at_mode (behind rest) rows p waiting o clear st
 behind (word ∷ rest) rows p waiting o (one a) clear st =
@@ -179,9 +181,11 @@ behind (word ∷ rest) rows p waiting o (one a) clear st =
 behind (word ∷ rest) rows p waiting o (two a b) clear st =
     behind_at second (two a b) (three a b word) word rest (at_second a b) (behind rest) rows p waiting o clear st
 behind (word ∷ rest) rows p waiting o (three a b c) clear st =
-    values_from-refused (walk_between rows p waiting 4 true) word rest kind.UnknownArgument []
-    (fault_of_fourth_behind word rows p waiting)
-    ∙ sym (more_than_three (o workers) (o clone) a b c word rest)
+    behind_at third (three a b c) (four a b c word) word rest (at_third a b c) (behind rest) rows p waiting o clear st
+behind (word ∷ rest) rows p waiting o (four a b c d) clear st =
+    values_from-refused (walk_between rows p waiting 5 true) word rest kind.UnknownArgument []
+    (fault_of_fifth_behind word rows p waiting)
+    ∙ sym (more_than_four (o workers) (o clone) a b c d word rest)
 
 -- ---- where what is pending has a fault, clap refuses the words, whatever follows
 
@@ -208,8 +212,11 @@ doomed_behind (word ∷ rest) rows p waiting (two a b) k ks fault =
     values_from-refused (walk_between rows p waiting 3 true) word rest k ks
     (fault_behind second word rows p waiting ∙ fault)
 doomed_behind (word ∷ rest) rows p waiting (three a b c) k ks fault =
-    values_from-refused (walk_between rows p waiting 4 true) word rest kind.UnknownArgument []
-    (fault_of_fourth_behind word rows p waiting)
+    values_from-refused (walk_between rows p waiting 4 true) word rest k ks
+    (fault_behind third word rows p waiting ∙ fault)
+doomed_behind (word ∷ rest) rows p waiting (four a b c d) k ks fault =
+    values_from-refused (walk_between rows p waiting 5 true) word rest kind.UnknownArgument []
+    (fault_of_fifth_behind word rows p waiting)
 
 -- at a word with a dash
 doomed_dashed : (d : DashedWord) (word : Text) (rest : List Text) (rows : List Row) (p : Option (Text × List Text))
@@ -245,8 +252,10 @@ doomed_plain word rest rows p (one a) k ks is fault =
 doomed_plain word rest rows p (two a b) k ks is fault =
     values_from-refused (walk_between rows p idle 3 false) word rest k ks (fault_of_plain second word rows p is ∙ fault)
 doomed_plain word rest rows p (three a b c) k ks is fault =
-    values_from-refused (walk_between rows p idle 4 false) word rest kind.UnknownArgument []
-    (fault_of_fourth word rows p is)
+    values_from-refused (walk_between rows p idle 4 false) word rest k ks (fault_of_plain third word rows p is ∙ fault)
+doomed_plain word rest rows p (four a b c d) k ks is fault =
+    values_from-refused (walk_between rows p idle 5 false) word rest kind.UnknownArgument []
+    (fault_of_fifth word rows p is)
 
 -- so at any words
 doomed : (words : List Text) → AllByRecursion IsUtf8 words → (rows : List Row) (p : Option (Text × List Text))
@@ -266,13 +275,13 @@ abbrev Free : List Text → Type 0
 Free words = (rows : List Row) (p : Option (Text × List Text)) (o : OptionValues) (s : Stage)
     → pending_fault rows p ≡ [] → HaveValues (rows_with rows p) o s
     → values_from (walk_between rows p idle (place s) false) words
-    ≡ option_and_then up_to_three (read words None (values_at o s))
+    ≡ option_and_then up_to_four (read words None (values_at o s))
 
 -- and so where the value of an option is due
 abbrev Due : List Text → Type 0
 Due words = (name : OptionName) (rows : List Row) (o : OptionValues) (s : Stage) → HaveValues rows o s
     → values_from (walk_between rows (Some (option_text name, [])) (option (option_text name)) (place s) false) words
-    ≡ option_and_then up_to_three (read words (Some name) (values_at o s))
+    ≡ option_and_then up_to_four (read words (Some name) (values_at o s))
 
 -- an option without a row is not there twice
 no_repeat : (id : Text) (rows : List Row) → has_row id rows ≡ false → repeated id rows ≡ []
@@ -284,15 +293,15 @@ repeat id rows h = rw h refl
 
 -- what the rules read behind a first value of an option
 read_new : (name : OptionName) (v : Text) (rest : List Text) (o : OptionValues) (s : Stage) → o name ≡ None
-    → option_and_then up_to_three (read rest None (values_at (with_option name v o) s))
-    ≡ option_and_then up_to_three (option_and_then (read rest None) (with_value name v (values_at o s)))
-read_new name v rest o s e = ap (λ g. option_and_then up_to_three (option_and_then (read rest None) g))
+    → option_and_then up_to_four (read rest None (values_at (with_option name v o) s))
+    ≡ option_and_then up_to_four (option_and_then (read rest None) (with_value name v (values_at o s)))
+read_new name v rest o s e = ap (λ g. option_and_then up_to_four (option_and_then (read rest None) g))
     (sym (with_value-new name v o (listed s) e))
 
 -- a second one is refused
 read_twice : (name : OptionName) (v w : Text) (rest : List Text) (o : OptionValues) (s : Stage) → o name ≡ Some w
-    → None ≡ option_and_then up_to_three (option_and_then (read rest None) (with_value name v (values_at o s)))
-read_twice name v w rest o s e = ap (λ g. option_and_then up_to_three (option_and_then (read rest None) g))
+    → None ≡ option_and_then up_to_four (option_and_then (read rest None) (with_value name v (values_at o s)))
+read_twice name v w rest o s e = ap (λ g. option_and_then up_to_four (option_and_then (read rest None) g))
     (sym (with_value-twice name v w o (listed s) e))
 
 -- `--NAME=V`
@@ -300,12 +309,12 @@ value_step : (name : OptionName) (v : Text) (rest : List Text) → Free rest →
     (p : Option (Text × List Text)) (o : OptionValues) (s : Stage) → pending_fault rows p ≡ []
     → HaveValues (rows_with rows p) o s
     → values_from (walk_between rows p idle (place s) false) ((option_word name ++ (61 ∷ v)) ∷ rest)
-    ≡ option_and_then up_to_three (option_and_then (read rest None) (with_value name v (values_at o s)))
+    ≡ option_and_then up_to_four (option_and_then (read rest None) (with_value name v (values_at o s)))
 value_step name v rest free rows p o s clear st = by (o name) refl
   where
     by : (given : Option Text) → o name ≡ given
         → values_from (walk_between rows p idle (place s) false) ((option_word name ++ (61 ∷ v)) ∷ rest)
-        ≡ option_and_then up_to_three (option_and_then (read rest None) (with_value name v (values_at o s)))
+        ≡ option_and_then up_to_four (option_and_then (read rest None) (with_value name v (values_at o s)))
     by None e =
         values_from-taken (walk_between rows p idle (place s) false)
         (walk_between (used (option_text name) v (rows_with rows p)) None idle (place s) false)
@@ -330,7 +339,7 @@ free_dashed : (d : DashedWord) (word : Text) (rest : List Text) → Free rest �
     (p : Option (Text × List Text)) (o : OptionValues) (s : Stage) → pending_fault rows p ≡ []
     → HaveValues (rows_with rows p) o s
     → values_from (walk_between rows p idle (place s) false) (word ∷ rest)
-    ≡ option_and_then up_to_three (after_dashed d rest (read rest) (values_at o s))
+    ≡ option_and_then up_to_four (after_dashed d rest (read rest) (values_at o s))
 free_dashed ending word rest free due e rows p o s clear st =
     ap (λ x. values_from (walk_between rows p idle (place s) false) (x ∷ rest)) e
     ∙ values_from-taken (walk_between rows p idle (place s) false)
@@ -356,7 +365,7 @@ free_at : (k : Place) (s t : Stage) (word : Text) (rest : List Text) → Follows
     → (rows : List Row) (p : Option (Text × List Text)) (o : OptionValues) → pending_fault rows p ≡ []
     → HaveValues (rows_with rows p) o s
     → values_from (walk_between rows p idle (positional_number k) false) (word ∷ rest)
-    ≡ option_and_then up_to_three (read rest None (values_at o t))
+    ≡ option_and_then up_to_four (read rest None (values_at o t))
 free_at k s t word rest follows free is rows p o clear st =
     values_from-taken (walk_between rows p idle (positional_number k) false)
     (walk_between (rows_with rows p) (Some (positional_name k, word ∷ [])) idle (next_positional k) false)
@@ -372,7 +381,7 @@ free_plain : (word : Text) (rest : List Text) → Free rest → IsPlain word →
     (p : Option (Text × List Text)) (o : OptionValues) (s : Stage) → pending_fault rows p ≡ []
     → HaveValues (rows_with rows p) o s
     → values_from (walk_between rows p idle (place s) false) (word ∷ rest)
-    ≡ option_and_then up_to_three (read rest None (with_positionals (word ∷ []) (values_at o s)))
+    ≡ option_and_then up_to_four (read rest None (with_positionals (word ∷ []) (values_at o s)))
 free_plain word rest free is rows p o none clear st =
     free_at mode none (one word) word rest at_mode free is rows p o clear st
 free_plain word rest free is rows p o (one a) clear st =
@@ -380,9 +389,11 @@ free_plain word rest free is rows p o (one a) clear st =
 free_plain word rest free is rows p o (two a b) clear st =
     free_at second (two a b) (three a b word) word rest (at_second a b) free is rows p o clear st
 free_plain word rest free is rows p o (three a b c) clear st =
-    values_from-refused (walk_between rows p idle 4 false) word rest kind.UnknownArgument []
-    (fault_of_fourth word rows p is)
-    ∙ sym (too_many rest a b c word None o [])
+    free_at third (three a b c) (four a b c word) word rest (at_third a b c) free is rows p o clear st
+free_plain word rest free is rows p o (four a b c d) clear st =
+    values_from-refused (walk_between rows p idle 5 false) word rest kind.UnknownArgument []
+    (fault_of_fifth word rows p is)
+    ∙ sym (too_many rest a b c d word None o [])
 
 -- any word, where nothing is due
 free_step : (word : Text) (rest : List Text) → IsUtf8 word → Free rest → Due rest → Free (word ∷ rest)
@@ -392,9 +403,9 @@ free_step word rest u free due rows p o s clear st =
     ⊎_elim
     (λ (yes : is_dashed word ≡ true).
     free_dashed (dashed_word word) word rest free due (Says-dashed_word word u yes) rows p o s clear st
-    ∙ ap (λ (t : Bool). option_and_then up_to_three (cond t dash text)) (sym yes))
+    ∙ ap (λ (t : Bool). option_and_then up_to_four (cond t dash text)) (sym yes))
     (λ (no : is_dashed word ≡ false). free_plain word rest free (IsPlain-of_undashed word no) rows p o s clear st
-    ∙ ap (λ (t : Bool). option_and_then up_to_three (cond t dash text)) (sym no))
+    ∙ ap (λ (t : Bool). option_and_then up_to_four (cond t dash text)) (sym no))
     (cases_Bool (is_dashed word))
 
 -- a word without a dash, where a value is due: the value
@@ -402,13 +413,13 @@ due_plain : (name : OptionName) (word : Text) (rest : List Text) → AllByRecurs
     → IsPlain word → (rows : List Row) (o : OptionValues) (s : Stage) → HaveValues rows o s
     → values_from (walk_between rows (Some (option_text name, [])) (option (option_text name)) (place s) false)
     (word ∷ rest)
-    ≡ option_and_then up_to_three (option_and_then (read rest None) (with_value name word (values_at o s)))
+    ≡ option_and_then up_to_four (option_and_then (read rest None) (with_value name word (values_at o s)))
 due_plain name word rest us free is rows o s st = by (o name) refl
   where
     by : (given : Option Text) → o name ≡ given
         → values_from (walk_between rows (Some (option_text name, [])) (option (option_text name)) (place s) false)
         (word ∷ rest)
-        ≡ option_and_then up_to_three (option_and_then (read rest None) (with_value name word (values_at o s)))
+        ≡ option_and_then up_to_four (option_and_then (read rest None) (with_value name word (values_at o s)))
     by None e =
         values_from-taken
         (walk_between rows (Some (option_text name, [])) (option (option_text name)) (place s) false)
@@ -436,14 +447,14 @@ due_step word rest u us free name rows o s st =
     (λ (yes : is_dashed word ≡ true).
     doomed_dashed (dashed_word word) word rest rows (Some (option_text name, [])) (option (option_text name)) s
     kind.InvalidValue [] (Says-dashed_word word u yes) (fault-missing name rows)
-    ∙ ap (λ (t : Bool). option_and_then up_to_three (cond t None text)) (sym yes))
+    ∙ ap (λ (t : Bool). option_and_then up_to_four (cond t None text)) (sym yes))
     (λ (no : is_dashed word ≡ false). due_plain name word rest us free (IsPlain-of_undashed word no) rows o s st
-    ∙ ap (λ (t : Bool). option_and_then up_to_three (cond t None text)) (sym no))
+    ∙ ap (λ (t : Bool). option_and_then up_to_four (cond t None text)) (sym no))
     (cases_Bool (is_dashed word))
 
 -- no word more
 free_end : Free []
-free_end rows p o s clear st = values_from-end rows p idle false o s clear st ∙ sym (up_to_three-at o s)
+free_end rows p o s clear st = values_from-end rows p idle false o s clear st ∙ sym (up_to_four-at o s)
 
 -- the value is missing
 due_end : Due []
@@ -519,7 +530,7 @@ no_defaults (a ∷ rest) rows h =
 
 -- no argument of the command has a default value
 cloner_has_no_default : AllByRecursion HasNoDefault shape.rules
-cloner_has_no_default = (refl, (refl, (refl, (refl, (refl, tt)))))
+cloner_has_no_default = (refl, (refl, (refl, (refl, (refl, (refl, tt))))))
 
 -- the faults of a whole command line are those of the walk and of its end
 fault-start : (words : List Text) → fault_of cloner_app words

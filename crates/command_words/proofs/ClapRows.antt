@@ -11,6 +11,7 @@ use Rattle.command_words.specs.Clap.{values_in}
 use Rattle.command_words.specs.Rules.{OptionName, workers, clone, option_text, with_value}
 use Rattle.command_words.specs.Values.{GivenView, positionals_of}
 use Rattle.command_words.proofs.ClapSteps.{Place, first, mode, next_positional, pending_fault, positional_name, second}
+use Rattle.command_words.proofs.ClapSteps.{third}
 use Rattle.command_words.proofs.ClapSteps.{rows_with, rows_with-option, rows_with-place, used}
 
 -- ---- a use of what was not used yet is a row more
@@ -97,6 +98,7 @@ pub data Stage : Type 0 where
   one : Text → Stage
   two : Text → Text → Stage
   three : Text → Text → Text → Stage
+  four : Text → Text → Text → Text → Stage
 
 -- as a list
 abbrev pub listed : Stage → List Text
@@ -104,6 +106,7 @@ listed none = []
 listed (one a) = a ∷ []
 listed (two a b) = a ∷ b ∷ []
 listed (three a b c) = a ∷ b ∷ c ∷ []
+listed (four a b c d) = a ∷ b ∷ c ∷ d ∷ []
 
 -- the number of the next one
 abbrev pub place : Stage → ℕ
@@ -111,12 +114,14 @@ place none = 1
 place (one a) = 2
 place (two a b) = 3
 place (three a b c) = 4
+place (four a b c d) = 5
 
 -- the index of a place in the list
 abbrev pub index_of : Place → ℕ
 index_of mode = 0
 index_of first = 1
 index_of second = 2
+index_of third = 3
 
 -- what stands at a place, if anything does
 abbrev pub at_place : Place → Stage → Option Text
@@ -156,14 +161,16 @@ at_start = record { options = λ name. of_option name; places = λ k. of_place k
     of_place mode = record { first_value = refl; there = refl }
     of_place first = record { first_value = refl; there = refl }
     of_place second = record { first_value = refl; there = refl }
+    of_place third = record { first_value = refl; there = refl }
 
--- the three places as a list
+-- the four places as a list
 positionals_of-stage : (s : Stage)
-    → positionals_of (at_place mode s) (at_place first s) (at_place second s) ≡ listed s
+    → positionals_of (at_place mode s) (at_place first s) (at_place second s) (at_place third s) ≡ listed s
 positionals_of-stage none = refl
 positionals_of-stage (one a) = refl
 positionals_of-stage (two a b) = refl
 positionals_of-stage (three a b c) = refl
+positionals_of-stage (four a b c d) = refl
 
 -- what the rows have is what they tell
 pub values_in-have : (rows : List Row) (o : OptionValues) (s : Stage) → HaveValues rows o s
@@ -174,6 +181,7 @@ values_in-have rows o s h = rw (
   (h.places mode).first_value,
   (h.places first).first_value,
   (h.places second).first_value,
+  (h.places third).first_value,
   positionals_of-stage s,
 ) refl
 
@@ -182,9 +190,11 @@ option_or_place : (name : OptionName) (k : Place) → bytes_eq (option_text name
 option_or_place workers mode = refl
 option_or_place workers first = refl
 option_or_place workers second = refl
+option_or_place workers third = refl
 option_or_place clone mode = refl
 option_or_place clone first = refl
 option_or_place clone second = refl
+option_or_place clone third = refl
 
 -- nor an option that of a positional
 place_or_option : (k : Place) (name : OptionName) → bytes_eq (positional_name k) (option_text name) ≡ false
@@ -194,6 +204,8 @@ place_or_option first workers = refl
 place_or_option first clone = refl
 place_or_option second workers = refl
 place_or_option second clone = refl
+place_or_option third workers = refl
+place_or_option third clone = refl
 
 -- an option that is not given has no row
 pub not_given : (rows : List Row) (o : OptionValues) (s : Stage) (name : OptionName) → HaveValues rows o s
@@ -260,18 +272,21 @@ pub data Follows (v : Text) : Place → Stage → Stage → Type 0 where
   at_mode : Follows v mode none (one v)
   at_first : (a : Text) → Follows v first (one a) (two a v)
   at_second : (a b : Text) → Follows v second (two a b) (three a b v)
+  at_third : (a b c : Text) → Follows v third (three a b c) (four a b c v)
 
 -- nothing stood there
 not_there : (v : Text) (k : Place) (s t : Stage) → Follows v k s t → at_place k s ≡ None
 not_there v _ _ _ at_mode = refl
 not_there v _ _ _ (at_first a) = refl
 not_there v _ _ _ (at_second a b) = refl
+not_there v _ _ _ (at_third a b c) = refl
 
 -- the number behind it is that of the next place
 pub next_place : (v : Text) (k : Place) (s t : Stage) → Follows v k s t → next_positional k ≡ place t
 next_place v _ _ _ at_mode = refl
 next_place v _ _ _ (at_first a) = refl
 next_place v _ _ _ (at_second a b) = refl
+next_place v _ _ _ (at_third a b c) = refl
 
 -- there is no row for it
 pub free_place : (v : Text) (k : Place) (s t : Stage) (rows : List Row) (o : OptionValues) → Follows v k s t
@@ -296,13 +311,22 @@ place_used k v rows o s t follows h = record {
     of_place _ _ _ at_mode mode f u old = tells-same (codes "mode") v rows refl u
     of_place _ _ _ at_mode first f u old = tells-other (codes "mode") (codes "first") v rows None f refl old
     of_place _ _ _ at_mode second f u old = tells-other (codes "mode") (codes "second") v rows None f refl old
+    of_place _ _ _ at_mode third f u old = tells-other (codes "mode") (codes "third") v rows None f refl old
     of_place _ _ _ (at_first a) mode f u old = tells-other (codes "first") (codes "mode") v rows (Some a) f refl old
     of_place _ _ _ (at_first a) first f u old = tells-same (codes "first") v rows refl u
     of_place _ _ _ (at_first a) second f u old = tells-other (codes "first") (codes "second") v rows None f refl old
+    of_place _ _ _ (at_first a) third f u old = tells-other (codes "first") (codes "third") v rows None f refl old
     of_place _ _ _ (at_second a b) mode f u old = tells-other (codes "second") (codes "mode") v rows (Some a) f refl old
     of_place _ _ _ (at_second a b) first f u old =
         tells-other (codes "second") (codes "first") v rows (Some b) f refl old
     of_place _ _ _ (at_second a b) second f u old = tells-same (codes "second") v rows refl u
+    of_place _ _ _ (at_second a b) third f u old = tells-other (codes "second") (codes "third") v rows None f refl old
+    of_place _ _ _ (at_third a b c) mode f u old = tells-other (codes "third") (codes "mode") v rows (Some a) f refl old
+    of_place _ _ _ (at_third a b c) first f u old =
+        tells-other (codes "third") (codes "first") v rows (Some b) f refl old
+    of_place _ _ _ (at_third a b c) second f u old =
+        tells-other (codes "third") (codes "second") v rows (Some c) f refl old
+    of_place _ _ _ (at_third a b c) third f u old = tells-same (codes "third") v rows refl u
 
 -- the same, while it is pending
 pub place_pending : (k : Place) (v : Text) (rows : List Row) (o : OptionValues) (s t : Stage) → Follows v k s t
@@ -330,6 +354,7 @@ pub no_fault-place : (k : Place) (v : Text) (rows : List Row) → has_row (posit
 no_fault-place mode v rows h = rw h refl
 no_fault-place first v rows h = rw h refl
 no_fault-place second v rows h = rw h refl
+no_fault-place third v rows h = rw h refl
 
 -- an option without its value has one
 pub fault-missing : (name : OptionName) (rows : List Row)

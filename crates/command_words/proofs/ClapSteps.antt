@@ -177,29 +177,33 @@ unfolding walked
 walk_of_next workers word rows position plain = rw (plain.no_end, plain.no_long, plain.no_short) refl
 walk_of_next clone word rows position plain = rw (plain.no_end, plain.no_long, plain.no_short) refl
 
--- as a positional: the first to the third
+-- as a positional: the first to the fourth
 pub data Place : Type 0 where
   mode : Place
   first : Place
   second : Place
+  third : Place
 
 -- its name
 abbrev pub positional_name : Place → Text
 positional_name mode = codes "mode"
 positional_name first = codes "first"
 positional_name second = codes "second"
+positional_name third = codes "third"
 
 -- its number
 abbrev pub positional_number : Place → ℕ
 positional_number mode = 1
 positional_number first = 2
 positional_number second = 3
+positional_number third = 4
 
 -- the number after it
 abbrev pub next_positional : Place → ℕ
 next_positional mode = 2
 next_positional first = 3
 next_positional second = 4
+next_positional third = 5
 
 -- no positional takes several words
 not_several : (id : Text) (p : Option (Text × List Text))
@@ -218,6 +222,7 @@ pub rows_with-place : (k : Place) (v : Text) (rows : List Row)
 rows_with-place mode v rows = refl
 rows_with-place first v rows = refl
 rows_with-place second v rows = refl
+rows_with-place third v rows = refl
 
 -- what was pending before may fail
 pub fault_of_plain : (k : Place) (word : Text) (rows : List Row) (p : Option (Text × List Text)) → IsPlain word
@@ -228,6 +233,8 @@ fault_of_plain first word rows p plain =
     rw (plain.no_end, plain.no_long, plain.no_short, not_several (codes "first") p) refl
 fault_of_plain second word rows p plain =
     rw (plain.no_end, plain.no_long, plain.no_short, not_several (codes "second") p) refl
+fault_of_plain third word rows p plain =
+    rw (plain.no_end, plain.no_long, plain.no_short, not_several (codes "third") p) refl
 
 -- the word is pending
 pub walk_of_plain : (k : Place) (word : Text) (rows : List Row) (p : Option (Text × List Text)) → IsPlain word
@@ -240,11 +247,13 @@ walk_of_plain first word rows p plain =
     rw (plain.no_end, plain.no_long, plain.no_short, not_several (codes "first") p) refl
 walk_of_plain second word rows p plain =
     rw (plain.no_end, plain.no_long, plain.no_short, not_several (codes "second") p) refl
+walk_of_plain third word rows p plain =
+    rw (plain.no_end, plain.no_long, plain.no_short, not_several (codes "third") p) refl
 
--- there is no fourth
-pub fault_of_fourth : (word : Text) (rows : List Row) (p : Option (Text × List Text)) → IsPlain word
-    → turn_fault shape [] (walk_between rows p idle 4 false) word ≡ kind.UnknownArgument ∷ []
-fault_of_fourth word rows p plain = rw (plain.no_end, plain.no_long, plain.no_short) refl
+-- there is no fifth
+pub fault_of_fifth : (word : Text) (rows : List Row) (p : Option (Text × List Text)) → IsPlain word
+    → turn_fault shape [] (walk_between rows p idle 5 false) word ≡ kind.UnknownArgument ∷ []
+fault_of_fifth word rows p plain = rw (plain.no_end, plain.no_long, plain.no_short) refl
 
 -- ---- behind `--`
 
@@ -254,6 +263,7 @@ pub fault_behind : (k : Place) (word : Text) (rows : List Row) (p : Option (Text
 fault_behind mode word rows p waiting = rw (not_several (codes "mode") p) refl
 fault_behind first word rows p waiting = rw (not_several (codes "first") p) refl
 fault_behind second word rows p waiting = rw (not_several (codes "second") p) refl
+fault_behind third word rows p waiting = rw (not_several (codes "third") p) refl
 
 -- the word is pending
 pub walk_behind : (k : Place) (word : Text) (rows : List Row) (p : Option (Text × List Text)) (waiting : Waiting)
@@ -263,11 +273,12 @@ unfolding walked
 walk_behind mode word rows p waiting = rw (not_several (codes "mode") p) refl
 walk_behind first word rows p waiting = rw (not_several (codes "first") p) refl
 walk_behind second word rows p waiting = rw (not_several (codes "second") p) refl
+walk_behind third word rows p waiting = rw (not_several (codes "third") p) refl
 
--- there is no fourth
-pub fault_of_fourth_behind : (word : Text) (rows : List Row) (p : Option (Text × List Text)) (waiting : Waiting)
-    → turn_fault shape [] (walk_between rows p waiting 4 true) word ≡ kind.UnknownArgument ∷ []
-fault_of_fourth_behind word rows p waiting = refl
+-- there is no fifth
+pub fault_of_fifth_behind : (word : Text) (rows : List Row) (p : Option (Text × List Text)) (waiting : Waiting)
+    → turn_fault shape [] (walk_between rows p waiting 5 true) word ≡ kind.UnknownArgument ∷ []
+fault_of_fifth_behind word rows p waiting = refl
 
 -- ---- a flag that there is not
 

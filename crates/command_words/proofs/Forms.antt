@@ -2,28 +2,29 @@
 use Rattle.std.proofs.Common.{◌≡◌, ◌∙◌, ℕ, List, [], ◌∷◌, refl, ap, Option, Some, None, option_map}
 use Rattle.std.proofs.Common.{option_and_then}
 use Rattle.command_words.specs.declared.given.Given.{Given}
-use Rattle.command_words.specs.Clap.{up_to_three}
+use Rattle.command_words.specs.Clap.{up_to_four}
 use Rattle.command_words.specs.Requests.{RequestView, form, form_of}
 use Rattle.command_words.specs.Rules.{values}
 use Rattle.command_words.specs.Values.{GivenView}
 use Rattle.command_words.specs.Views.{given_view}
-use Rattle.command_words.proofs.Bridge.{more_than_three}
+use Rattle.command_words.proofs.Bridge.{more_than_four}
 
 -- ---- form_of
--- no form has more than three positionals
+-- no form has more than four positionals
 form_of_few : (w c : Option (List ℕ)) (words : List (List ℕ))
-    → option_and_then form_of (up_to_three (record { workers = w; clone = c; positionals = words }))
+    → option_and_then form_of (up_to_four (record { workers = w; clone = c; positionals = words }))
     ≡ form_of (record { workers = w; clone = c; positionals = words })
 form_of_few w c [] = refl
 form_of_few w c (x ∷ []) = refl
 form_of_few w c (x ∷ y ∷ []) = refl
 form_of_few w c (x ∷ y ∷ z ∷ []) = refl
-form_of_few w c (x ∷ y ∷ z ∷ u ∷ more) =
-    ap (λ (v : Option GivenView). option_and_then form_of v) (more_than_three w c x y z u more)
+form_of_few w c (x ∷ y ∷ z ∷ u ∷ []) = refl
+form_of_few w c (x ∷ y ∷ z ∷ u ∷ t ∷ more) =
+    ap (λ (v : Option GivenView). option_and_then form_of v) (more_than_four w c x y z u t more)
 
 -- also where a rule is broken
 form_by_few : (v : Option GivenView)
-    → option_and_then form_of (option_and_then up_to_three v) ≡ option_and_then form_of v
+    → option_and_then form_of (option_and_then up_to_four v) ≡ option_and_then form_of v
 form_by_few None = refl
 form_by_few (Some v) = form_of_few v.workers v.clone v.positionals
 
@@ -39,6 +40,6 @@ by_values (Some g) = refl
 
 -- so what clap finds asks for what the words ask for
 pub form_found : (words : List (List ℕ)) (given : Option Given)
-    → option_map given_view given ≡ option_and_then up_to_three (values words) → form_given given ≡ form words
+    → option_map given_view given ≡ option_and_then up_to_four (values words) → form_given given ≡ form words
 form_found words given same =
     by_values given ∙ ap (λ (v : Option GivenView). option_and_then form_of v) same ∙ form_by_few (values words)

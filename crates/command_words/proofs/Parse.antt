@@ -81,7 +81,8 @@ pub read_words : (words : List (List ℕ)) (m : ArgMatches) → fault_of cloner_
       workers = first_value (found_of m) (codes "workers");
       clone = first_value (found_of m) (codes "clone");
       positionals = positionals_of (first_value (found_of m) (codes "mode"))
-          (first_value (found_of m) (codes "first")) (first_value (found_of m) (codes "second"));
+          (first_value (found_of m) (codes "first")) (first_value (found_of m) (codes "second"))
+          (first_value (found_of m) (codes "third"));
     }) ≡ clap_values words
 unfolding clap_values
 read_words words m none rows =
@@ -91,6 +92,7 @@ read_words words m none rows =
       first_is (found_of m) (codes "mode"),
       first_is (found_of m) (codes "first"),
       first_is (found_of m) (codes "second"),
+      first_is (found_of m) (codes "third"),
       first_is (found_of m) (codes "workers"),
       first_is (found_of m) (codes "clone"),
     ) refl

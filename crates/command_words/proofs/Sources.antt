@@ -4,11 +4,11 @@ use Rattle.std.proofs.Common.{Option, Some, None, bytes_eq, option_map, option_a
 use Rattle.command_words.specs.declared.request.TheConstants.{MOST_STUDY}
 use Rattle.command_words.specs.Numbers.{number_to}
 use Rattle.command_words.specs.declared.request.Mode.{Mode}
-use Rattle.command_words.specs.declared.request.Mode.TheVariants.{Report, Run, Solo, Stats}
+use Rattle.command_words.specs.declared.request.Mode.TheVariants.{Links, Report, Run, Solo, Stats}
 use Rattle.command_words.specs.Requests.{AssignmentView, FileNames, Live, MadeIsReported, Number, RequestView, Study}
-use Rattle.command_words.specs.Requests.{by_positionals, clone_alone, form_of, form_of_one, form_of_two}
-use Rattle.command_words.specs.Requests.{if_named, is_text, live_by, live_form, solo_form, study_form, study_of}
-use Rattle.command_words.specs.Requests.{workers_alone}
+use Rattle.command_words.specs.Requests.{Watch, by_positionals, clone_alone, form_of, form_of_one, form_of_three}
+use Rattle.command_words.specs.Requests.{form_of_two, if_named, is_text, live_by, live_form, solo_form, study_form}
+use Rattle.command_words.specs.Requests.{study_of, watch_by, watch_form, workers_alone}
 use Rattle.command_words.specs.Rules.{values}
 use Rattle.command_words.specs.Values.{GivenView}
 
@@ -17,6 +17,7 @@ abbrev IsReportIfMade : AssignmentView → Type 0
 IsReportIfMade (Study (Number n) mode) = mode ≡ Report
 IsReportIfMade (Study (FileNames model script) mode) = Unit {0}
 IsReportIfMade (Live model script) = Unit {0}
+IsReportIfMade (Watch model script watches) = Unit {0}
 
 -- of what may be asked, likewise
 abbrev AreReportsIfMade : Option RequestView → Type 0
@@ -76,7 +77,21 @@ two-reports mode first second v =
     cond-reports (bytes_eq mode (codes "run")) _ _ (study-reports Run first second v)
     (cond-reports (bytes_eq mode (codes "solo")) _ _ (solo-reports first second v)
     (cond-reports (bytes_eq mode (codes "live")) _ _ (live-reports first second v)
-    (cond-reports (bytes_eq mode (codes "stats")) _ None (study-reports Stats first second v) tt)))
+    (cond-reports (bytes_eq mode (codes "stats")) _ _ (study-reports Stats first second v)
+    (cond-reports (bytes_eq mode (codes "links")) _ None (study-reports Links first second v) tt))))
+
+-- `watch`
+watch-reports : (model script watches : List ℕ) (v : GivenView)
+    → AreReportsIfMade (watch_form model script watches v)
+watch-reports model script watches v =
+    cond-reports (is_text watches) _ None (named-reports model script _
+    (map-reports (watch_by model script watches) (workers_alone v.workers v.clone) (λ n. tt))) tt
+
+-- of three
+three-reports : (mode first second third : List ℕ) (v : GivenView)
+    → AreReportsIfMade (form_of_three mode first second third v)
+three-reports mode first second third v =
+    cond-reports (bytes_eq mode (codes "watch")) _ None (watch-reports first second third v) tt
 
 -- any positionals
 positionals-report : (words : List (List ℕ)) (v : GivenView) → AreReportsIfMade (by_positionals words v)
@@ -84,7 +99,8 @@ positionals-report [] v = tt
 positionals-report (mode ∷ []) v = tt
 positionals-report (mode ∷ first ∷ []) v = one-reports mode first v
 positionals-report (mode ∷ first ∷ second ∷ []) v = two-reports mode first second v
-positionals-report (mode ∷ first ∷ second ∷ third ∷ words) v = tt
+positionals-report (mode ∷ first ∷ second ∷ third ∷ []) v = three-reports mode first second third v
+positionals-report (mode ∷ first ∷ second ∷ third ∷ word ∷ words) v = tt
 
 -- any values
 values-report : (v : Option GivenView) → AreReportsIfMade (option_and_then form_of v)

@@ -1,5 +1,5 @@
--- The command that clap reads the words by: two options and up to three positionals, without help and without
--- abbreviated names. A mode of three names more is one positional more.
+-- The command that clap reads the words by: two options and up to four positionals, without help and without
+-- abbreviated names. An option more is one rule more, and so is a positional.
 use Rattle.std.specs.Prelude.{ℕ, true, codes, List, Some}
 use Rattle.clap.specs.Words.{App, Rule, new_app, new_rule, with_rule}
 use Rattle.clap.specs.Simple.{on_top}
@@ -17,8 +17,13 @@ positional name = new_rule name
 abbrev pub bare_app : App
 bare_app = on_top (λ s. record s { no_binary_name = true; disable_help_flag = true }) (new_app (codes "cloner"))
 
--- the command with its two options and its three positionals
+-- the command with its options
+abbrev pub app_of_options : App
+app_of_options =
+    with_rule (with_rule bare_app (option (codes "workers"))) (option (codes "clone"))
+
+-- the command with its options and its positionals
 abbrev pub cloner_app : App
 cloner_app =
-    with_rule (with_rule (with_rule (with_rule (with_rule bare_app (option (codes "workers"))) (option (codes "clone")))
-    (positional (codes "mode"))) (positional (codes "first"))) (positional (codes "second"))
+    with_rule (with_rule (with_rule (with_rule app_of_options (positional (codes "mode"))) (positional (codes "first")))
+    (positional (codes "second"))) (positional (codes "third"))

@@ -14,7 +14,7 @@ values_in rows = record {
   workers = first_of (codes "workers") rows;
   clone = first_of (codes "clone") rows;
   positionals = positionals_of (first_of (codes "mode") rows) (first_of (codes "first") rows)
-      (first_of (codes "second") rows);
+      (first_of (codes "second") rows) (first_of (codes "third") rows);
 }
 
 -- what was found, None where there is a fault
@@ -26,11 +26,11 @@ unless_fault (k ∷ ks) found = None
 unfoldable pub clap_values : List (List ℕ) → Option GivenView
 clap_values words = unless_fault (fault_of cloner_app words) (Some (values_in (matches_of cloner_app words)))
 
--- clap's command has three positionals
-abbrev pub up_to_three : GivenView → Option GivenView
-up_to_three v = if nat_le (length v.positionals) 3 then Some v else None
+-- clap's command has four positionals
+abbrev pub up_to_four : GivenView → Option GivenView
+up_to_four v = if nat_le (length v.positionals) 4 then Some v else None
 
--- clap finds the values of the rules, in each list of texts; more than three positionals it refuses
+-- clap finds the values of the rules, in each list of texts; more than four positionals it refuses
 abbrev pub ClapFindsTheValues : Type 0
 ClapFindsTheValues = (words : List (List ℕ)) → list_all is_utf8 words ≡ true
-    → clap_values words ≡ option_and_then up_to_three (values words)
+    → clap_values words ≡ option_and_then up_to_four (values words)

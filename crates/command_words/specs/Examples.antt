@@ -2,9 +2,10 @@
 use Rattle.std.specs.Prelude.{◌≡◌, ◌==◌, ℕ, codes, List, [], ◌∷◌, map, Option, Some, None}
 use Rattle.std.specs.List.{slice_split}
 use Rattle.command_words.specs.declared.request.Mode.{Mode}
-use Rattle.command_words.specs.declared.request.Mode.TheVariants.{Report, Run, Solo, Stats}
+use Rattle.command_words.specs.declared.request.Mode.TheVariants.{Links, Report, Run, Solo, Stats}
 use Rattle.command_words.specs.Requests.{FileNames, Number, RequestView, form, study_of}
 use Rattle.command_words.specs.Requests.{live_by as live_of}
+use Rattle.command_words.specs.Requests.{watch_by as watch_of}
 
 -- the words of a line, which one space parts
 abbrev pub words_of : List ℕ → List (List ℕ)
@@ -39,6 +40,10 @@ solo_fast = of_m_and_s (Solo (codes "fast")) 1
 abbrev pub live_by : ℕ → Option RequestView
 live_by workers = Some (live_of (codes "m") (codes "s") workers)
 
+-- all clones of the texts m and s, with the watches of the text w, by this number of workers
+abbrev pub watch_by : ℕ → Option RequestView
+watch_by workers = Some (watch_of (codes "m") (codes "s") (codes "w") workers)
+
 -- the report of what is made of a number, by this number of workers
 abbrev pub gen_by : ℕ → ℕ → Option RequestView
 gen_by number workers = Some (study_of (Number number) Report workers)
@@ -54,7 +59,9 @@ modes =
     ∷ line (codes "solo m s --clone fast") solo_fast
     ∷ line (codes "live m s") (live_by 1)
     ∷ line (codes "gen 7") (gen_by 7 1)
+    ∷ line (codes "watch m s w") (watch_by 1)
     ∷ line (codes "stats m s") (of_m_and_s Stats 1)
+    ∷ line (codes "links m s") (of_m_and_s Links 1)
     ∷ line (codes "walk m s") None
     ∷ line (codes "Run m s") None
     ∷ line (codes "report m s") None
@@ -69,6 +76,7 @@ option_values =
     ∷ line (codes "solo m s --clone=fast") solo_fast
     ∷ line (codes "live m s --workers 4") (live_by 4)
     ∷ line (codes "stats m s --workers 2") (of_m_and_s Stats 2)
+    ∷ line (codes "links m s --workers=3") (of_m_and_s Links 3)
     -- no value, or an empty one
     ∷ line (codes "run m s --workers") None
     ∷ line (codes "run m s --workers=") None
@@ -85,6 +93,7 @@ option_places =
     ∷ line (codes "run --workers=4 m s") (run_by 4)
     ∷ line (codes "run m --workers 4 s") (run_by 4)
     ∷ line (codes "--clone fast solo m s") solo_fast
+    ∷ line (codes "watch m s --workers 4 w") (watch_by 4)
     ∷ line (codes "gen --workers 16 999999") (gen_by 999999 16)
     ∷ []
 
@@ -123,10 +132,15 @@ positionals =
     ∷ line (codes "live m s t") None
     ∷ line (codes "stats m") None
     ∷ line (codes "stats m s t") None
+    ∷ line (codes "links m s t") None
+    ∷ line (codes "watch m s") None
+    ∷ line (codes "watch m s w x") None
     ∷ line (codes "gen") None
     ∷ line (codes "gen 7 8") None
     ∷ line (codes "run  s") None
     ∷ line (codes "solo m  --clone fast") None
+    ∷ line (codes "watch m  w") None
+    ∷ line (codes "watch m s ") None
     ∷ line (codes " m s") None
     ∷ []
 
@@ -137,6 +151,8 @@ options_of_modes =
     ∷ line (codes "live m s --clone x") None
     ∷ line (codes "gen 7 --clone fast") None
     ∷ line (codes "stats m s --clone fast") None
+    ∷ line (codes "watch m s w --clone fast") None
+    ∷ line (codes "links m s --clone fast") None
     ∷ line (codes "solo m s --clone fast --workers 4") None
     ∷ line (codes "solo m s") None
     -- what is no name

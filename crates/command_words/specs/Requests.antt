@@ -6,7 +6,7 @@ use Rattle.sim_base.specs.Names.{is_name}
 use Rattle.command_words.specs.declared.request.Assignment.{Assignment}
 use Rattle.command_words.specs.declared.request.Assignment.TheVariants as task
 use Rattle.command_words.specs.declared.request.Mode.{Mode}
-use Rattle.command_words.specs.declared.request.Mode.TheVariants.{Report, Run, Solo, Stats}
+use Rattle.command_words.specs.declared.request.Mode.TheVariants.{Links, Report, Run, Solo, Stats}
 use Rattle.command_words.specs.declared.request.Request.{Request}
 use Rattle.command_words.specs.declared.request.Source.{Source}
 use Rattle.command_words.specs.declared.request.Source.TheVariants as origin
@@ -20,11 +20,12 @@ pub data SourceView : Type 0 where
   FileNames : List ℕ → List ℕ → SourceView
   Number : ℕ → SourceView
 
--- an assignment, whoever does it: a study of a model and a script in a mode, or a study of two files, the model and
--- the script, while analysts decide
+-- an assignment, whoever does it: a study of a model and a script in a mode; a study of two files, the model and the
+-- script, while analysts decide; or a study of three files, the third with watches
 pub data AssignmentView : Type 0 where
   Study : SourceView → Mode → AssignmentView
   Live : List ℕ → List ℕ → AssignmentView
+  Watch : List ℕ → List ℕ → List ℕ → AssignmentView
 
 -- what is asked, and by how many workers it is done
 pub record RequestView : Type 0 where
@@ -42,6 +43,7 @@ source_view (origin.Number number) = Number number
 abbrev pub assignment_view : Assignment → AssignmentView
 assignment_view (task.Study source mode) = Study (source_view source) mode
 assignment_view (task.Live model script) = Live model.now script.now
+assignment_view (task.Watch model script watches) = Watch model.now script.now watches.now
 
 -- and by how many workers
 abbrev pub request_view : Request → RequestView
@@ -83,11 +85,15 @@ study_of source mode workers = record { assignment = Study source mode; workers 
 abbrev pub live_by : List ℕ → List ℕ → ℕ → RequestView
 live_by model script workers = record { assignment = Live model script; workers = workers }
 
+-- a study with watches by this number of workers
+abbrev pub watch_by : List ℕ → List ℕ → List ℕ → ℕ → RequestView
+watch_by model script watches workers = record { assignment = Watch model script watches; workers = workers }
+
 -- what is asked, if neither name of a file is empty
 abbrev pub if_named : List ℕ → List ℕ → Option RequestView → Option RequestView
 if_named first second request = if is_text first && is_text second then request else None
 
--- `run MODEL SCRIPT [--workers N]` and `stats MODEL SCRIPT [--workers N]`
+-- `run MODEL SCRIPT [--workers N]`, and likewise `stats` and `links`
 abbrev pub study_form : Mode → List ℕ → List ℕ → GivenView → Option RequestView
 study_form mode model script v = if_named model script
     (option_map (study_of (FileNames model script) mode) (workers_alone v.workers v.clone))
@@ -101,6 +107,13 @@ live_form model script v = if_named model script
 abbrev pub solo_form : List ℕ → List ℕ → GivenView → Option RequestView
 solo_form model script v = if_named model script
     (option_map (λ name. study_of (FileNames model script) (Solo name) 1) (clone_alone v.workers v.clone))
+
+-- `watch MODEL SCRIPT WATCHES [--workers N]`
+abbrev pub watch_form : List ℕ → List ℕ → List ℕ → GivenView → Option RequestView
+watch_form model script watches v =
+    if is_text watches then if_named model script
+    (option_map (watch_by model script watches) (workers_alone v.workers v.clone))
+    else None
 
 -- `gen NUMBER [--workers N]`
 abbrev pub gen_form : List ℕ → GivenView → Option RequestView
@@ -119,12 +132,19 @@ form_of_two mode first second v =
     else if bytes_eq mode (codes "solo") then solo_form first second v
     else if bytes_eq mode (codes "live") then live_form first second v
     else if bytes_eq mode (codes "stats") then study_form Stats first second v
+    else if bytes_eq mode (codes "links") then study_form Links first second v
     else None
+
+-- the mode of three positionals more
+abbrev pub form_of_three : List ℕ → List ℕ → List ℕ → List ℕ → GivenView → Option RequestView
+form_of_three mode first second third v =
+    if bytes_eq mode (codes "watch") then watch_form first second third v else None
 
 -- the first positional is the mode, and the mode says how many follow
 abbrev pub by_positionals : List (List ℕ) → GivenView → Option RequestView
 by_positionals (mode ∷ first ∷ []) v = form_of_one mode first v
 by_positionals (mode ∷ first ∷ second ∷ []) v = form_of_two mode first second v
+by_positionals (mode ∷ first ∷ second ∷ third ∷ []) v = form_of_three mode first second third v
 by_positionals _ v = None
 
 -- what the values ask for, None if they have no known form

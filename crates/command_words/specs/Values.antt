@@ -8,8 +8,9 @@ pub record GivenView : Type 0 where
   pub positionals : List (List ℕ)
 
 -- those that are there, up to the first that isn't
-abbrev pub positionals_of : Option (List ℕ) → Option (List ℕ) → Option (List ℕ) → List (List ℕ)
-positionals_of None second third = []
-positionals_of (Some a) None third = a ∷ []
-positionals_of (Some a) (Some b) None = a ∷ b ∷ []
-positionals_of (Some a) (Some b) (Some c) = a ∷ b ∷ c ∷ []
+abbrev pub positionals_of : Option (List ℕ) → Option (List ℕ) → Option (List ℕ) → Option (List ℕ) → List (List ℕ)
+positionals_of None second third fourth = []
+positionals_of (Some a) None third fourth = a ∷ []
+positionals_of (Some a) (Some b) None fourth = a ∷ b ∷ []
+positionals_of (Some a) (Some b) (Some c) None = a ∷ b ∷ c ∷ []
+positionals_of (Some a) (Some b) (Some c) (Some d) = a ∷ b ∷ c ∷ d ∷ []

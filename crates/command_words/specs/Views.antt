@@ -9,5 +9,5 @@ given_view g = record {
   workers = option_map (λ s. s.now) g.workers;
   clone = option_map (λ s. s.now) g.clone;
   positionals = positionals_of (option_map (λ s. s.now) g.mode) (option_map (λ s. s.now) g.first)
-      (option_map (λ s. s.now) g.second);
+      (option_map (λ s. s.now) g.second) (option_map (λ s. s.now) g.third);
 }

@@ -39,7 +39,7 @@ fn with_arg<'a>(command: Command<'a>, arg: Arg<'a>) -> Result<Command<'a>, Alloc
     command.arg(arg)
 }
 
-/// The command: two options, and up to three positionals.
+/// The command: two options, and up to four positionals.
 pub(crate) fn command<'a>(alloc: Global) -> Result<Command<'a>, AllocError>
     ensures value { IfOk result (λ c. app_of c ≡ cloner_app) }
 {
@@ -47,5 +47,6 @@ pub(crate) fn command<'a>(alloc: Global) -> Result<Command<'a>, AllocError>
     let command = with_arg(command, option_arg(alloc, "clone"))?;
     let command = with_arg(command, positional_arg(alloc, "mode"))?;
     let command = with_arg(command, positional_arg(alloc, "first"))?;
-    with_arg(command, positional_arg(alloc, "second"))
+    let command = with_arg(command, positional_arg(alloc, "second"))?;
+    with_arg(command, positional_arg(alloc, "third"))
 }

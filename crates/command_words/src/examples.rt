@@ -5,7 +5,7 @@
 ghost use Rattle.command_words.specs.Examples.{AreRight, dashes, modes, numbers, option_names, option_places};
 ghost use Rattle.command_words.specs.Examples.{option_values, options_of_modes, positionals};
 
-/// The five modes, and what is none of them.
+/// The seven modes, and what is none of them.
 pub fn the_modes()
     ensures { AreRight modes }
 {}

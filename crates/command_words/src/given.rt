@@ -3,7 +3,7 @@ ghost use Rattle.std.specs.Prelude.{◌≡◌, ◌↔◌, IfOk, IsTrue, true, op
 ghost use Rattle.std.specs.List.{list_all};
 ghost use Rattle.std.specs.Str.{is_utf8};
 ghost use Rattle.clap.specs.Words.{kind_of};
-ghost use Rattle.command_words.specs.Clap.{up_to_three};
+ghost use Rattle.command_words.specs.Clap.{up_to_four};
 ghost use Rattle.command_words.specs.Requests.{form, form_of};
 ghost use Rattle.command_words.specs.Rules.{values};
 ghost use Rattle.command_words.specs.Views.{given_view};
@@ -20,6 +20,7 @@ pub(crate) struct Given<'a> {
     pub(crate) mode: Option<&'a str>,
     pub(crate) first: Option<&'a str>,
     pub(crate) second: Option<&'a str>,
+    pub(crate) third: Option<&'a str>,
     pub(crate) workers: Option<&'a str>,
     pub(crate) clone: Option<&'a str>,
 }
@@ -47,13 +48,13 @@ fn note_texts(words: &[Word])
     }
 }
 
-/// The values that the words give, None where they break a rule or there are more than three positionals.
+/// The values that the words give, None where they break a rule or there are more than four positionals.
 pub(crate) fn given_words<'a>(
     alloc: Global,
     words: &'a [Word],
 ) -> Result<Option<Given<'a>>, AllocError>
     // the library finds the values of the rules
-    ensures value { IfOk result (λ g. option_map given_view g ≡ option_and_then up_to_three
+    ensures value { IfOk result (λ g. option_map given_view g ≡ option_and_then up_to_four
         (values words.entry.now)) }
 
     // they ask for what the words ask for
@@ -73,6 +74,7 @@ pub(crate) fn given_words<'a>(
         mode: matches.get_str("mode"),
         first: matches.get_str("first"),
         second: matches.get_str("second"),
+        third: matches.get_str("third"),
         workers: matches.get_str("workers"),
         clone: matches.get_str("clone"),
     }))

@@ -4,7 +4,7 @@
 ghost use Rattle.command_words.specs.Clap.{ClapFindsTheValues};
 ghost use Rattle.command_words.specs.Requests.{MadeIsReported};
 
-/// In each list of texts, `clap` finds for its command the values that the rules find, word by word; more than three
+/// In each list of texts, `clap` finds for its command the values that the rules find, word by word; more than four
 /// positionals it refuses, and so does every form.
 pub fn clap_finds_the_values()
     ensures { ClapFindsTheValues }

@@ -1,13 +1,15 @@
 //! The words of the command line, read with `clap`.
 //!
-//! A planner says which study is to be run in one of five ways; options stand anywhere before a word `--`:
+//! A planner says which study is to be run in one of seven ways; options stand anywhere before a word `--`:
 //!
 //! ```text
-//! cloner run MODEL SCRIPT [--workers N]     all clones of a script
-//! cloner solo MODEL SCRIPT --clone NAME     one clone alone
-//! cloner live MODEL SCRIPT [--workers N]    all clones of a script, while analysts decide
-//! cloner gen NUMBER [--workers N]           a made study, all its clones
-//! cloner stats MODEL SCRIPT [--workers N]   all clones of a script: the statistics of their servers
+//! cloner run MODEL SCRIPT [--workers N]             all clones of a script
+//! cloner solo MODEL SCRIPT --clone NAME             one clone alone
+//! cloner live MODEL SCRIPT [--workers N]            all clones of a script, while analysts decide
+//! cloner gen NUMBER [--workers N]                   a made study, all its clones
+//! cloner watch MODEL SCRIPT WATCHES [--workers N]   all clones of a script, and the branches that watches make
+//! cloner stats MODEL SCRIPT [--workers N]           all clones of a script: the statistics of their servers
+//! cloner links MODEL SCRIPT [--workers N]           all clones of a script, kept in step by the clocks of links
 //! ```
 //!
 //! `read_words` gives a `Request`: what is to be done (`Assignment`), and the workers. An assignment has no workers, so
@@ -19,7 +21,7 @@
 //! request.workers                               // 4
 //! ```
 //!
-//! The parse takes memory, once, for a command of five arguments and for the words. Here rests the promise that a
+//! The parse takes memory, once, for a command of six arguments and for the words. Here rests the promise that a
 //! command line of no known form is refused before anything is read, and that none is taken for another.
 #![tactic(auto)]
 

@@ -1,8 +1,8 @@
 //! The reading of a command line: from its words to a request.
 ghost use Rattle.std.specs.Prelude.{◌≡◌, ◌⊎◌, ◌≤◌, IfOk, IfSome, None, Err, option_map};
 ghost use Rattle.command_words.specs.Requests.{clone_alone as clone_alone_of, form, form_of, form_of_one};
-ghost use Rattle.command_words.specs.Requests.{form_of_two, gen_form, is_text as is_text_of, live_form};
-ghost use Rattle.command_words.specs.Requests.{request_view, solo_form, study_form};
+ghost use Rattle.command_words.specs.Requests.{form_of_three, form_of_two, gen_form, is_text as is_text_of};
+ghost use Rattle.command_words.specs.Requests.{live_form, request_view, solo_form, study_form, watch_form};
 ghost use Rattle.command_words.specs.Requests.{workers_alone as workers_alone_of, workers_of as workers_in};
 ghost use Rattle.command_words.specs.Views.{given_view};
 
@@ -57,7 +57,7 @@ fn clone_alone(given: &Given) -> Option<Name>
     }
 }
 
-// `run MODEL SCRIPT [--workers N]` and `stats MODEL SCRIPT [--workers N]`
+// `run MODEL SCRIPT [--workers N]`, and likewise `stats` and `links`
 fn study_request<'a>(
     mode: Mode,
     model: &'a str,
@@ -107,6 +107,30 @@ fn solo_request<'a>(model: &'a str, script: &'a str, given: &Given) -> Option<Re
     })
 }
 
+// `watch MODEL SCRIPT WATCHES [--workers N]`
+fn watch_request<'a>(
+    model: &'a str,
+    script: &'a str,
+    watches: &'a str,
+    given: &Given,
+) -> Option<Request<'a>>
+    ensures value { option_map request_view result ≡ watch_form model.entry.now script.entry.now watches.entry.now
+        (given_view given.now) }
+{
+    if !is_text(watches) || !is_text(model) || !is_text(script) {
+        return None;
+    }
+    let workers = workers_alone(given)?;
+    Some(Request {
+        assignment: Assignment::Watch {
+            model,
+            script,
+            watches,
+        },
+        workers,
+    })
+}
+
 // `gen NUMBER [--workers N]`
 fn gen_request<'a>(number: &str, given: &Given) -> Option<Request<'a>>
     ensures value { option_map request_view result ≡ gen_form number.now (given_view given.now) }
@@ -152,6 +176,26 @@ fn request_of_two<'a>(
         live_request(first, second, given)
     } else if mode == "stats" {
         study_request(Mode::Stats, first, second, given)
+    } else if mode == "links" {
+        study_request(Mode::Links, first, second, given)
+    } else {
+        None
+    }
+}
+
+// What a mode with three more positionals asks for.
+fn request_of_three<'a>(
+    mode: &str,
+    first: &'a str,
+    second: &'a str,
+    third: &'a str,
+    given: &Given,
+) -> Option<Request<'a>>
+    ensures value { option_map request_view result ≡ form_of_three mode.now first.entry.now second.entry.now
+        third.entry.now (given_view given.now) }
+{
+    if mode == "watch" {
+        watch_request(first, second, third, given)
     } else {
         None
     }
@@ -163,9 +207,10 @@ fn request_of<'a>(given: &Given<'a>) -> Option<Request<'a>>
 {
     let mode = given.mode?;
     let first = given.first?;
-    match given.second {
-        None => request_of_one(mode, first, given),
-        Some(second) => request_of_two(mode, first, second, given),
+    match (given.second, given.third) {
+        (None, _) => request_of_one(mode, first, given),
+        (Some(second), None) => request_of_two(mode, first, second, given),
+        (Some(second), Some(third)) => request_of_three(mode, first, second, third, given),
     }
 }
 

@@ -19,6 +19,8 @@ pub enum Mode {
     Report,
     /// All of them: the statistics of their servers.
     Stats,
+    /// All of them, kept in step by the clocks of links: their traces, the report, and the number of rounds.
+    Links,
     /// The one of this name, alone: its trace.
     Solo(Name),
 }
@@ -36,9 +38,21 @@ pub enum Source<'a> {
 #[derive(Clone, Copy, Debug)]
 pub enum Assignment<'a> {
     /// A study of a model and a script.
-    Study { source: Source<'a>, mode: Mode },
+    Study {
+        source: Source<'a>,
+        mode: Mode,
+    },
     /// A study of two files, the model and the script, whose analysts decide while it runs.
-    Live { model: &'a str, script: &'a str },
+    Live {
+        model: &'a str,
+        script: &'a str,
+    },
+    /// A study of three files, the model, the script and the watches, which make branches while it runs.
+    Watch {
+        model: &'a str,
+        script: &'a str,
+        watches: &'a str,
+    },
 }
 
 /// What is to be done, and by how many workers.

@@ -11,7 +11,8 @@ returns c =
     let two = c.in_ok-command-2.ensures.value ∙ ap₂ with_rule one c.option_arg-2.ensures.rule in
     let three = c.in_ok-command-3.ensures.value ∙ ap₂ with_rule two c.positional_arg.ensures.rule in
     let four = c.in_ok-command-4.ensures.value ∙ ap₂ with_rule three c.positional_arg-2.ensures.rule in
+    let five = c.in_ok-command-5.ensures.value ∙ ap₂ with_rule four c.positional_arg-3.ensures.rule in
     record {
-      value = IfOk-weaker c.with_arg-5.result _ _
-          (λ m h. h ∙ ap₂ with_rule four c.positional_arg-3.ensures.rule) c.with_arg-5.ensures.value;
+      value = IfOk-weaker c.with_arg-6.result _ _
+          (λ m h. h ∙ ap₂ with_rule five c.positional_arg-4.ensures.rule) c.with_arg-6.ensures.value;
     }

@@ -2,7 +2,7 @@ use Rattle.std.proofs.Common.{◌≡◌, ap, ◌∙◌, map, map-id, [], None, S
 use Rattle.clap.specs.Words.{App, app_of, is_simple, is_simple_and_free, fault_of}
 use Rattle.clap.specs.Words.{matches_of, HasKind, rows_of, found_of}
 use Rattle.command_words.specs.Application.{cloner_app}
-use Rattle.command_words.specs.Clap.{clap_values, up_to_three}
+use Rattle.command_words.specs.Clap.{clap_values, up_to_four}
 use Rattle.command_words.specs.Rules.{values}
 use Rattle.command_words.specs.Views.{given_view}
 use Rattle.command_words.proofs.Bridge.{clap_finds_the_values}
@@ -17,7 +17,7 @@ returns-in-Err c =
     let fails : HasKind (fault_of cloner_app words) c.in-Err.error =
     subst (λ (a : App). HasKind (fault_of a words) c.in-Err.error) is
     (c.in-Err.ensures.kinds (ap is_simple_and_free is ∙ is_simple_and_free-cloner_app)) in
-    let same : None ≡ option_and_then up_to_three (values c.args.words.now) =
+    let same : None ≡ option_and_then up_to_four (values c.args.words.now) =
     refused_words words c.in-Err.error fails (λ k. let bad = c.if-is_memory.ensures.value.1 k in absurd cc)
     ∙ ap clap_values (map-id c.args.words.now)
     ∙ clap_finds_the_values c.args.words.now c.note_texts.ensures.texts in
@@ -36,14 +36,16 @@ returns c =
       mode = c.get_str.result;
       first = c.get_str-2.result;
       second = c.get_str-3.result;
-      workers = c.get_str-4.result;
-      clone = c.get_str-5.result;
-    })) ≡ option_and_then up_to_three (values c.args.words.now) = rw (
+      third = c.get_str-4.result;
+      workers = c.get_str-5.result;
+      clone = c.get_str-6.result;
+    })) ≡ option_and_then up_to_four (values c.args.words.now) = rw (
       c.get_str.ensures,
       c.get_str-2.ensures,
       c.get_str-3.ensures,
       c.get_str-4.ensures,
       c.get_str-5.ensures,
+      c.get_str-6.ensures,
     ) (read_words words c.in-Ok.matches none rows ∙ ap clap_values (map-id c.args.words.now)
     ∙ clap_finds_the_values c.args.words.now c.note_texts.ensures.texts) in
     record { value = same; asks = form_found c.args.words.now (Some _) same }
