@@ -197,6 +197,7 @@ MayOpen-follows : (racks : List RackView) (i : ℕ) (r : RackView) → MayOpen r
 MayOpen-follows racks i r may e = of_part racks i (λ j q l f. record {
   net = may.net j i q r f e;
   later = λ same. let h = may.each j q f in let g = may.each i r e in absurd (omega (arith, h, g, same, l));
+  within = λ same. let h = may.each j q f in let g = may.each i r e in absurd (omega (arith, h, g, same, l));
 })
   where
     of_part : (xs : List RackView) (i : ℕ)

@@ -6,10 +6,12 @@ use mathlib.Core.List.{IsPrefix}
 use Rattle.phys_proc.specs.Racks.{RackView, FindsClone}
 use Rattle.phys_proc.specs.declared.rack.Glance.{Glance}
 
--- rack r may come later than rack q: it is of the same network, and of q's station it shows a later front
+-- rack r may come later than rack q: it is of the same network, and of q's station it shows a later front, up to the
+-- horizon
 pub record MayComeAfter (r q : RackView) : Type 0 where
   pub net : r.net ≡ q.net
   pub later : q.station ≡ r.station → q.front < r.front
+  pub within : q.station ≡ r.station → r.front ≤ r.net.horizon
 
 -- rack r may be published after these
 abbrev pub MayBePublished : List RackView → RackView → Type 0

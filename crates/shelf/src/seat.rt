@@ -108,10 +108,13 @@ impl<J: Naming> Seat<J> {
     pub fn learn(&mut self, told: Told<J>)
         ensures begins { IsPrefix self.old self.new }
         ensures told { IsPrefix told self.new }
+        ensures legal { AreLegal self.new }
     {
         let Told { version } = told;
         if is_behind(self.newest.published(), version.published()) {
             self.newest = version;
         }
+        // for its clause
+        let _legal = self.newest.published().len();
     }
 }

@@ -1,6 +1,6 @@
 //! The writer: the one that publishes racks.
 ghost use Rattle.std.specs.Prelude.{All, ◌≡◌, ◌+◌, ◌<◌, ◌≤◌, ◌++◌, ◌∷◌, []};
-ghost use Rattle.std.specs.Prelude.{length, map, List, Some, IfOk, IfSome, IfNone, OnOk, OnErr};
+ghost use Rattle.std.specs.Prelude.{length, map, true, false, List, Some, IfOk, IfSome, IfNone, OnOk, OnErr};
 ghost use Rattle.std.specs.Arc.{arc_value};
 ghost use Rattle.left_right.specs.Handles.{published as shown_version};
 ghost use Rattle.net_model.specs.declared.limits.TheConstants.{MOST_STATIONS};
@@ -104,6 +104,8 @@ where
     newest: Arc<Version<J>>,
     /// The racks that were published, the opening ones first.
     pub published: PublishedRacks<J>,
+    /// Whether a rack was published since the opening ones.
+    pub has_published: bool,
     /// How many readers there are.
     pub readers: u32,
     /// A handle for each reader that was not told of the last publish.
@@ -146,10 +148,12 @@ where
         requires there { HasRack rack.station self.old.published }
         requires may { MayBePublished self.old.published rack }
         ensures published { OnOk result (self.new.published ≡ self.old.published ++ rack ∷ []) }
+        ensures tells { OnOk result (self.new.has_published ≡ true) }
         ensures spares { OnOk result (length self.new.spares.items ≡ self.old.readers) }
         ensures readers { self.new.readers ≡ self.old.readers }
         ensures same { OnErr result ((self.new.published ≡ self.old.published)
-            × (self.new.spares.items ≡ self.old.spares.items)) }
+            × (self.new.spares.items ≡ self.old.spares.items)
+            × (self.new.has_published ≡ self.old.has_published)) }
         ensures shown { OnErr result (shown_version self.new.writer ≡ shown_version self.old.writer) }
     {
         if self.published.len() >= MOST_RACKS {
@@ -170,19 +174,29 @@ where
         self.writer.publish()?;
         self.published = next;
         self.newest = newest;
+        self.has_published = true;
         self.spares = spares;
         Ok(())
     }
 
-    /// Tells what was published, once for each reader since the last publish. It takes no memory.
+    /// Tells what was published, once for each reader since the last publish: `None` exactly if nothing was published
+    /// since the opening racks. It takes no memory.
     pub fn told(&mut self) -> Option<Told<J>>
-        ensures some { IfSome result (λ t. (t ≡ self.old.published)
+        // not each reader was told of the last publish
+        requires left { self.old.has_published ≡ true → 1 ≤ length self.old.spares.items }
+        ensures some { IfSome result (λ t. (t ≡ self.old.published) × (self.old.has_published ≡ true)
             × (length self.old.spares.items ≡ length self.new.spares.items + 1)) }
-        ensures none { IfNone result (length self.old.spares.items ≡ 0) }
+        ensures none { IfNone result (self.old.has_published ≡ false) }
         ensures published { self.new.published ≡ self.old.published }
+        ensures has_published { self.new.has_published ≡ self.old.has_published }
         ensures readers { self.new.readers ≡ self.old.readers }
     {
-        let version = self.spares.pop()?;
+        if !self.has_published {
+            return None;
+        }
+        let Some(version) = self.spares.pop() else {
+            unreachable!()
+        };
         Some(Told { version })
     }
 }
@@ -233,6 +247,7 @@ pub fn begin<J: Naming, R: Wait + Drop>(
     // what it gives: a stocker that has published these racks, without spares
     ensures published { IfOk result (λ r. r.0.published ≡ racks.items) }
     ensures readers { IfOk result (λ r. r.0.readers ≡ readers) }
+    ensures quiet { IfOk result (λ r. r.0.has_published ≡ false) }
     ensures spares { IfOk result (λ r. r.0.spares.items ≡ []) }
     // and a seat for each reader, which has them
     ensures many { IfOk result (λ r. length r.1.items ≡ readers) }
@@ -255,6 +270,7 @@ pub fn begin<J: Naming, R: Wait + Drop>(
         history,
         newest: version,
         published,
+        has_published: false,
         readers,
         spares: Vec::new(alloc),
     };
