@@ -17,7 +17,7 @@ use Rattle.shelf.proofs.Legals.{HasRack-push, latest-with}
 use Rattle.world_core.specs.Worlds.{WorldView}
 use Rattle.live_study.specs.Engines.{InStep}
 use Rattle.live_study.specs.Looks.{AreAtFront, HasRacks, IsRackOf}
-use Rattle.live_study.specs.Showing.{AreShownOf, AreShownTo, Raises}
+use Rattle.live_study.specs.Showing.{AreShownOf, AreShownTo, Raises, TellsEach}
 use Rattle.live_study.proofs.Stepping.{front_after}
 
 -- ---- journals that go on
@@ -74,22 +74,23 @@ round_begins old new w v published h net r same rises = record {
 MayBePublished-next : (h : HelmView) (w : WorldView) (done : ℕ) (r : RackView) (published : List RackView)
     → AllByRecursion (IsRackOf h.net h.helm) published
     → AllByRecursion (λ (q : RackView). done < q.station → q.front < w.front) published
-    → r.net ≡ h.net → r.station ≡ done + 1 → r.front ≡ w.front → MayBePublished published r
-MayBePublished-next h w done r [] racks below net station front = tt
-MayBePublished-next h w done r (q ∷ published) racks below net station front = (
+    → r.net ≡ h.net → r.station ≡ done + 1 → r.front ≡ w.front → r.front ≤ r.net.horizon → MayBePublished published r
+MayBePublished-next h w done r [] racks below net station front within = tt
+MayBePublished-next h w done r (q ∷ published) racks below net station front within = (
   record {
     net = net ∙ sym racks.0.net_is;
     later = λ same. let less : q.front < w.front = below.0 (omega (arith, same, station)) in omega (arith, less, front);
+    within = λ same. within;
   },
-  MayBePublished-next h w done r published racks.1 below.1 net station front,
+  MayBePublished-next h w done r published racks.1 below.1 net station front within,
 )
 
 -- the rack of the next station may be published
 may_publish : (h : HelmView) (w : WorldView) (done : ℕ) (r : RackView) (published : List RackView)
     → AreShownTo h w done published → r.net ≡ h.net → r.station ≡ done + 1 → r.front ≡ w.front
-    → MayBePublished published r
-may_publish h w done r published shown net station front =
-    MayBePublished-next h w done r published shown.up_to.racks shown.below net station front
+    → r.front ≤ r.net.horizon → MayBePublished published r
+may_publish h w done r published shown net station front within =
+    MayBePublished-next h w done r published shown.up_to.racks shown.below net station front within
 
 -- the last rack of a station, with one rack more, by whether that is of the station
 is_last : (s : ℕ) (racks : List RackView) (r : RackView) (b : Bool) → (r.station == s) ≡ b
@@ -144,13 +145,15 @@ round_skips h w done published shown not = record {
 -- ---- AreShownTo, at a station: all before it are done
 -- its rack may be published
 pub may_show : (h : HelmView) (w : WorldView) (station : ℕ) (r : RackView) (published : List RackView)
-    → HasStation w.net station → AreShownTo h w (station - 1) published → w.net ≡ h.net → r.net ≡ w.net
-    → r.station ≡ station → r.front ≡ w.front → HasRack r.station published × MayBePublished published r
-may_show h w station r published is shown of net own front =
+    → HasStation w.net station → AreShownTo h w (station - 1) published → w.net ≡ h.net → w.front ≤ w.net.horizon
+    → r.net ≡ w.net → r.station ≡ station → r.front ≡ w.front
+    → HasRack r.station published × MayBePublished published r
+may_show h w station r published is shown of within net own front =
     let low = is.low in
     let next : r.station ≡ station - 1 + 1 = omega (arith, own, low) in (
       subst (λ s. HasRack s published) (sym own) (shown.up_to.there station is),
-      may_publish h w (station - 1) r published shown (net ∙ of) next front,
+      may_publish h w (station - 1) r published shown (net ∙ of) next front
+          (let same = ap (λ (n : Net). n.horizon) net in omega (arith, within, front, same)),
     )
 
 -- and then it is shown
@@ -173,3 +176,10 @@ shows_if h w station r published new (Ok u) low shown at of net clones own front
     subst (λ racks. AreShownTo h w station racks) (sym is)
     (shows_more h w station r published low shown at of net clones own front)
 shows_if h w station r published new (Err e) low shown at of net clones own front is = tt
+
+-- ---- TellsEach
+-- a publish leaves a handle for each reader
+pub tells_if : {E : Type 0} (end : Result (Unit {0}) E) (has_published : Bool) (old new spares : ℕ) → new ≡ old
+    → OnOk end (has_published ≡ true) → OnOk end (spares ≡ old) → OnOk end (TellsEach new has_published spares)
+tells_if (Ok u) has_published old new spares same is left = (is, left ∙ sym same)
+tells_if (Err e) has_published old new spares same is left = tt

@@ -1,7 +1,7 @@
--- The looks that analysts have made, once all have come to the horizon.
+-- The looks that analysts have made, once the run has come to the horizon.
 use Rattle.std.proofs.Common.{◌≡◌, ℕ, suc, ◌<◌, Bool, true, List, [], ◌∷◌, length, map}
 use Rattle.std.proofs.Common.{◌≤◌, Option, Some, None, IfSome}
-use Rattle.std.proofs.Common.{Result, Ok, Err, IfOk, refl, sym, ap, ap₂, ◌∙◌, subst, arith, slice_index_or}
+use Rattle.std.proofs.Common.{Result, Ok, Err, IfOk, is_ok, refl, sym, ap, ap₂, ◌∙◌, subst, arith, slice_index_or}
 use Rattle.std.specs.List.{AllByRecursion}
 use mathlib.Core.List.{IsPrefix}
 use Rattle.sim_base.specs.Reserved.{ReservedView}
@@ -20,7 +20,7 @@ use Rattle.live_study.specs.Engines.{InStep}
 use Rattle.live_study.specs.Lives.{AreSeenLooks, AreTrueLooks, all_looks, looks_made}
 use Rattle.live_study.specs.Looks.{IsReadLook, IsTrueLook, NeverFall, SeesItsStation, WasRead}
 use Rattle.live_study.specs.Scripts.{looks_in}
-use Rattle.live_study.specs.Showing.{AllCaughtUp, AreShownOf, HasLooked, looks_to_make}
+use Rattle.live_study.specs.Showing.{AllReadOneHistory, AreShownOf, HasLooked, looks_to_make}
 use Rattle.live_study.proofs.Counting.{SameAt}
 use Rattle.live_study.proofs.Truth.{true_look}
 
@@ -107,7 +107,7 @@ seen_all net seated looks all are = record {
 -- all that they saw is true
 true_looks : (net : Net) (h : HelmView) (w : WorldView) (events : List Event) (published : List RackView)
     (seated : List SeatedAnalyst) → h.net ≡ net → w.net ≡ net → w.front ≡ w.net.horizon → IsPrefix h.helm events
-    → AreShownOf h w published → AllCaughtUp net published seated → AllLooked net seated
+    → AreShownOf h w published → AllReadOneHistory published seated → AllLooked net seated
     → AllByRecursion (IsTrueLook net events) (all_looks (looks_of seated))
 true_looks net h w events published [] of world last begins shown up all = tt
 true_looks net h w events published (a ∷ more) of world last begins shown up all =
@@ -120,21 +120,20 @@ true_looks net h w events published (a ∷ more) of world last begins shown up a
 told_at_horizon : (net : Net) (h : HelmView) (w : WorldView) (events : List Event) (published : List RackView)
     (seated : List SeatedAnalyst) (looks : List (ReservedView Looked)) → h.net ≡ net → InStep h w
     → w.front ≡ w.net.horizon → OnlyCalls h.helm events → AreShownOf h w published
-    → AllCaughtUp net published seated → AllLooked net seated → looks ≡ looks_of seated → AreTrueLooks net events looks
+    → AllReadOneHistory published seated → AllLooked net seated → looks ≡ looks_of seated
+    → AreTrueLooks net events looks
 told_at_horizon net h w events published seated looks of in_step last calls shown up all are =
     subst (λ ls. AllByRecursion (IsTrueLook net events) (all_looks ls)) (sym are)
     (true_looks net h w events published seated of (in_step.net ∙ of) last (map NewCall calls.0, sym calls.1) shown up
     all)
 
--- and it is, where the run is handed back as finished
+-- and it is, where the run is finished
 pub told_if : (net : Net) (h : HelmView) (events : List Event) (published : List RackView) (seated : List SeatedAnalyst)
-    (looks : List (ReservedView Looked)) (caught_up : Bool) (run end : Result WorldView StudyFault) → h.net ≡ net
+    (looks : List (ReservedView Looked)) (finished : Bool) (run : Result WorldView StudyFault) → h.net ≡ net
     → OnlyCalls h.helm events → IfOk run (λ w. InStep h w × (w.front ≡ w.net.horizon))
-    → IfOk run (λ w. AreShownOf h w published) → (caught_up ≡ true → AllCaughtUp net published seated)
-    → AllLooked net seated → looks ≡ looks_of seated
-    → IfOk end (λ w. (caught_up ≡ true) × (run ≡ Ok w)) → IfOk end (λ w. AreTrueLooks net events looks)
-told_if net h events published seated looks caught_up run (Err e) of calls in_step shown up all are ok = tt
-told_if net h events published seated looks caught_up run (Ok w) of calls in_step shown up all are ok =
-    let at = subst (λ r. IfOk r (λ v. InStep h v × (v.front ≡ v.net.horizon))) ok.1 in_step in
-    told_at_horizon net h w events published seated looks of at.0 at.1 calls
-    (subst (λ r. IfOk r (λ v. AreShownOf h v published)) ok.1 shown) (up ok.0) all are
+    → IfOk run (λ w. AreShownOf h w published) → finished ≡ is_ok run
+    → (finished ≡ true → AllReadOneHistory published seated) → AllLooked net seated → looks ≡ looks_of seated
+    → IfOk run (λ w. AreTrueLooks net events looks)
+told_if net h events published seated looks finished (Err e) of calls in_step shown is read all are = tt
+told_if net h events published seated looks finished (Ok w) of calls in_step shown is read all are =
+    told_at_horizon net h w events published seated looks of in_step.0 in_step.1 calls shown (read is) all are

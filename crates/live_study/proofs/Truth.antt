@@ -14,11 +14,11 @@ use Rattle.decision_desk.specs.Passes.{HelmView}
 use Rattle.phys_proc.specs.Racks.{RackView, FindsClone}
 use Rattle.phys_proc.specs.declared.rack.Glance.{Glance}
 use Rattle.shelf.specs.Racks.{AreLegal, IsGlance, MayComeAfter, latest, or_this}
-use Rattle.shelf.proofs.Legals.{front-later, latest-all}
+use Rattle.shelf.proofs.Legals.{latest-all}
 use Rattle.shelf.proofs.Prefixes.{prefix_shorter}
 use Rattle.journal_text.specs.declared.looked.Looked.{Looked}
 use Rattle.world_core.specs.Worlds.{WorldView}
-use Rattle.live_study.specs.Looks.{AreAtFront, AreCaughtUp, IsAt, IsCaughtUp, IsRackOf}
+use Rattle.live_study.specs.Looks.{AreAtFront, AreOfOneHistory, IsAt, IsRackOf}
 use Rattle.live_study.specs.Looks.{IsReadLook, IsTrueGlance, IsTrueLook, WasRead}
 use Rattle.live_study.specs.Showing.{AreShownOf}
 use Rattle.live_study.proofs.Publishing.{rack_later}
@@ -29,23 +29,23 @@ legal_left : (xs ys : List RackView) → AreLegal (xs ++ ys) → AreLegal xs
 legal_left [] ys legal = tt
 legal_left (x ∷ xs) ys legal = (all_left (λ (r : RackView). MayComeAfter r x) xs ys legal.0, legal_left xs ys legal.1)
 
--- a later rack of a station has a later front
-strictly_later : (s : ℕ) (xs ys : List RackView) (p q : RackView) → AreLegal (xs ++ ys) → latest s xs ≡ Some p
-    → latest s ys ≡ Some q → p.front < q.front
-strictly_later s [] ys p q legal e f = absurd (cc)
-strictly_later s (x ∷ xs) ys p q legal e f =
-    by_rest (λ g. strictly_later s xs ys p q legal.1 g f) (latest s xs) refl (x.station == s) refl e
+-- a later rack of a station may come after an earlier one
+comes_after : (s : ℕ) (xs ys : List RackView) (p q : RackView) → AreLegal (xs ++ ys) → latest s xs ≡ Some p
+    → latest s ys ≡ Some q → MayComeAfter q p × (p.station ≡ q.station)
+comes_after s [] ys p q legal e f = absurd (cc)
+comes_after s (x ∷ xs) ys p q legal e f =
+    by_rest (λ g. comes_after s xs ys p q legal.1 g f) (latest s xs) refl (x.station == s) refl e
   where
-    by_rest : (latest s xs ≡ Some p → p.front < q.front) → (o : Option RackView) → latest s xs ≡ o → (b : Bool)
-        → (x.station == s) ≡ b → or_this o b x ≡ Some p → p.front < q.front
+    by_rest : (latest s xs ≡ Some p → MayComeAfter q p × (p.station ≡ q.station)) → (o : Option RackView)
+        → latest s xs ≡ o → (b : Bool) → (x.station == s) ≡ b → or_this o b x ≡ Some p
+        → MayComeAfter q p × (p.station ≡ q.station)
     by_rest more (Some later) g b is e = more (g ∙ e)
     by_rest more None g true is e =
         let same : x ≡ p = cc in
         let here : x.station ≡ s = grind (arith, nat_tests, is) in
         let h = latest-all (λ (r : RackView). MayComeAfter r x) s ys q
         (all_right (λ (r : RackView). MayComeAfter r x) xs ys legal.0) f in
-        let less : x.front < q.front = h.0.later (here ∙ sym h.1) in
-        omega (arith, less, ap (λ (r : RackView). r.front) same)
+        subst (λ (r : RackView). MayComeAfter q r × (r.station ≡ q.station)) same (h.0, here ∙ sym h.1)
     by_rest more None g false is e = absurd (cc)
 
 -- where two lists have no rack of a station, the first has none
@@ -82,11 +82,12 @@ latest_in s (x ∷ xs) ys r e =
 abbrev Holds : (RackView → Type 0) → RackView → ℕ → Type 0
 Holds P r s = P r × (r.station ≡ s)
 
--- a rack that a seat has read is one of those that were published, where the seat came to the front of the last ones
-read_is_published : (P : RackView → Type 0) (front s : ℕ) (published read before : List RackView) (r : RackView)
-    → IsCaughtUp front published read s → IsAt front published s → AllByRecursion P published → IsPrefix before read
-    → latest s before ≡ Some r → Holds P r s
-read_is_published P front s published read before r up at all begins e =
+-- a rack of a station that a seat has read is one of those that were published, where the last of these is at the
+-- horizon
+read_is_published : (P : RackView → Type 0) (net : Net) (s : ℕ) (published read before : List RackView) (r : RackView)
+    → ((q : RackView) → P q → q.net ≡ net) → AreOfOneHistory published read → IsAt net.horizon published s
+    → AllByRecursion P published → IsPrefix before read → latest s before ≡ Some r → Holds P r s
+read_is_published P net s published read before r own up at all begins e =
     let whole : IsPrefix before up.all = prefix_trans before read up.all begins up.begins in
     ⊎_elim
     (λ (l : length before < length published + 1).
@@ -97,9 +98,11 @@ read_is_published P front s published read before r up at all begins e =
     ⊎_elim
     (λ (h : latest s p.0 ≡ Some r).
     let legal : AreLegal before = legal_left before whole.0 (subst AreLegal (sym whole.1) up.legal) in
-    let after = strictly_later s published p.0 at.0 r (subst AreLegal (sym p.1) legal) at.1 h in
-    let most = front-later s before up.all r up.last.0 up.legal whole e up.last.1 in
-    absurd (omega (arith, after, most, at.2, up.last.2)))
+    let after = comes_after s published p.0 at.0 r (subst AreLegal (sym p.1) legal) at.1 h in
+    let later : at.0.front < r.front = after.0.later after.1 in
+    let most : r.front ≤ r.net.horizon = after.0.within after.1 in
+    let same = ap (λ (n : Net). n.horizon) (after.0.net ∙ own at.0 (latest-all P s published at.0 all at.1).0) in
+    absurd (omega (arith, later, most, at.2, same)))
     (λ (h : latest s published ≡ Some r). latest-all P s published r all h)
     (latest_in s published p.0 r (subst (λ xs. latest s xs ≡ Some r) (sym p.1) e)))
     (cases_lt (length before) (length published + 1))
@@ -117,10 +120,10 @@ true_glance net events s who r g of station is = record {
       (subst (λ (n : Net). FindsClone n r.clones r.station r.front who g.found) of.net_is is.found));
 }
 
--- a look that was read at a seat which came to the horizon with what was published
+-- a look that was read at a seat of one history with what was published up to the horizon
 pub true_look : (net : Net) (h : HelmView) (w : WorldView) (events : List Event) (published read : List RackView)
     (l : Looked) → h.net ≡ net → w.net ≡ net → w.front ≡ w.net.horizon → IsPrefix h.helm events
-    → AreShownOf h w published → AreCaughtUp net published read → IsReadLook net read l → IsTrueLook net events l
+    → AreShownOf h w published → AreOfOneHistory published read → IsReadLook net read l → IsTrueLook net events l
 true_look net h w events published read l of world last begins shown up r = record {
   unknown = r.unknown;
   known = known_true l.glance r.known;
@@ -141,6 +144,6 @@ true_look net h w events published read l of world last begins shown up r = reco
         let at = shown.last last s low (subst (λ (n : Net). s ≤ length n.sites) (sym world) k.2) in
         let front : w.front ≡ net.horizon = last ∙ ap (λ (n : Net). n.horizon) world in
         let at_end : IsAt net.horizon published s = (at.0, at.1, at.2 ∙ front) in
-        let held = read_is_published (IsRackOf net events) net.horizon s published read k.3.before k.3.rack
-        (up s (record { low = low; high = k.2 })) at_end of_journal k.3.begins k.3.last in
+        let held = read_is_published (IsRackOf net events) net s published read k.3.before k.3.rack
+        (λ q h. h.net_is) up at_end of_journal k.3.begins k.3.last in
         (s, k.1, true_glance net events s l.who k.3.rack g held.0 held.1 k.3.glance)

@@ -20,6 +20,8 @@ pub record MayDrive (table : TableId) (h : HelmView) (w : WorldView) (published 
   pub in_step : InStep h w
   -- what is published is of this journal and this world
   pub shown : AreShownOf h w published
+  -- the world is before the horizon
+  pub ahead : w.front < w.net.horizon
 
 -- the helm may take a turn: it is one of the desk with this table, and the world stands where its journal has led,
 -- before the horizon

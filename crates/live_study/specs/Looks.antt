@@ -112,14 +112,9 @@ IsAt front racks s = (r : RackView) × (latest s racks ≡ Some r) × (r.front �
 abbrev pub AreAllAt : ℕ → ℕ → List RackView → Type 0
 AreAllAt many front racks = (s : ℕ) → 1 ≤ s → s ≤ many → IsAt front racks s
 
--- what a seat has read and what was published begin one legal list, in which the station's last rack is at this front
-pub record IsCaughtUp (front : ℕ) (published read : List RackView) (s : ℕ) : Type 0 where
+-- what a seat has read and what was published begin one legal list
+pub record AreOfOneHistory (published read : List RackView) : Type 0 where
   pub all : List RackView
   pub legal : AreLegal all
   pub begins : IsPrefix read all
   pub told : IsPrefix published all
-  pub last : IsAt front all s
-
--- and so at the horizon for each station
-abbrev pub AreCaughtUp : Net → List RackView → List RackView → Type 0
-AreCaughtUp net published read = (s : ℕ) → HasStation net s → IsCaughtUp net.horizon published read s

@@ -1,5 +1,5 @@
 -- What analysts have done at their seats, and what the engine has published.
-use Rattle.std.specs.Prelude.{◌≡◌, ℕ, ◌<◌, ◌≤◌, List, [], ◌∷◌, ◌++◌, length, map, slice_index_or}
+use Rattle.std.specs.Prelude.{◌≡◌, ℕ, ◌<◌, ◌≤◌, Bool, true, List, [], ◌∷◌, ◌++◌, length, map, slice_index_or}
 use Rattle.std.specs.List.{AllByRecursion}
 use Rattle.atomic_table.specs.Seated.{TableId}
 use Rattle.net_model.specs.Net.{Net}
@@ -11,7 +11,7 @@ use Rattle.phys_proc.specs.Racks.{RackView}
 use Rattle.world_core.specs.Worlds.{WorldView}
 use Rattle.live_study.specs.declared.analyst.Analyst.{Analyst}
 use Rattle.live_study.specs.Asking.{HasAskedNothing, IsDone, IsSameAnalyst, SeatedAnalyst}
-use Rattle.live_study.specs.Looks.{AreAllAt, AreCaughtUp, HasRacks, IsRackOf, IsReadLook, NeverFall, look_of}
+use Rattle.live_study.specs.Looks.{AreAllAt, AreOfOneHistory, HasRacks, IsRackOf, IsReadLook, NeverFall, look_of}
 use Rattle.live_study.specs.Scripts.{AskedLook, looks_in}
 
 -- an analyst that has made the looks of these acts, each of them at a beginning of what its seat has read, and none at
@@ -68,6 +68,10 @@ pub record Raises (old new : HelmView) (front : ℕ) : Type 0 where
 abbrev pub looks_to_make : List SeatedAnalyst → List (List AskedLook)
 looks_to_make as' = map (λ a. looks_in a.0.number a.0.todo.items) as'
 
--- all of them came to the horizon with what was published
-abbrev pub AllCaughtUp : Net → List RackView → List SeatedAnalyst → Type 0
-AllCaughtUp net published as' = AllByRecursion (λ a. AreCaughtUp net published a.1) as'
+-- what each of them has read is of one history with what was published
+abbrev pub AllReadOneHistory : List RackView → List SeatedAnalyst → Type 0
+AllReadOneHistory published as' = AllByRecursion (λ a. AreOfOneHistory published a.1) as'
+
+-- something was published, and there is a handle to tell each reader of it
+abbrev pub TellsEach : ℕ → Bool → ℕ → Type 0
+TellsEach readers has_published spares = (has_published ≡ true) × (spares ≡ readers)

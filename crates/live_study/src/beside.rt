@@ -1,6 +1,8 @@
 //! The engine beside the other members of its crew, which step the stations (logical processes) of larger windows.
+ghost use Rattle.std.specs.Prelude.{◌≡◌, length, IfOk};
 ghost use Rattle.decision_desk.specs.Desks.{desk_id};
 ghost use Rattle.live_study.specs.Driving.{HasDriven, MayDrive};
+ghost use Rattle.live_study.specs.Showing.{TellsEach};
 
 use crate::engine::drive_alone;
 use crew_pool::{Bell, Crew, Gate, Member, Workers, serve_all};
@@ -27,6 +29,9 @@ fn drive_and_end<G: Gate, J: Naming, W: Wait + Drop, R: Wait>(
 ) -> (Helm, Stocker<J, W>, Result<World, StudyFault>)
     requires may_drive { MayDrive (desk_id desk.now) helm world stocker.published }
     ensures driven { HasDriven helm result.0 result.1.published result.2 }
+    ensures readers { result.1.readers ≡ stocker.readers }
+    ensures tells { IfOk result.2 (λ _.
+        TellsEach result.1.readers result.1.has_published (length result.1.spares.items)) }
 {
     let done = drive_alone(rt, alloc, Some(crew), desk, helm, world, stocker, watched);
     bell.end();
@@ -48,13 +53,19 @@ fn drive_beside<G: Gate, J: Naming, W: Wait + Drop, R: Threads + Wait + Sync>(
 ) -> (Helm, Stocker<J, W>, Result<World, StudyFault>)
     requires may_drive { MayDrive (desk_id desk.now) helm world stocker.published }
     ensures driven { HasDriven helm result.0 result.1.published result.2 }
+    ensures readers { result.1.readers ≡ stocker.readers }
+    ensures tells { IfOk result.2 (λ _.
+        TellsEach result.1.readers result.1.has_published (length result.1.spares.items)) }
 {
     let (_, done) = thread::join(
         rt,
         move || serve_all(rt, alloc, bell, members),
         move || -> (Helm, Stocker<J, W>, Result<World, StudyFault>)
             requires { MayDrive (desk_id desk.now) helm world stocker.published }
-            ensures { HasDriven helm result.0 result.1.published result.2 }
+            ensures { HasDriven helm result.0 result.1.published result.2
+                × (result.1.readers ≡ stocker.readers)
+                × IfOk result.2 (λ _.
+                TellsEach result.1.readers result.1.has_published (length result.1.spares.items)) }
         { drive_and_end(rt, alloc, crew, desk, helm, world, stocker, watched, bell) },
     );
     done
@@ -75,6 +86,9 @@ pub(crate) fn drive_with_crew<'g, G: Gate, J: Naming, W: Wait + Drop, R: Threads
 ) -> (Helm, Stocker<J, W>, Result<World, StudyFault>)
     requires may_drive { MayDrive (desk_id desk.now) helm world stocker.published }
     ensures driven { HasDriven helm result.0 result.1.published result.2 }
+    ensures readers { result.1.readers ≡ stocker.readers }
+    ensures tells { IfOk result.2 (λ _.
+        TellsEach result.1.readers result.1.has_published (length result.1.spares.items)) }
 {
     let Some(
         NewCrew {

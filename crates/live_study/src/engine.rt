@@ -1,5 +1,5 @@
 //! The engine's part: conservative time windows up to the fronts that the desk gives, until the horizon.
-ghost use Rattle.std.specs.Prelude.{◌≡◌, ◌+◌, ◌-◌, ◌<◌, ◌≤◌, IfOk, IfErr, OnOk};
+ghost use Rattle.std.specs.Prelude.{◌≡◌, ◌+◌, ◌-◌, ◌<◌, ◌≤◌, length, IfOk, IfErr, OnOk};
 ghost use Rattle.net_model.specs.Net.{HasStation};
 ghost use Rattle.stations.specs.Runs.{next_front};
 ghost use Rattle.world_core.specs.Overs.{IsFault, NoneBeyond};
@@ -8,7 +8,7 @@ ghost use Rattle.decision_desk.specs.Desks.{desk_id};
 ghost use Rattle.decision_desk.specs.Leasts.{leasts_of};
 ghost use Rattle.live_study.specs.Driving.{CountsFew, CountsOnce, HasDriven, MayDrive, MayShow, MayTurn};
 ghost use Rattle.live_study.specs.Engines.{InStep, IsAhead, Steers, StopsEngine};
-ghost use Rattle.live_study.specs.Showing.{AreShownOf, AreShownTo, Raises};
+ghost use Rattle.live_study.specs.Showing.{AreShownOf, AreShownTo, Raises, TellsEach};
 
 use crew_pool::{Crew, Gate};
 use decision_desk::{Desk, Helm};
@@ -77,7 +77,12 @@ fn show_one<J: Naming, W: Wait + Drop>(
     requires may_show { MayShow helm.now world.old (station - 1) stocker.old.published }
     ensures same { world.new ≡ world.old }
     ensures shown { OnOk result (AreShownTo helm.now world.old station stocker.new.published) }
+    ensures readers { stocker.new.readers ≡ stocker.old.readers }
+    ensures tells { OnOk result (TellsEach stocker.new.readers stocker.new.has_published
+        (length stocker.new.spares.items)) }
 {
+    // for the rack's front, which is not beyond the horizon
+    let _within = world.front();
     let rack = world.rack(alloc, station)?;
     stocker.publish(alloc, rack)
 }
@@ -93,6 +98,10 @@ fn show<J: Naming, W: Wait + Drop>(
     requires may_show { MayShow helm.now world.old 0 stocker.old.published }
     ensures same { world.new ≡ world.old }
     ensures shown { OnOk result (AreShownOf helm.now world.old stocker.new.published) }
+    ensures readers { stocker.new.readers ≡ stocker.old.readers }
+    // at the horizon each reader can be told of the last rack
+    ensures tells { OnOk result (world.old.front ≡ world.old.net.horizon →
+        TellsEach stocker.new.readers stocker.new.has_published (length stocker.new.spares.items)) }
 {
     let last = world.front() == world.model().horizon();
     let many = world.model().len();
@@ -176,6 +185,9 @@ fn take_window_and_show<G: Gate, J: Naming, L: Ledger, W: Wait + Drop, R: Wait>(
     ensures in_step { IfOk result (λ w. InStep helm.new w) }
     ensures rises { IfOk result (λ w. world.front < w.front) }
     ensures shown { IfOk result (λ w. AreShownOf helm.new w stocker.new.published) }
+    ensures readers { stocker.new.readers ≡ stocker.old.readers }
+    ensures tells { IfOk result (λ w. w.front ≡ w.net.horizon →
+        TellsEach stocker.new.readers stocker.new.has_published (length stocker.new.spares.items)) }
     // or why the engine stops, over the journal of the helm
     ensures stops { IfErr result (λ e. StopsEngine helm.new.net helm.new.helm e) }
     // what is counted
@@ -203,6 +215,9 @@ fn drive<G: Gate, J: Naming, L: Ledger, W: Wait + Drop, R: Wait>(
 ) -> (Helm, Result<World, StudyFault>)
     requires may_drive { MayDrive (desk_id desk.now) helm world stocker.old.published }
     ensures driven { HasDriven helm result.0 stocker.new.published result.1 }
+    ensures readers { stocker.new.readers ≡ stocker.old.readers }
+    ensures tells { IfOk result.1 (λ _.
+        TellsEach stocker.new.readers stocker.new.has_published (length stocker.new.spares.items)) }
     ensures steps { IfOk result.1 (λ w. CountsOnce world w steps.old steps.new) }
     ensures few { IfErr result.1 (λ e. CountsFew result.0 world steps.old steps.new e) }
 {
@@ -234,6 +249,9 @@ fn drive_counted<G: Gate, J: Naming, L: Ledger, W: Wait + Drop, R: Wait>(
     requires parts { blank.parts ≡ L.parts }
     requires some { 0 < L.parts }
     ensures driven { HasDriven helm result.0 stocker.new.published result.1 }
+    ensures readers { stocker.new.readers ≡ stocker.old.readers }
+    ensures tells { IfOk result.1 (λ _.
+        TellsEach stocker.new.readers stocker.new.has_published (length stocker.new.spares.items)) }
 {
     let mut steps = Steps::<L>::new(blank);
     drive(
@@ -255,6 +273,9 @@ pub(crate) fn drive_alone<G: Gate, J: Naming, W: Wait + Drop, R: Wait>(
 ) -> (Helm, Stocker<J, W>, Result<World, StudyFault>)
     requires may_drive { MayDrive (desk_id desk.now) helm world stocker.published }
     ensures driven { HasDriven helm result.0 result.1.published result.2 }
+    ensures readers { result.1.readers ≡ stocker.readers }
+    ensures tells { IfOk result.2 (λ _.
+        TellsEach result.1.readers result.1.has_published (length result.1.spares.items)) }
 {
     let (helm, world) = drive_counted::<G, J, Brand, W, R>(
         rt,

@@ -1,19 +1,15 @@
 //! The users of an interactive simulation, the analysts, beside its engine.
-ghost use Rattle.std.specs.Prelude.{◌≡◌, ◌⊎◌, ◌+◌, ◌≤◌, [], ◌++◌, length, map, All};
-ghost use Rattle.std.specs.Prelude.{Ok, Err, IfOk, IfErr, true, vec_len, vec_capacity};
-ghost use mathlib.Core.List.{IsPrefix};
+ghost use Rattle.std.specs.Prelude.{◌≡◌, ◌+◌, ◌≤◌, [], ◌++◌, length, map, IfOk, IfErr, true, vec_len, vec_capacity};
 ghost use Rattle.decision_book.specs.declared.call.TheConstants.{MOST_CALLS};
-ghost use Rattle.net_model.specs.Net.{HasStation};
-ghost use Rattle.shelf.specs.Racks.{AreLegal};
 ghost use Rattle.decision_desk.specs.declared.desk.TheConstants.{ALL_PARTS};
 ghost use Rattle.decision_desk.specs.Desks.{desk_id};
 ghost use Rattle.live_study.specs.Asking.{total_todo};
 ghost use Rattle.live_study.specs.Driving.{HasDriven, MayDrive};
 ghost use Rattle.live_study.specs.Engines.{StopsEngine};
 ghost use Rattle.live_study.specs.Lives.{AreSeenLooks, AreTrueLooks, IsAllAsked, IsAtHorizon, looks_made};
-ghost use Rattle.live_study.specs.Looks.{AreCaughtUp, HasRacks, IsAt};
+ghost use Rattle.live_study.specs.Looks.{AreOfOneHistory};
 ghost use Rattle.live_study.specs.Opening.{AreReadyAll, HasReservedFor};
-ghost use Rattle.live_study.specs.Showing.{AllCaughtUp, HaveActed, looks_to_make};
+ghost use Rattle.live_study.specs.Showing.{AllReadOneHistory, HaveActed, TellsEach, looks_to_make};
 
 use crate::analyst::Analyst;
 use crate::asking::act_everyone;
@@ -23,7 +19,7 @@ use crate::run::LiveRun;
 use crew_pool::{Gate, Workers};
 use decision_desk::{Desk, Helm};
 use net_model::Model;
-use shelf::{Naming, Seat, Stocker, Told};
+use shelf::{Naming, Seat, Stocker};
 use std::alloc::Global;
 use std::sync::Wait;
 use std::thread;
@@ -51,13 +47,19 @@ fn side_by_side<G: Gate, J: Naming + Send + Sync, W: Wait + Drop + Send, R: Thre
     requires may_drive { MayDrive (desk_id desk.now) helm world stocker.published }
     requires ready { AreReadyAll (desk_id desk.now) model.now seated.items }
     ensures driven { HasDriven helm result.0.0 result.0.1.published result.0.2 }
+    ensures readers { result.0.1.readers ≡ stocker.readers }
+    ensures tells { IfOk result.0.2 (λ _.
+        TellsEach result.0.1.readers result.0.1.has_published (length result.0.1.spares.items)) }
     ensures acted { HaveActed (desk_id desk.now) model.now seated.items result.1.items }
 {
     thread::join(
         rt,
         move || -> (Helm, Stocker<J, W>, Result<World, StudyFault>)
             requires { MayDrive (desk_id desk.now) helm world stocker.published }
-            ensures { HasDriven helm result.0 result.1.published result.2 }
+            ensures { HasDriven helm result.0 result.1.published result.2
+                × (result.1.readers ≡ stocker.readers)
+                × IfOk result.2 (λ _.
+                TellsEach result.1.readers result.1.has_published (length result.1.spares.items)) }
         {
             drive_with_crew(
                 rt, alloc, workers, gate, desk, helm, world, stocker, watched,
@@ -70,72 +72,46 @@ fn side_by_side<G: Gate, J: Naming + Send + Sync, W: Wait + Drop + Send, R: Thre
     )
 }
 
-// A closing look at a station: whether its last rack is at the horizon.
-fn is_at_end<J: Naming>(model: &Model, seat: &mut Seat<J>, station: u32) -> bool
-    requires is_station { HasStation model.now station }
-    requires there { HasRacks model.now seat.old }
-    ensures begins { IsPrefix seat.old seat.new }
-    ensures legal { AreLegal seat.new }
-    ensures value { result ≡ true → IsAt model.now.horizon seat.new station }
-{
-    let glance = seat.look(station, &model.station(station).name);
-    glance.front == model.horizon()
-}
-
-// A closing look at each station, from a seat that has learnt what was published: whether all are at the horizon.
-fn is_caught_up<J: Naming>(model: &Model, seat: &mut Seat<J>, told: Told<J>) -> bool
-    requires there { HasRacks model.now seat.old }
-    ensures value { result ≡ true → AreCaughtUp model.now told seat.old }
-{
-    seat.learn(told);
-    let mut all = true;
-    for s in 0..model.len() {
-        let at_end = is_at_end(model, seat, s + 1);
-        all = all && at_end;
-    }
-    all
-}
-
-// The same of a seat that is told here what was published.
-fn comes_to_end<J: Naming, W: Wait + Drop>(
-    model: &Model,
-    stocker: &mut Stocker<J, W>,
-    seat: &mut Seat<J>,
-) -> bool
-    requires there { HasRacks model.now seat.old }
-    ensures value { result ≡ true → AreCaughtUp model.now stocker.old.published seat.old }
+// A seat learns what was published last.
+fn learn_last<J: Naming, W: Wait + Drop>(stocker: &mut Stocker<J, W>, seat: &mut Seat<J>)
+    requires tells { stocker.old.has_published ≡ true }
+    requires left { 1 ≤ length stocker.old.spares.items }
+    ensures history { AreOfOneHistory stocker.old.published seat.old }
     ensures published { stocker.new.published ≡ stocker.old.published }
+    ensures tells { stocker.new.has_published ≡ true }
+    ensures left { length stocker.old.spares.items ≡ length stocker.new.spares.items + 1 }
 {
-    match stocker.told() {
-        Some(told) => is_caught_up(model, seat, told),
-        None => false,
-    }
+    let Some(told) = stocker.told() else {
+        unreachable!()
+    };
+    seat.learn(told);
 }
 
-// The passes and the looks of analysts that have done all, put into what was reserved for them; and whether all seats
-// came to the horizon.
-fn close_looks<J: Naming, W: Wait + Drop>(
-    model: &Model,
+// The passes and the looks of analysts that have done all, put into what was reserved for them. If the run is finished,
+// each seat learns what was published last.
+fn close_seats<J: Naming, W: Wait + Drop>(
+    finished: bool,
     stocker: &mut Stocker<J, W>,
     seated: Vec<(Analyst, Seat<J>)>,
     reserve: Reserve,
-) -> (Reserve, bool)
+) -> Reserve
     requires passes { vec_len reserve.passes + length seated.items ≤ vec_capacity reserve.passes }
     requires looks { vec_len reserve.looks + length seated.items ≤ vec_capacity reserve.looks }
-    requires there { All (λ a. HasRacks model.now a.1) seated.items }
-    ensures passes { result.0.passes.items ≡ reserve.passes.items ++ map (λ a. a.0.pass) seated.items }
-    ensures looks { result.0.looks.items ≡ reserve.looks.items ++ map (λ a. a.0.looks) seated.items }
-    ensures caught_up { result.1 ≡ true → AllCaughtUp model.now stocker.old.published seated.items }
+    requires tells { finished ≡ true →
+        TellsEach (length seated.items) stocker.old.has_published (length stocker.old.spares.items) }
+    ensures passes { result.passes.items ≡ reserve.passes.items ++ map (λ a. a.0.pass) seated.items }
+    ensures looks { result.looks.items ≡ reserve.looks.items ++ map (λ a. a.0.looks) seated.items }
+    ensures history { finished ≡ true → AllReadOneHistory stocker.old.published seated.items }
 {
     let Reserve {
         mut passes,
         mut looks,
     } = reserve;
-    let mut caught_up = true;
     for one in seated {
         let (analyst, mut seat) = one;
-        let comes = comes_to_end(model, stocker, &mut seat);
-        caught_up = caught_up && comes;
+        if finished {
+            learn_last(stocker, &mut seat);
+        }
         let Analyst {
             number: _,
             pass,
@@ -145,24 +121,7 @@ fn close_looks<J: Naming, W: Wait + Drop>(
         passes.push_reserved(pass);
         looks.push_reserved(seen);
     }
-    (Reserve { passes, looks }, caught_up)
-}
-
-// The run's result: a finished run is given up where a seat did not come to the horizon, which never happens.
-fn if_caught_up(caught_up: bool, run: Result<World, StudyFault>) -> Result<World, StudyFault>
-    ensures ok { IfOk result (λ w. (caught_up ≡ true) × (run ≡ Ok w)) }
-    ensures err { IfErr result (λ e. (e ≡ StudyFault.NoMemory) ⊎ (run ≡ Err e)) }
-{
-    match run {
-        Ok(world) => {
-            if caught_up {
-                Ok(world)
-            } else {
-                Err(StudyFault::NoMemory)
-            }
-        }
-        Err(fault) => Err(fault),
-    }
+    Reserve { passes, looks }
 }
 
 /// Runs the engine beside all analysts, and closes the desk. All threads are joined, however it ends; nothing is
@@ -194,6 +153,7 @@ pub(crate) fn run_live<
     requires ready { AreReadyAll (desk_id desk) model.now seated.items }
     requires few { total_todo seated.items ≤ MOST_CALLS }
     requires reserve { HasReservedFor (length seated.items) reserve }
+    requires readers { stocker.readers ≡ length seated.items }
     // however it ends: each analyst has asked all its decisions and made all its looks
     ensures asked { IsAllAsked helm.net seated.items result.book }
     ensures made { looks_made result.looks.items ≡ looks_to_make seated.items }
@@ -207,14 +167,10 @@ pub(crate) fn run_live<
     let ((helm, mut stocker, run), seated) = side_by_side(
         rt, alloc, workers, gate, model, &desk, helm, world, stocker, watched, seated,
     );
-    let (reserve, caught_up) = close_looks(model, &mut stocker, seated, reserve);
+    let reserve = close_seats(run.is_ok(), &mut stocker, seated, reserve);
     let Reserve { passes, looks } = reserve;
     let book = desk.close(passes, helm);
     let _legal = book.book().front();
     let _valid = model.lookahead();
-    LiveRun {
-        book,
-        looks,
-        run: if_caught_up(caught_up, run),
-    }
+    LiveRun { book, looks, run }
 }

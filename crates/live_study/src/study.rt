@@ -99,6 +99,7 @@ fn take_seats<J: Naming, W: Wait + Drop>(
     requires many { length passes.items ≡ length script.now.analysts }
     // what it gives: a stocker that has published these racks
     ensures published { IfOk result (λ r. r.0.published ≡ racks.items) }
+    ensures readers { IfOk result (λ r. r.0.readers ≡ length script.now.analysts) }
     // and an analyst for each pass, with its number and its acts, who has looked at nothing yet
     ensures passes { IfOk result (λ r. map (λ a. a.0.pass) r.1.items ≡ passes.items) }
     ensures numbers { IfOk result (λ r. map (λ a. a.0.number) r.1.items ≡ numbers_to (length passes.items)) }

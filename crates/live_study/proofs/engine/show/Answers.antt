@@ -1,15 +1,21 @@
-use Rattle.std.proofs.Common.{◌≡◌, ◌∙◌, ◌+◌, ◌-◌, ◌≤◌, ap, sym, subst, arith, length}
+use Rattle.std.proofs.Common.{◌≡◌, ◌∙◌, ◌+◌, ◌-◌, ◌≤◌, ap, refl, sym, subst, arith, length}
 use Rattle.std.proofs.lemmas.Bool.Decides.{nat_tests}
 use Rattle.net_model.specs.Net.{Net}
 use Rattle.live_study.specs.Driving.{MayShow}
-use Rattle.live_study.specs.Showing.{AreShownTo, AreShownUpTo}
+use Rattle.live_study.specs.Showing.{AreShownTo, AreShownUpTo, TellsEach}
+use Rattle.live_study.proofs.Closing.{of_same}
 use Rattle.live_study.proofs.Publishing.{round_skips}
 use Rattle.live_study.proofs.engine.show.Goals as goal
 use Rattle.live_study.proofs.engine.show.Goals.{then-last+in_ok-show_one, else-last+else-is_watched}
 
--- what holds of one value holds of one that is the same
-of_same : {A : Type 0} (a b : A) → a ≡ b → (P : A → Type 0) → P b → P a
-of_same a b e P p = subst P (sym e) p
+pub loop-s-init : goal.loop-s-init
+loop-s-init g c = record {
+  within = omega arith;
+  same = refl;
+  shown = c.requires.may_show.shown;
+  readers = refl;
+  tells = λ last low. absurd (omega (arith, low));
+}
 
 pub show_one-requires-clause-may_show : goal.show_one-requires-clause-may_show
 show_one-requires-clause-may_show g c =
@@ -37,6 +43,11 @@ loop-s-preserved g c =
         shown = of_same _ _ w.stocker-is (λ t. AreShownTo helm world (s + 1) t.published)
             (of_same _ _ (sym i.same) (λ v. AreShownTo helm v (s + 1) w.show_one.new.stocker.published)
             w.in_ok-show_one.ensures.shown);
+        readers = of_same _ _ w.stocker-is (λ t. t.readers ≡ c.args.stocker.now.readers)
+            (w.show_one.ensures.readers ∙ i.readers);
+        tells = λ last low.
+            of_same _ _ w.stocker-is (λ t. TellsEach t.readers t.has_published (length t.spares.items))
+            w.in_ok-show_one.ensures.tells;
       }
       | else-last+else-is_watched w ↦ record {
         within = within;
@@ -52,6 +63,8 @@ loop-s-preserved g c =
               c.horizon.ensures.value,
               ap (λ (n : Net). n.horizon) c.model.ensures.value,
             ))));
+        readers = of_same _ _ w.stocker-is (λ t. t.readers ≡ c.args.stocker.now.readers) i.readers;
+        tells = λ last low. absurd (grind (arith, nat_tests, last, w.if-last.false));
       }
     ]
 
@@ -63,3 +76,11 @@ returns-clause-shown g c =
     let all : c.loop-s.s ≡ length world.net.sites =
     omega (arith, i.within, c.loop-s-test.false, c.len-many.ensures.value, many) in
     subst (λ n. AreShownUpTo c.args.helm.now world n c.loop-s.stocker.published) all i.shown.up_to
+
+pub returns-clause-tells : goal.returns-clause-tells
+returns-clause-tells g c at =
+    let i = c.loop-s.invariant in
+    let horizon = ap (λ (n : Net). n.horizon) c.model.ensures.value in
+    let some = c.len-many.ensures.valid.some in
+    i.tells (grind (arith, nat_tests, at, c.front.ensures.value, c.horizon.ensures.value, horizon))
+    (omega (arith, c.loop-s-test.false, c.len-many.ensures.value, some))

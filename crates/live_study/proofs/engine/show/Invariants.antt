@@ -1,5 +1,5 @@
-use Rattle.std.proofs.Common.{◌≡◌, ◌≤◌, length}
-use Rattle.live_study.specs.Showing.{AreShownTo}
+use Rattle.std.proofs.Common.{◌≡◌, ◌≤◌, length, true}
+use Rattle.live_study.specs.Showing.{AreShownTo, TellsEach}
 use Rattle.live_study.proofs.engine.show.Given as goal
 
 abbrev pub invariant-loop-s : goal.invariant-loop-s
@@ -7,4 +7,7 @@ invariant-loop-s g l = record {
   within : l.s ≤ length l.fn.world.net.sites;
   same : l.world ≡ l.fn.world;
   shown : AreShownTo l.helm l.fn.world l.s l.stocker.published;
+  readers : l.stocker.readers ≡ l.fn.stocker.readers;
+  tells : l.last ≡ true → 1 ≤ l.s
+      → TellsEach l.stocker.readers l.stocker.has_published (length l.stocker.spares.items);
 }

@@ -1,17 +1,22 @@
-use Rattle.live_study.proofs.Publishing.{may_show, shows_if}
+use Rattle.std.proofs.Common.{arith, length}
+use Rattle.live_study.proofs.Publishing.{may_show, shows_if, tells_if}
 use Rattle.live_study.proofs.engine.show_one.Goals as goal
 
 pub publish-requires-clause-there : goal.publish-requires-clause-there
 publish-requires-clause-there g c =
     let may = c.requires.may_show in
+    let within = c.front-within.ensures in
     (may_show c.args.helm.now c.args.world.now c.args.station c.in_ok-rack.rack _ c.requires.is_station
-    may.shown may.net c.in_ok-rack.ensures.net c.in_ok-rack.ensures.station c.in_ok-rack.ensures.front).0
+    may.shown may.net (omega (arith, within.within, within.value)) c.in_ok-rack.ensures.net
+    c.in_ok-rack.ensures.station c.in_ok-rack.ensures.front).0
 
 pub publish-requires-clause-may : goal.publish-requires-clause-may
 publish-requires-clause-may g c =
     let may = c.requires.may_show in
+    let within = c.front-within.ensures in
     (may_show c.args.helm.now c.args.world.now c.args.station c.in_ok-rack.rack _ c.requires.is_station
-    may.shown may.net c.in_ok-rack.ensures.net c.in_ok-rack.ensures.station c.in_ok-rack.ensures.front).1
+    may.shown may.net (omega (arith, within.within, within.value)) c.in_ok-rack.ensures.net
+    c.in_ok-rack.ensures.station c.in_ok-rack.ensures.front).1
 
 pub returns-clause-shown : goal.returns-clause-shown
 returns-clause-shown g c =
@@ -20,3 +25,8 @@ returns-clause-shown g c =
     c.publish.new.self.published c.publish.result c.requires.is_station.low may.shown may.at may.net
     c.in_ok-rack.ensures.net c.in_ok-rack.ensures.clones c.in_ok-rack.ensures.station c.in_ok-rack.ensures.front
     c.publish.ensures.published
+
+pub returns-clause-tells : goal.returns-clause-tells
+returns-clause-tells g c =
+    tells_if c.publish.result c.publish.new.self.has_published c.args.stocker.now.readers c.publish.new.self.readers
+    (length c.publish.new.self.spares.items) c.publish.ensures.readers c.publish.ensures.tells c.publish.ensures.spares

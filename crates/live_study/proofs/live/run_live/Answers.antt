@@ -5,11 +5,11 @@ use Rattle.decision_book.specs.Books.{BookView}
 use Rattle.decision_book.specs.Right.{IsRight}
 use Rattle.decision_desk.specs.Desks.{desk_id}
 use Rattle.decision_desk.specs.Passes.{PassView}
-use Rattle.world_core.specs.Worlds.{WorldView}
 use Rattle.live_study.specs.Asking.{SeatedAnalyst}
-use Rattle.live_study.specs.Lives.{AreSeenLooks, AreTrueLooks, IsAtHorizon}
+use Rattle.live_study.specs.Lives.{AreSeenLooks, AreTrueLooks}
+use Rattle.live_study.specs.Showing.{TellsEach}
 use Rattle.live_study.proofs.Counting.{AllDone-desk, AllDone-each, asked_in, finished_if}
-use Rattle.live_study.proofs.Ending.{if_finished, if_stopped}
+use Rattle.live_study.proofs.Ending.{if_is_ok, if_stopped}
 use Rattle.live_study.proofs.Told.{all_looked, looks_of, made_all, seen_all, told_if}
 use Rattle.live_study.proofs.live.run_live.Goals as goal
 
@@ -19,8 +19,8 @@ pub close-book-requires-clause-passes : goal.close-book-requires-clause-passes
 close-book-requires-clause-passes g c k d less =
     let desk = desk_id c.args.desk in
     let new = c.side_by_side-helm.result.1.items in
-    let are : c.close_looks-reserve.result.0.passes.items ≡ map (λ (a : SeatedAnalyst). a.0.pass) new =
-    c.close_looks-reserve.ensures.passes
+    let are : c.close_seats-reserve.result.passes.items ≡ map (λ (a : SeatedAnalyst). a.0.pass) new =
+    c.close_seats-reserve.ensures.passes
     ∙ ap (λ l. l ++ map (λ (a : SeatedAnalyst). a.0.pass) new) c.requires.reserve.no_passes in
     let acted = c.side_by_side-helm.ensures.acted in
     let done = AllDone-each desk new (λ i d less. (acted.each i d (omega (arith, less, acted.len))).done) in
@@ -33,23 +33,27 @@ pub returns-clause-asked : goal.returns-clause-asked
 returns-clause-asked g c =
     let desk = desk_id c.args.desk in
     let new = c.side_by_side-helm.result.1.items in
-    let are : c.close_looks-reserve.result.0.passes.items ≡ map (λ (a : SeatedAnalyst). a.0.pass) new =
-    c.close_looks-reserve.ensures.passes
+    let are : c.close_seats-reserve.result.passes.items ≡ map (λ (a : SeatedAnalyst). a.0.pass) new =
+    c.close_seats-reserve.ensures.passes
     ∙ ap (λ l. l ++ map (λ (a : SeatedAnalyst). a.0.pass) new) c.requires.reserve.no_passes in
     let s = c.side_by_side-helm.ensures in
     asked_in desk c.args.helm c.side_by_side-helm.result.0.0 c.args.seated.items new
-    c.close_looks-reserve.result.0.passes.items c.close-book.result s.driven.steers c.requires.fresh are
+    c.close_seats-reserve.result.passes.items c.close-book.result s.driven.steers c.requires.fresh are
     c.close-book.ensures.closed
     (subst (λ (b : BookView). IsRight b.net b.events) c.book.ensures.value c.front-legal.ensures.right)
     c.book.ensures.fronts s.acted.len (λ i d less. (s.acted.each i d less).done)
     (λ i d less. (s.acted.each i d less).same) c.requires.few
 
--- ---- close_looks
+-- ---- close_seats
 
-pub close_looks-reserve-requires-clause-there : goal.close_looks-reserve-requires-clause-there
-close_looks-reserve-requires-clause-there g c k d less =
-    let acted = c.side_by_side-helm.ensures.acted in
-    (acted.each k d (omega (arith, less, acted.len))).looked.there
+pub close_seats-reserve-requires-clause-tells : goal.close_seats-reserve-requires-clause-tells
+close_seats-reserve-requires-clause-tells g c done =
+    let s = c.side_by_side-helm.ensures in
+    let stocker = c.side_by_side-helm.result.0.1 in
+    let told = if_is_ok c.side_by_side-helm.result.0.2 c.is_ok.result
+    (TellsEach stocker.readers stocker.has_published (length stocker.spares.items)) c.is_ok.ensures.value s.tells
+    done in
+    (told.0, told.1 ∙ s.readers ∙ c.requires.readers ∙ sym s.acted.len)
 
 -- ---- made, seen, looked
 
@@ -57,9 +61,9 @@ pub returns-clause-made : goal.returns-clause-made
 returns-clause-made g c =
     let new = c.side_by_side-helm.result.1.items in
     let acted = c.side_by_side-helm.ensures.acted in
-    let looks = c.close_looks-reserve.result.0.looks.items in
+    let looks = c.close_seats-reserve.result.looks.items in
     let are : looks ≡ looks_of new =
-    c.close_looks-reserve.ensures.looks ∙ ap (λ l. l ++ looks_of new) c.requires.reserve.no_looks in
+    c.close_seats-reserve.ensures.looks ∙ ap (λ l. l ++ looks_of new) c.requires.reserve.no_looks in
     made_all c.args.model.now c.args.seated.items new looks
     (all_looked c.args.model.now new (λ i d less. (acted.each i d (omega (arith, less, acted.len))).looked)) acted.len
     (λ i d less. (acted.each i d less).same) are
@@ -69,9 +73,9 @@ returns-clause-seen g c =
     let net = c.args.model.now in
     let new = c.side_by_side-helm.result.1.items in
     let acted = c.side_by_side-helm.ensures.acted in
-    let looks = c.close_looks-reserve.result.0.looks.items in
+    let looks = c.close_seats-reserve.result.looks.items in
     let are : looks ≡ looks_of new =
-    c.close_looks-reserve.ensures.looks ∙ ap (λ l. l ++ looks_of new) c.requires.reserve.no_looks in
+    c.close_seats-reserve.ensures.looks ∙ ap (λ l. l ++ looks_of new) c.requires.reserve.no_looks in
     subst (λ (n : Net). AreSeenLooks n looks) (sym c.requires.net)
     (seen_all net new looks
     (all_looked net new (λ i d less. (acted.each i d (omega (arith, less, acted.len))).looked)) are)
@@ -82,27 +86,25 @@ returns-clause-looked g c =
     let helm = c.side_by_side-helm.result.0.0 in
     let new = c.side_by_side-helm.result.1.items in
     let s = c.side_by_side-helm.ensures in
-    let looks = c.close_looks-reserve.result.0.looks.items in
+    let looks = c.close_seats-reserve.result.looks.items in
     let events = c.close-book.result.events in
     let are : looks ≡ looks_of new =
-    c.close_looks-reserve.ensures.looks ∙ ap (λ l. l ++ looks_of new) c.requires.reserve.no_looks in
-    subst (λ (n : Net). IfOk c.if_caught_up.result (λ w. AreTrueLooks n events looks)) (sym c.requires.net)
-    (told_if net helm events c.side_by_side-helm.result.0.1.published new looks c.close_looks-reserve.result.1
-    c.side_by_side-helm.result.0.2 c.if_caught_up.result (s.driven.steers.net ∙ c.requires.net)
-    c.close-book.ensures.closed.only_calls s.driven.in_step s.driven.shown c.close_looks-reserve.ensures.caught_up
-    (all_looked net new (λ i d less. (s.acted.each i d (omega (arith, less, s.acted.len))).looked)) are
-    c.if_caught_up.ensures.ok)
+    c.close_seats-reserve.ensures.looks ∙ ap (λ l. l ++ looks_of new) c.requires.reserve.no_looks in
+    subst (λ (n : Net). IfOk c.side_by_side-helm.result.0.2 (λ w. AreTrueLooks n events looks)) (sym c.requires.net)
+    (told_if net helm events c.side_by_side-helm.result.0.1.published new looks c.is_ok.result
+    c.side_by_side-helm.result.0.2 (s.driven.steers.net ∙ c.requires.net)
+    c.close-book.ensures.closed.only_calls s.driven.in_step s.driven.shown c.is_ok.ensures.value
+    c.close_seats-reserve.ensures.history
+    (all_looked net new (λ i d less. (s.acted.each i d (omega (arith, less, s.acted.len))).looked)) are)
 
 -- ---- finished, stopped
 
 pub returns-clause-finished : goal.returns-clause-finished
 returns-clause-finished g c =
     let driven = c.side_by_side-helm.ensures.driven in
-    if_finished (λ (w : WorldView). IsAtHorizon c.args.helm.net c.close-book.result w) c.close_looks-reserve.result.1
-    c.side_by_side-helm.result.0.2 c.if_caught_up.result c.if_caught_up.ensures.ok
-    (finished_if c.args.helm c.side_by_side-helm.result.0.0 c.close_looks-reserve.result.0.passes.items
+    finished_if c.args.helm c.side_by_side-helm.result.0.0 c.close_seats-reserve.result.passes.items
     c.close-book.result c.side_by_side-helm.result.0.2 driven.steers c.close-book.ensures.closed
-    (subst (λ (b : BookView). IsRight b.net b.events) c.book.ensures.value c.front-legal.ensures.right) driven.in_step)
+    (subst (λ (b : BookView). IsRight b.net b.events) c.book.ensures.value c.front-legal.ensures.right) driven.in_step
 
 pub returns-clause-stopped : goal.returns-clause-stopped
 returns-clause-stopped g c =
@@ -112,7 +114,6 @@ returns-clause-stopped g c =
     let driven = c.side_by_side-helm.ensures.driven in
     let closed = c.close-book.ensures.closed in
     let right = subst (λ (b : BookView). IsRight b.net b.events) c.book.ensures.value c.front-legal.ensures.right in
-    if_stopped net helm.net helm.helm book.events c.side_by_side-helm.result.0.2 c.if_caught_up.result
+    if_stopped net helm.net helm.helm book.events c.side_by_side-helm.result.0.2
     (subst (λ (n : Net). IsNet n) (sym c.requires.net) c.lookahead-valid.ensures.valid) driven.steers.net
-    closed.only_calls (subst (λ (n : Net). IsRight n book.events) (closed.net ∙ driven.steers.net) right)
-    c.if_caught_up.ensures.err driven.stops
+    closed.only_calls (subst (λ (n : Net). IsRight n book.events) (closed.net ∙ driven.steers.net) right) driven.stops

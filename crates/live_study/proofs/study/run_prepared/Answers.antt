@@ -1,12 +1,13 @@
-use Rattle.std.proofs.Common.{ap, arith, length, subst}
+use Rattle.std.proofs.Common.{◌<◌, ◌∙◌, ap, arith, length, subst, sym}
 use Rattle.std.proofs.lemmas.Result.{IfErr-weaker, IfOk-weaker}
 use Rattle.net_model.specs.Net.{Net}
 use Rattle.decision_desk.specs.Desks.{desk_id}
 use Rattle.decision_desk.specs.Passes.{HelmView}
+use Rattle.world_core.specs.Worlds.{WorldView}
 use Rattle.live_study.specs.Engines.{StopsEngine}
 use Rattle.live_study.specs.Lives.{AreTrueLooks, IsAtHorizon, all_looks}
 use Rattle.live_study.specs.Looks.{AreLooks}
-use Rattle.live_study.proofs.Begun.{begins_in_step}
+use Rattle.live_study.proofs.Begun.{begins_in_step, many_analysts}
 use Rattle.live_study.proofs.Preparing.{all_parts, each_ready, enough_reserved, helm_net, journal_is, little_todo}
 use Rattle.live_study.proofs.Preparing.{made_are, many_passes, may_begin, shown_first}
 use Rattle.live_study.proofs.study.run_prepared.Goals as goal
@@ -36,6 +37,8 @@ run_live-requires-clause-may_drive g c κs within =
       in_step = begins_in_step (desk_id p.desk) c.args.model.now (length c.args.script.now.analysts) p.helm
           p.world of.helm of.world;
       shown = shown_first c.args.model.now (length c.args.script.now.analysts) p _ of c.in_ok-stocker.ensures.published;
+      ahead = subst (λ (w : WorldView). w.front < w.net.horizon) (sym of.world)
+          (let valid = c.len-stations.ensures.valid.horizon in omega (arith, valid));
     }
 
 pub run_live-requires-clause-net : goal.run_live-requires-clause-net
@@ -57,6 +60,13 @@ pub run_live-requires-clause-few : goal.run_live-requires-clause-few
 run_live-requires-clause-few g c κs within =
     little_todo c.args.model.now c.args.script.now c.args.prepared c.in_ok-stocker.seated.items c.requires.prepared
     c.analysts-valid.ensures.valid.few_items c.in_ok-stocker.ensures.todo
+
+pub run_live-requires-clause-readers : goal.run_live-requires-clause-readers
+run_live-requires-clause-readers g c κs within =
+    let of = c.requires.prepared in
+    c.in_ok-stocker.ensures.readers
+    ∙ sym (many_analysts (desk_id c.args.prepared.desk) c.args.model.now (length c.args.script.now.analysts)
+    c.args.prepared.passes.items c.in_ok-stocker.seated.items c.in_ok-stocker.ensures.passes of.passes)
 
 pub run_live-requires-clause-reserve : goal.run_live-requires-clause-reserve
 run_live-requires-clause-reserve g c κs within =

@@ -1,4 +1,4 @@
-use Rattle.std.proofs.Common.{arith}
+use Rattle.std.proofs.Common.{◌∙◌, arith}
 use Rattle.std.proofs.lemmas.Option.{slice_get_within}
 use Rattle.live_study.proofs.study.take_seats.Goals as goal
 
@@ -30,3 +30,6 @@ returns-clause-todo g c = c.in_ok-seated.ensures.todo
 
 pub returns-clause-fresh : goal.returns-clause-fresh
 returns-clause-fresh g c = c.in_ok-seated.ensures.fresh c.args.racks.items c.in_ok-stocker.ensures.seats
+
+pub returns-clause-readers : goal.returns-clause-readers
+returns-clause-readers g c = c.in_ok-stocker.ensures.readers ∙ c.analysts.ensures.value

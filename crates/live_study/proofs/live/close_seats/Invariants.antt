@@ -1,8 +1,8 @@
-use Rattle.std.proofs.Common.{◌≡◌, ◌++◌, map, true}
+use Rattle.std.proofs.Common.{◌≡◌, ◌+◌, ◌++◌, length, map, true}
 use Rattle.std.specs.Prelude.{vec_capacity}
 use Rattle.live_study.specs.Asking.{SeatedAnalyst}
-use Rattle.live_study.specs.Showing.{AllCaughtUp}
-use Rattle.live_study.proofs.live.close_looks.Given as goal
+use Rattle.live_study.specs.Showing.{AllReadOneHistory}
+use Rattle.live_study.proofs.live.close_seats.Given as goal
 
 abbrev pub invariant-loop-one : goal.invariant-loop-one
 invariant-loop-one g l = record {
@@ -11,5 +11,7 @@ invariant-loop-one g l = record {
   for_passes : vec_capacity l.passes ≡ vec_capacity l.fn.reserve.passes;
   for_looks : vec_capacity l.looks ≡ vec_capacity l.fn.reserve.looks;
   published : l.stocker.published ≡ l.fn.stocker.published;
-  caught_up : l.caught_up ≡ true → AllCaughtUp l.model l.fn.stocker.published l.yielded;
+  tells : l.finished ≡ true → l.stocker.has_published ≡ true;
+  left : l.finished ≡ true → length l.stocker.spares.items + length l.yielded ≡ length l.fn.seated.items;
+  history : l.finished ≡ true → AllReadOneHistory l.fn.stocker.published l.yielded;
 }

@@ -1,29 +1,29 @@
-use Rattle.std.proofs.Common.{◌≡◌, ◌∙◌, ℕ, ap, arith, length, length-append, map, sym, subst, rules, true≢false}
+use Rattle.std.proofs.Common.{◌≡◌, ◌∙◌, ◌+◌, ◌++◌, ◌∷◌, [], ℕ, List, ap, append-nil, arith, length, length-append, map}
+use Rattle.std.proofs.Common.{refl, sym, subst, rules, true, true≢false}
 use Rattle.std.specs.Prelude.{vec_capacity}
 use Rattle.std.proofs.lemmas.Iterator.Adapters.{YieldsList-from_vec}
 use Rattle.std.proofs.lemmas.Iterator.Consumers.{YieldsList-turn}
 use Rattle.std.proofs.lemmas.List.{length-map}
+use Rattle.phys_proc.specs.Racks.{RackView}
 use Rattle.live_study.specs.Asking.{SeatedAnalyst}
-use Rattle.live_study.specs.Looks.{AreCaughtUp, HasRacks}
-use Rattle.live_study.proofs.Closing.{all_caught_more, with_image}
-use Rattle.live_study.proofs.live.close_looks.Goals as goal
-use Rattle.live_study.proofs.live.close_looks.Goals.{then-caught_up, else-caught_up}
+use Rattle.live_study.specs.Looks.{AreOfOneHistory}
+use Rattle.live_study.proofs.Closing.{all_read_more, of_same, with_image}
+use Rattle.live_study.proofs.live.close_seats.Goals as goal
+use Rattle.live_study.proofs.live.close_seats.Goals.{then-finished, else-finished}
 
 -- a number that stays the same twice
 stays : (new old first : ℕ) → new ≡ old → old ≡ first → new ≡ first
 stays new old first e i = e ∙ i
 
--- ---- comes_to_end
+-- ---- learn_last
 
-pub comes_to_end-comes-requires : goal.comes_to_end-comes-requires
-comes_to_end-comes-requires g c =
+pub learn_last-requires : goal.learn_last-requires
+learn_last-requires g c =
     let step = YieldsList-turn (YieldsList-from_vec {s = c.into_iter-one-iterator.result} c.args.seated.items
     (search rules) (search rules)) c.loop-one.yielded _ c.loop-one.yielded_by _ c.next.new.self c.in-Some.one
     c.in-Some.is c.next.ensures.steps in
-    record {
-      there = subst (λ (a : SeatedAnalyst). HasRacks c.args.model.now a.1) (sym step.1)
-          (c.requires.there (length c.loop-one.yielded) c.in-Some.one step.0);
-    }
+    let left = c.loop-one.invariant.left c.if-finished.true in
+    record { tells = c.loop-one.invariant.tells c.if-finished.true; left = omega (arith, left, step.0) }
 
 -- ---- push_reserved
 
@@ -67,27 +67,54 @@ push_reserved-requires-in-loop-one g c =
 
 -- ---- loop
 
+pub loop-one-init : goal.loop-one-init
+loop-one-init g c = record {
+  passes = sym (append-nil c.args.reserve.passes.items);
+  looks = sym (append-nil c.args.reserve.looks.items);
+  for_passes = refl;
+  for_looks = refl;
+  published = refl;
+  tells = λ yes. (c.requires.tells yes).0;
+  left = λ yes. let left = (c.requires.tells yes).1 in omega (arith, left);
+  history = λ yes. tt;
+}
+
 pub loop-one-preserved : goal.loop-one-preserved
 loop-one-preserved g c =
-    let net = c.args.model.now in
     let one = c.in-Some.one in
+    let done = c.loop-one.yielded in
+    let first = c.args.stocker.now.published in
     let i = c.loop-one.invariant in
-    let e = c.comes_to_end-comes.ensures in
     record {
       passes = with_image (λ (a : SeatedAnalyst). a.0.pass) c.args.reserve.passes.items c.loop-one.passes.items
-          c.push_reserved.new.self.items c.loop-one.yielded one i.passes c.push_reserved.ensures.items;
+          c.push_reserved.new.self.items done one i.passes c.push_reserved.ensures.items;
       looks = with_image (λ (a : SeatedAnalyst). a.0.looks) c.args.reserve.looks.items c.loop-one.looks.items
-          c.push_reserved-in-loop-one.new.self.items c.loop-one.yielded one i.looks
-          c.push_reserved-in-loop-one.ensures.items;
+          c.push_reserved-in-loop-one.new.self.items done one i.looks c.push_reserved-in-loop-one.ensures.items;
       for_passes = stays (vec_capacity c.push_reserved.new.self) (vec_capacity c.loop-one.passes)
           (vec_capacity c.args.reserve.passes) c.push_reserved.ensures.capacity i.for_passes;
       for_looks = stays (vec_capacity c.push_reserved-in-loop-one.new.self) (vec_capacity c.loop-one.looks)
           (vec_capacity c.args.reserve.looks) c.push_reserved-in-loop-one.ensures.capacity i.for_looks;
-      published = e.published ∙ i.published;
-      caught_up = elim c.if-caught_up.branch [
-        | then-caught_up w ↦ λ all. all_caught_more net c.args.stocker.now.published c.loop-one.yielded one
-            (i.caught_up w.if-caught_up.true)
-            (subst (λ racks. AreCaughtUp net racks one.1) i.published (e.value (sym w.caught_up-is ∙ all)))
-        | else-caught_up w ↦ λ all. absurd (true≢false (sym all ∙ w.caught_up-is ∙ w.if-caught_up.false))
+      published = elim c.if-finished.branch [
+        | then-finished w ↦ of_same _ _ w.stocker-is (λ t. t.published ≡ first)
+            (w.learn_last.ensures.published ∙ i.published)
+        | else-finished w ↦ of_same _ _ w.stocker-is (λ t. t.published ≡ first) i.published
+      ];
+      tells = elim c.if-finished.branch [
+        | then-finished w ↦ λ yes. of_same _ _ w.stocker-is (λ t. t.has_published ≡ true) w.learn_last.ensures.tells
+        | else-finished w ↦ λ yes. absurd (true≢false (sym yes ∙ w.if-finished.false))
+      ];
+      left = elim c.if-finished.branch [
+        | then-finished w ↦ λ yes.
+            let before = i.left yes in
+            let fewer = w.learn_last.ensures.left in
+            of_same _ _ w.stocker-is
+            (λ t. length t.spares.items + length (done ++ one ∷ []) ≡ length c.args.seated.items)
+            (omega (arith, before, fewer, length-append done (one ∷ [])))
+        | else-finished w ↦ λ yes. absurd (true≢false (sym yes ∙ w.if-finished.false))
+      ];
+      history = elim c.if-finished.branch [
+        | then-finished w ↦ λ yes. all_read_more first done one (i.history yes)
+            (subst (λ (l : List RackView). AreOfOneHistory l one.1) i.published w.learn_last.ensures.history)
+        | else-finished w ↦ λ yes. absurd (true≢false (sym yes ∙ w.if-finished.false))
       ];
     }
