@@ -8,6 +8,7 @@ ghost use Rattle.rolling_text.specs.TextSpans.{IsUpTo, MayPut, PutsSpan, span_of
 use crate::batches::{Batch, Makers};
 use crate::cuts::Cuts;
 use crate::logs::count_from;
+use crate::span_putter::SpanPutter;
 use crate::text_order::place_in;
 use crate::text_span::TextSpan;
 use crate::texts::Texts;
@@ -172,22 +173,31 @@ fn is_short(traces: &WorldTraces<'_>, span: TextSpan) -> bool
     all.saturating_sub(count_from(traces.world, place, span.until)) < LONG_SPAN
 }
 
-/// Puts a span: with the crew if there is one and the span is long, else by the caller alone.
-pub(crate) fn put_lines<'t, O: Sink, R: Wait>(
-    rt: &R,
-    traces: &WorldTraces<'t>,
-    help: &mut Help<'t>,
-    texts: &mut Texts<'t>,
-    span: TextSpan,
-    out: &mut O,
-) -> Result<(), PutFailed>
-    requires makers { MakeFor traces.now help.old.makers }
-    requires may { MayPut traces.now span texts.old }
-    ensures put { PutsSpan traces.now span texts.old texts.new (O.view out.old) (O.view out.new) result }
-    ensures makers { MakeFor traces.now help.new.makers }
-{
-    if help.makers.is_none() || is_short(traces, span) {
-        return put_span(traces, texts, span, out);
+/// The caller, together with the members of a crew that run in threads.
+#[derive(Drop)]
+pub(crate) struct WithCrew<'r, 't, R: Wait> {
+    /// What the caller waits with.
+    pub rt: &'r R,
+    /// The crew.
+    pub help: Help<'t>,
+}
+
+impl<'r, 't, R: Wait> SpanPutter<'t> for WithCrew<'r, 't, R> {
+    ghost use Rattle.rolling_text.specs.Batches.{MakeFor};
+
+    ghost puts_for = { λ p traces. MakeFor traces p.help.makers };
+
+    // with the crew if there is one and the span is long, else by the caller alone
+    fn put_lines<O: Sink>(
+        &mut self,
+        traces: &WorldTraces<'t>,
+        texts: &mut Texts<'t>,
+        span: TextSpan,
+        out: &mut O,
+    ) -> Result<(), PutFailed> {
+        if self.help.makers.is_none() || is_short(traces, span) {
+            return put_span(traces, texts, span, out);
+        }
+        put_by_makers(self.rt, traces, &mut self.help, texts, span, out)
     }
-    put_by_makers(rt, traces, help, texts, span, out)
 }

@@ -34,7 +34,8 @@
 //! ```
 //!
 //! Where a span ends is a hint, and no text depends on it. Once memory runs out, the caller puts what is left alone,
-//! and takes none. Only tests show that the threads run at the same time.
+//! and takes none. Only tests show that the threads run at the same time. `put_texts_sequentially` is the same without
+//! a crew: it waits for no other thread, so its clauses promise that it returns.
 //!
 //! The promise that it carries: **each text is the trace of its clone simulated alone**, byte for byte, and the texts
 //! come in the order that was asked for. The texts need no memory once the first part is put, so out of memory comes
@@ -53,6 +54,7 @@ mod making;
 mod page;
 mod parting;
 mod putting;
+mod span_putter;
 mod text_order;
 mod text_span;
 mod texts;
@@ -60,6 +62,6 @@ mod world_traces;
 mod writing;
 
 pub use alone::put_alone;
-pub use putting::put_texts;
+pub use putting::{put_texts, put_texts_sequentially};
 pub use texts::{Texts, prepare};
 pub use world_traces::WorldTraces;

@@ -13,10 +13,11 @@ ghost use Rattle.rolling_text.specs.TextSpans.{MayPut};
 ghost use Rattle.trace_report.specs.Outputs.{clone_text, clone_texts};
 
 use crate::batches::{LineMembers, Makers, Others, begin_if_long, serve_once};
-use crate::beside::{Help, put_lines};
+use crate::beside::{Help, WithCrew};
 use crate::bounds::parting_at;
 use crate::logs::len_between;
 use crate::page::Page;
+use crate::span_putter::{Alone, SpanPutter};
 use crate::text_order::place_in;
 use crate::text_span::TextSpan;
 use crate::texts::{FEED, Texts};
@@ -72,15 +73,14 @@ fn begin_text(traces: &WorldTraces<'_>, c: u32, time: u64, dropped: usize, page:
 
 // Puts the lines of a clone from where it parts from the one before it: a span up to the time at which the next one
 // parts from it, which is kept, and then all others.
-fn put_rest<'t, O: Sink, R: Wait>(
-    rt: &R,
+fn put_rest<'t, O: Sink, P: SpanPutter<'t>>(
     traces: &WorldTraces<'t>,
-    help: &mut Help<'t>,
+    putter: &mut P,
     texts: &mut Texts<'t>,
     kept: TextSpan,
     out: &mut O,
 ) -> Result<(), PutFailed>
-    requires makers { MakeFor traces.now help.old.makers }
+    requires puts_for { P.puts_for putter.old traces.now }
     requires keeps { kept.keeps ≡ true }
     requires may { MayPut traces.now kept texts.old }
     // all of these lines are put
@@ -95,9 +95,9 @@ fn put_rest<'t, O: Sink, R: Wait>(
     ensures err { OnErr result (IsCutOff (rest traces.now.net (clone_at traces.now.clones kept.c) kept.from)
         (O.view out.old) (O.view out.new)) }
     ensures can { CanPut traces.now.net texts.new }
-    ensures makers { MakeFor traces.now help.new.makers }
+    ensures puts_for { P.puts_for putter.new traces.now }
 {
-    match put_lines(rt, traces, help, texts, kept, out) {
+    match putter.put_lines(traces, texts, kept, out) {
         Ok(()) => {}
         Err(failed) => return Err(failed),
     }
@@ -107,7 +107,7 @@ fn put_rest<'t, O: Sink, R: Wait>(
         keeps: false,
         ..kept
     };
-    match put_lines(rt, traces, help, texts, others, out) {
+    match putter.put_lines(traces, texts, others, out) {
         Ok(()) => Ok(()),
         Err(failed) => Err(failed),
     }
@@ -126,16 +126,15 @@ fn bytes_between(traces: &WorldTraces<'_>, c: u32, from: u64, until: u64) -> usi
 
 // Puts the text of a clone. The page has lines of the clone before it, whose last `dropped` bytes are dropped. Returns
 // how many bytes of what is kept the next one drops.
-fn put_text<'t, O: Sink, R: Wait>(
-    rt: &R,
+fn put_text<'t, O: Sink, P: SpanPutter<'t>>(
     traces: &WorldTraces<'t>,
-    help: &mut Help<'t>,
+    putter: &mut P,
     texts: &mut Texts<'t>,
     c: u32,
     dropped: usize,
     out: &mut O,
 ) -> Result<usize, PutFailed>
-    requires makers { MakeFor traces.now help.old.makers }
+    requires puts_for { P.puts_for putter.old traces.now }
     requires there { c < length traces.now.clones }
     requires can { CanPut traces.now.net texts.old }
     requires fits { AllFit traces.now.net traces.now.clones texts.old.page.reserved }
@@ -152,7 +151,7 @@ fn put_text<'t, O: Sink, R: Wait>(
     ensures margin { OnOk result (MARGIN ≤ length texts.new.page.text) }
     ensures reserved { OnOk result (texts.old.page.reserved ≤ texts.new.page.reserved) }
     ensures can { CanPut traces.now.net texts.new }
-    ensures makers { MakeFor traces.now help.new.makers }
+    ensures puts_for { P.puts_for putter.new traces.now }
 {
     let clones = traces.len();
     let time = parting_at(traces, c);
@@ -170,7 +169,7 @@ fn put_text<'t, O: Sink, R: Wait>(
         until: late,
         keeps: true,
     };
-    match put_rest(rt, traces, help, texts, kept, out) {
+    match put_rest(traces, putter, texts, kept, out) {
         Ok(()) => {}
         Err(failed) => return Err(failed),
     }
@@ -181,21 +180,20 @@ fn put_text<'t, O: Sink, R: Wait>(
 }
 
 // Puts the text of each clone.
-fn put_all<'t, O: Sink, R: Wait>(
-    rt: &R,
+fn put_all<'t, O: Sink, P: SpanPutter<'t>>(
     traces: &WorldTraces<'t>,
-    help: &mut Help<'t>,
+    putter: &mut P,
     texts: &mut Texts<'t>,
     out: &mut O,
 ) -> Result<(), PutFailed>
-    requires makers { MakeFor traces.now help.old.makers }
+    requires puts_for { P.puts_for putter.old traces.now }
     requires ready { AreTextsReady traces.now.net traces.now.clones texts.old }
     ensures put { PutsAll traces.now (O.view out.old) (O.view out.new) result }
 {
     let clones = traces.len();
     let mut dropped = 0;
     for c in 0..clones {
-        match put_text(rt, traces, help, texts, c, dropped, out) {
+        match put_text(traces, putter, texts, c, dropped, out) {
             Ok(drops) => dropped = drops,
             Err(failed) => return Err(failed),
         }
@@ -203,9 +201,9 @@ fn put_all<'t, O: Sink, R: Wait>(
     Ok(())
 }
 
-// Puts the text of each clone, and then ends the members of the crew.
-fn put_and_end<'t, O: Sink, R: Wait>(
-    rt: &R,
+// Puts the text of each clone with the crew, and then ends its members.
+fn put_and_end<'r, 't, O: Sink, R: Wait>(
+    rt: &'r R,
     traces: &WorldTraces<'t>,
     help: &mut Help<'t>,
     bell: &Bell,
@@ -216,7 +214,12 @@ fn put_and_end<'t, O: Sink, R: Wait>(
     requires ready { AreTextsReady traces.now.net traces.now.clones texts.old }
     ensures put { PutsAll traces.now (O.view out.old) (O.view out.new) result }
 {
-    let done = put_all(rt, traces, help, texts, out);
+    let help = Help {
+        alloc: help.alloc,
+        makers: help.makers.take(),
+    };
+    let mut putter = WithCrew { rt, help };
+    let done = put_all(traces, &mut putter, texts, out);
     bell.end();
     done
 }
@@ -261,11 +264,7 @@ fn put_with<'t, O: Sink, R: Threads + Wait + Sync>(
 {
     let mut texts = texts;
     let Some((makers, others)) = crew else {
-        let mut alone = Help {
-            alloc,
-            makers: None,
-        };
-        return put_all(rt, traces, &mut alone, &mut texts, out);
+        return put_all(traces, &mut Alone, &mut texts, out);
     };
     let Others { members, bell } = others;
     let mut help = Help {
@@ -275,10 +274,32 @@ fn put_with<'t, O: Sink, R: Threads + Wait + Sync>(
     put_beside(rt, traces, &mut help, members, &bell, &mut texts, out)
 }
 
-/// Puts the text of each clone, its name line and its lines, in one call whose parts are put as they are made.
+/// Puts the text of each clone, its name line and its lines, in one call whose parts are put as they are made, in the
+/// caller's thread. It waits for no other thread, and takes no memory.
 ///
-/// The lines that a clone shares with the one before it are kept, and not made again. If there is a long text, and
-/// memory for it, a crew of `workers` workers makes the lines of long texts. Without a crew no memory is taken.
+/// The lines that a clone shares with the one before it are kept, and not made again.
+pub fn put_texts_sequentially<'a, O: Sink>(
+    traces: &WorldTraces<'a>,
+    texts: Texts<'a>,
+    out: &mut O,
+) -> Result<(), PutFailed>
+    requires ready { AreTextsReady traces.now.net traces.now.clones texts }
+    // all texts, each in one call, or those before one, and a prefix of it in the last call, which failed
+    ensures ok { OnOk result (IsAppended (O.view out.old).bytes (clone_texts traces.now.net traces.now.clones)
+        (O.view out.new).bytes) }
+    ensures each { OnOk result (AreCounted (length traces.now.clones) (O.view out.old).calls (O.view out.new).calls) }
+    ensures cut { OnErr result (AreCut (map (clone_text traces.now.net) traces.now.clones)
+        (O.view out.old) (O.view out.new)) }
+    ensures later { (O.view out.old).faults ≤ (O.view out.new).faults }
+{
+    let mut texts = texts;
+    put_all(traces, &mut Alone, &mut texts, out)
+}
+
+/// The same with a crew: if there is a long text, and memory for it, a crew of `workers` workers makes the lines of
+/// long texts. Without a crew no memory is taken.
+///
+/// With one worker it does what `put_texts_sequentially` does, which is promised to return.
 pub fn put_texts<'a, O: Sink, R: Threads + Wait + Sync>(
     rt: &R,
     alloc: Global,
@@ -296,6 +317,9 @@ pub fn put_texts<'a, O: Sink, R: Threads + Wait + Sync>(
         (O.view out.old) (O.view out.new)) }
     ensures later { (O.view out.old).faults ≤ (O.view out.new).faults }
 {
+    if workers <= 1 {
+        return put_texts_sequentially(traces, texts, out);
+    }
     // lent again, since the crew lives shorter than what the traces lend
     let crew = begin_if_long(alloc, &*traces, workers);
     put_with(rt, alloc, &*traces, crew, texts, out)

@@ -3,6 +3,7 @@ use Rattle.std.proofs.Math.ListN.{drop_of_length-le}
 use Rattle.sim_outer.proofs.Appending.{appended_nothing}
 use Rattle.sim_outer.proofs.Counts.{none_counted, counted_more}
 use Rattle.rolling_text.specs.declared.texts.TheConstants.{MARGIN}
+use Rattle.rolling_text.specs.Texts.{AllFit}
 use Rattle.rolling_text.proofs.AllTexts.{all_cut, put_whole}
 use Rattle.rolling_text.proofs.putting.put_all.Goals as goal
 
@@ -10,7 +11,7 @@ use Rattle.rolling_text.proofs.putting.put_all.Goals as goal
 
 pub loop-c-init : goal.loop-c-init
 loop-c-init g c = record {
-  makers = c.requires.makers;
+  puts_for = c.requires.puts_for;
   can = c.requires.ready.can;
   margin = omega (arith, c.requires.ready.margin);
   reserved = omega arith;
@@ -27,9 +28,33 @@ loop-c-init g c = record {
 
 -- ---- text after text
 
-pub put_text-requires-clause-fits : goal.put_text-requires-clause-fits
-put_text-requires-clause-fits g c k there =
-    let a = c.requires.ready.fits k there in let b = c.loop-c.invariant.reserved in omega (arith, a, b)
+pub put_text-requires : goal.put_text-requires
+put_text-requires g c =
+    let cs = c.args.traces.now.clones in
+    let there : c.loop-c.c < length cs = omega (arith, c.loop-c-test.true, c.len-clones.ensures.value) in
+    let h = c.loop-c.invariant in
+    λ κs. (
+      (refl, tt),
+      (
+        h.puts_for,
+        (
+          there,
+          (
+            h.can,
+            (
+              fits,
+              (
+                h.margin,
+                h.left (omega (arith, c.loop-c-test.true)),
+              ),
+            ),
+          ),
+        ),
+      ),
+    )
+  where
+    fits : AllFit c.args.traces.now.net c.args.traces.now.clones c.loop-c.texts.page.reserved
+    fits k there = let a = c.requires.ready.fits k there in let b = c.loop-c.invariant.reserved in omega (arith, a, b)
 
 pub returns-in-Err : goal.returns-in-Err
 returns-in-Err g c =
@@ -57,7 +82,7 @@ loop-c-preserved g c =
     let put = c.in-Ok.ensures in
     let more_faults = put.ok.later in
     record {
-      makers = put.makers;
+      puts_for = put.puts_for;
       can = put.can;
       margin = put.margin;
       reserved = omega (arith, h.reserved, put.reserved);

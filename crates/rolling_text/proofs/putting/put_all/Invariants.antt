@@ -2,7 +2,6 @@ use Rattle.std.proofs.Common.{◌<◌, ◌≤◌, length, take, drop}
 use Rattle.std.specs.List.{flat_map}
 use Rattle.sim_outer.specs.Bytes.{IsAppended}
 use Rattle.sim_outer.specs.Counts.{AreCounted}
-use Rattle.rolling_text.specs.Batches.{MakeFor}
 use Rattle.rolling_text.specs.declared.texts.TheConstants.{MARGIN}
 use Rattle.rolling_text.specs.Texts.{AreLeft, CanPut}
 use Rattle.trace_report.specs.Outputs.{clone_text}
@@ -11,7 +10,7 @@ use Rattle.rolling_text.proofs.putting.put_all.Given as goal
 -- nothing is said of the margin before the lines: they are what the last head left
 abbrev pub invariant-loop-c : goal.invariant-loop-c
 invariant-loop-c g l = record {
-  makers : MakeFor l.traces l.help.makers;
+  puts_for : g.P.SpanPutter.puts_for l.putter l.traces;
   can : CanPut l.traces.net l.texts;
   margin : MARGIN ≤ length l.texts.page.text;
   reserved : l.fn.texts.page.reserved ≤ l.texts.page.reserved;

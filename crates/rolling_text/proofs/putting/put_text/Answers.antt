@@ -1,4 +1,4 @@
-use Rattle.std.proofs.Common.{◌+◌, ◌∙◌, ap, arith, length, sym}
+use Rattle.std.proofs.Common.{◌+◌, ◌∙◌, ap, arith, length, refl, sym}
 use Rattle.sim_base.specs.Clones.{clone_at}
 use Rattle.rolling_text.specs.Texts.{body, parting_at, rest}
 use Rattle.rolling_text.proofs.Joined.{next_before, rest_fits, still_joined}
@@ -11,22 +11,31 @@ use Rattle.rolling_text.proofs.putting.put_text.Goals as goal
 pub returns-in-Err-clause-err : goal.returns-in-Err-clause-err
 returns-in-Err-clause-err g c = cut_part _ _ _ _ _ c.begin_text-start.ensures.text c.in-Err.ensures.err
 
-pub put_rest-requires-clause-may : goal.put_rest-requires-clause-may
-put_rest-requires-clause-may g c =
+pub put_rest-requires : goal.put_rest-requires
+put_rest-requires g c =
     let v = c.args.traces.now in
     let clone = clone_at v.clones c.args.c in
     let begun = c.begin_text-start in
     let fits = c.requires.fits c.args.c c.requires.there in
-    record {
-      has_span = record { there = c.requires.there; order = omega (arith, c.max-late.ensures) };
-      can = record { walk = c.requires.can.walk; line = c.requires.can.line };
-      fits = λ is.
-          rest_fits begun.new.page.text (rest v.net clone c.parting_at-time.result) (body v.net clone)
-          begun.new.page.reserved
-          begun.ensures.margin
-          begun.ensures.lines
-          (omega (arith, fits, begun.ensures.reserved));
-    }
+    λ κs. (
+      (refl, tt),
+      (
+        c.requires.puts_for,
+        (
+          refl,
+          record {
+            has_span = record { there = c.requires.there; order = omega (arith, c.max-late.ensures) };
+            can = record { walk = c.requires.can.walk; line = c.requires.can.line };
+            fits = λ is.
+                rest_fits begun.new.page.text (rest v.net clone c.parting_at-time.result) (body v.net clone)
+                begun.new.page.reserved
+                begun.ensures.margin
+                begun.ensures.lines
+                (omega (arith, fits, begun.ensures.reserved));
+          },
+        ),
+      ),
+    )
 
 pub returns-in-Err-put_rest-clause-err : goal.returns-in-Err-put_rest-clause-err
 returns-in-Err-put_rest-clause-err g c =
