@@ -10,6 +10,7 @@ from .errors import PlanningError
 from .explain_model import Explainer, Refusal
 from .explain_script import Decisions, Lines, explain_script, read_lines, some
 from .explain_tables import Status, Tables, is_integer, read_tables
+from .explain_watches import Watches, explain_watches
 from .names import did_you_mean
 from .places import Places, printable, read_bytes, read_places
 
@@ -19,16 +20,20 @@ The error line is the last line of standard input, so the journal of `live` may 
 
     cloner run MODEL SCRIPT > TRACES 2> ERROR || cloner_planning.py explain MODEL SCRIPT < ERROR
 
-Prints the meaning from docs/FORMATS.md, the line of the model or the script, what is allowed there, and the nearest
-word. Ends with 1 after an explanation, with 0 if standard input is empty, with 2 if its last line is no error line
-of cloner."""
+Prints the meaning from docs/FORMATS.md, the line of the file, what is allowed there, and the nearest word. Ends with
+1 after an explanation, with 0 if standard input is empty, with 2 if its last line is no error line of cloner.
+
+With a file of watches and an empty standard input it says what each watch waits for and what its branch changes:
+
+    cloner_planning.py explain MODEL SCRIPT WATCHES < /dev/null"""
 
 MODEL_LINE = re.compile(r"cloner: model: refusal (\d+) at station (\d+)(?: key ?(.*))?\Z")
-SCRIPT_LINE = re.compile(r"cloner: (script|decision): refusal (\d+) at line (\d+)\Z")
+LINE_OF_TEXT = re.compile(r"cloner: (script|decision|watches|watch): refusal (\d+) at line (\d+)\Z")
 LIMIT_LINE = re.compile(r"cloner: limit (\d+) met at station (\w+) in clone (\w+)\Z")
 CLONE_LINE = re.compile(r"cloner: no clone (\S+)\Z")
 FRONT_LINE = re.compile(rb"# front (\d{1,10})\s*\Z")
 LONGEST_LINE = 4096
+SUBJECTS = {"script": "a script", "decision": "a decision", "watches": "watches", "watch": "a watch"}
 GREATEST_LIMIT = 65_536
 ROOM_TO_SPARE = 1.1
 
@@ -37,6 +42,7 @@ def add_arguments(parser: argparse.ArgumentParser) -> None:
     """Adds the words of the command line."""
     parser.add_argument("model", nargs="?", metavar="MODEL", help="the model file that cloner was given")
     parser.add_argument("script", nargs="?", metavar="SCRIPT", help="the script that cloner was given")
+    parser.add_argument("watches", nargs="?", metavar="WATCHES", help="the file of watches that cloner was given")
 
 
 class Needed(NamedTuple):
@@ -48,11 +54,12 @@ class Needed(NamedTuple):
 
 
 class Files:
-    """The model and the script of the command line, read when they are asked for; None if they are not named."""
+    """The files of the command line, read when they are asked for; None if they are not named."""
 
-    def __init__(self, model: Optional[str], script: Optional[str]):
+    def __init__(self, model: Optional[str], script: Optional[str], watches: Optional[str] = None):
         self.model = model
         self.script = script
+        self.watches = watches
 
     def places(self) -> Optional[Places]:
         """Returns the places of the model."""
@@ -61,6 +68,10 @@ class Files:
     def lines(self) -> Optional[Lines]:
         """Returns the lines of the script."""
         return read_lines(self.script) if self.script else None
+
+    def watch_lines(self) -> Optional[Lines]:
+        """Returns the lines of the file of watches."""
+        return read_lines(self.watches, "watches") if self.watches else None
 
 
 PARTS = {"N": r"\d+", "P": r"\d+", "S": r"\S+", "C": r"\S+", "NAME": r"\S+", "..": ".*"}
@@ -85,11 +96,11 @@ def explain(said: str, front: Optional[int], tables: Tables, files: Files) -> Li
     row = status_of(said, tables)
     if row is None:
         raise PlanningError(f"this is no error line of cloner: {printable(said)}")
-    model, script, limit = MODEL_LINE.match(said), SCRIPT_LINE.match(said), LIMIT_LINE.match(said)
+    model, text, limit = MODEL_LINE.match(said), LINE_OF_TEXT.match(said), LIMIT_LINE.match(said)
     if model:
         return explain_model(Refusal(int(model.group(1)), int(model.group(2)), model.group(3)), tables, files)
-    if script:
-        return explain_lines(script.group(1), int(script.group(2)), int(script.group(3)), tables, files)
+    if text:
+        return explain_lines(text.group(1), int(text.group(2)), int(text.group(3)), tables, files)
     if limit:
         return [row.meaning] + explain_limit(limit.groups(), front, files) + [f"What to do: {row.to_do}"]
     return [row.meaning] + more_of(said, row, tables, files) + ([f"What to do: {row.to_do}"] if row.to_do else [])
@@ -99,13 +110,13 @@ def meaning_of(subject: str, number: int, tables: Tables) -> List[str]:
     """Returns the meaning of a refusal; PlanningError if there is none of this number."""
     meanings = tables.refusals(subject)
     if number not in meanings:
-        raise PlanningError(f"cloner has no refusal {number} of a {subject}")
+        raise PlanningError(f"cloner has no refusal {number} of {subject}")
     return [meanings[number]]
 
 
 def explain_model(refusal: Refusal, tables: Tables, files: Files) -> List[str]:
     """Returns what a refusal of a model means, and where."""
-    meaning = meaning_of("model", refusal.number, tables)
+    meaning = meaning_of("a model", refusal.number, tables)
     places = files.places()
     if places is None:
         return meaning + ["Give the model's file as well, and its line is shown."]
@@ -113,14 +124,26 @@ def explain_model(refusal: Refusal, tables: Tables, files: Files) -> List[str]:
 
 
 def explain_lines(subject: str, number: int, line: int, tables: Tables, files: Files) -> List[str]:
-    """Returns what a refusal of a script or a decision means, and where."""
-    meaning = meaning_of(subject, number, tables)
+    """Returns what a refusal of a script, a decision or a watch means, and where."""
+    meaning = meaning_of(SUBJECTS[subject], number, tables)
+    if subject in ("watches", "watch"):
+        return meaning + explain_watch(subject, number, line, tables, files)
     lines = files.lines()
     if lines is None:
         return meaning + ["Give the files of the model and the script as well, and the line is shown."]
     if subject == "script":
         return meaning + explain_script(lines, tables, number, line)
     return meaning + Decisions(lines, tables, files.places()).explain(number, line)
+
+
+def explain_watch(subject: str, number: int, line: int, tables: Tables, files: Files) -> List[str]:
+    """Returns where a refusal of watches or of one watch is."""
+    lines = files.watch_lines()
+    if lines is None:
+        return ["Give the files of the model, the script and the watches as well, and the line is shown."]
+    if subject == "watches":
+        return explain_watches(lines, tables, number, line)
+    return Watches(lines, files.lines(), tables, files.places()).explain(number, line)
 
 
 def explain_limit(groups: Tuple[str, ...], front: Optional[int], files: Files) -> List[str]:
@@ -182,8 +205,8 @@ def more_of(said: str, row: Status, tables: Tables, files: Files) -> List[str]:
     if row.status == 2:
         return [f"Known: {form}" for form in tables.commands()]
     if row.status == 3:
-        what = "model" if said.endswith("model") else "script"
-        return why_unread(files.model if what == "model" else files.script, what)
+        what = said.split()[-1]
+        return why_unread({"model": files.model, "script": files.script, "watches": files.watches}[what], what)
     return []
 
 
@@ -225,10 +248,13 @@ def write(lines: List[str]) -> None:
 
 
 def run(options: argparse.Namespace) -> int:
-    """Explains the error line on standard input; returns 1, or 0 if there is none."""
+    """Explains the error line on standard input; returns 1, or 0 if there is none, after a look at the watches."""
     said, front = read_said(sys.stdin.buffer)
+    files = Files(options.model, options.script, options.watches)
     if not said:
+        lines = files.watch_lines()
+        write(Watches(lines, files.lines(), read_tables(), files.places()).described() if lines else [])
         return 0
-    found = explain(said, front, read_tables(), Files(options.model, options.script))
+    found = explain(said, front, read_tables(), files)
     write([printable(said)] + [f"  {line}" for line in found])
     return 1

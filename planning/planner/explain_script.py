@@ -11,7 +11,7 @@ GREATEST = 4_294_967_295
 NUMBER = re.compile(r"(0|[1-9][0-9]{0,9})\Z")
 MOST_DECISIONS, MOST_ANALYSTS, MOST_BRANCHES, MOST_SETS = 4096, 16, 256, 256
 NAME_RULE = "a name has 1 to 16 of a-z, 0-9 and _, the first a letter"
-GONE = "This line as it is now does not have this fault: was the script changed after the run, or is it another file?"
+GONE = "This line as it is now does not have this fault: was the file changed after the run, or is it another one?"
 
 
 class Word(NamedTuple):
@@ -22,7 +22,7 @@ class Word(NamedTuple):
 
 
 class Lines:
-    """The lines of a script."""
+    """The lines of a script or a file of watches."""
 
     def __init__(self, path: str, data: bytes):
         self.path = path
@@ -57,9 +57,9 @@ class Lines:
         return made
 
 
-def read_lines(path: str) -> Lines:
-    """Returns the lines of a script; PlanningError if it cannot be read."""
-    return Lines(path, read_bytes(path, "script"))
+def read_lines(path: str, what: str = "script") -> Lines:
+    """Returns the lines of a script or a file of watches; PlanningError if it cannot be read."""
+    return Lines(path, read_bytes(path, what))
 
 
 def is_number(text: str) -> bool:
@@ -81,7 +81,7 @@ def explain_script(lines: Lines, tables: Tables, number: int, line: int) -> List
     if number == 2:
         return shown + why_not_ascii(lines, line)
     if number == 3:
-        return shown + (BadLine(words, tables).lines() or [GONE])
+        return shown + (BadLine(words, tables.script_forms(), tables).lines() or [GONE])
     if number == 4:
         return shown + (why_no_number(words) or [GONE])
     if number == 5:
@@ -102,14 +102,14 @@ def why_not_ascii(lines: Lines, line: int) -> List[str]:
         return [GONE]
     column = len(raw[:bad.start()]) + 1
     said = f"Column {column}: the byte 0x{raw[bad.start()]:02x}"
-    rule = "A script has plain ASCII alone, also in comments."
+    rule = "Only ASCII characters are allowed, also in comments."
     for length in (2, 3, 4):
         try:
             letter = raw[bad.start():bad.start() + length].decode("utf-8")
         except UnicodeDecodeError:
             continue
         if letter == "\ufeff":
-            return [said + ", a byte order mark. Save the script without one."]
+            return [said + ", a byte order mark. Save the file without one."]
         return [f"{said}, the first of the character {letter!r} in UTF-8. {rule}"]
     return [f"{said}. {rule}"]
 
@@ -118,8 +118,12 @@ def why_no_number(words: List[Word]) -> List[str]:
     """Returns the words of a line that are no number where one belongs, and why."""
     at = [words[3]] if len(words) > 3 and words[0].text in ("set", "end") else []
     values = words[6:] if words and words[0].text == "set" else []
-    return [f"{here(word)} is no number: {fault_of_number(word.text)}."
-            for word in at + values if not is_number(word.text)]
+    return faults_of_numbers(at + values)
+
+
+def faults_of_numbers(words: List[Word]) -> List[str]:
+    """Returns which of these words are no number, and why."""
+    return [f"{here(word)} is no number: {fault_of_number(word.text)}." for word in words if not is_number(word.text)]
 
 
 def fault_of_number(text: str) -> str:
@@ -140,9 +144,9 @@ def fault_of_number(text: str) -> str:
 class BadLine:
     """Says why a line has no known form."""
 
-    def __init__(self, words: List[Word], tables: Tables):
+    def __init__(self, words: List[Word], forms: Dict[str, str], tables: Tables):
         self.words = words
-        self.forms = tables.script_forms()
+        self.forms = forms
         self.parameters = tables.parameters()
 
     def lines(self) -> List[str]:
@@ -159,13 +163,15 @@ class BadLine:
     def form(self) -> str:
         """Returns the form of the line, with the values of its parameter if that is known."""
         form = self.forms[self.words[0].text]
-        known = len(self.words) > 5 and self.parameters.get(self.words[5].text)
+        parts = form.split()
+        place = parts.index("PARAMETER") if "PARAMETER" in parts else len(self.words)
+        known = place < len(self.words) and self.parameters.get(self.words[place].text)
         return form.replace("PARAMETER VALUES", known.form) if known else form
 
     def first_fault(self) -> List[str]:
         """Returns what is wrong with the first word that does not fit the form."""
         parts = self.form().split()
-        values = self.words[0].text == "set"
+        values = self.words[0].text in ("set", "watch")
         for place, part in enumerate(parts):
             if part == "VALUES":
                 return []
@@ -189,7 +195,7 @@ class BadLine:
         word, after = self.words[place], self.words[place + 1:place + 2]
         if part == "TIME" and not word.text[:1].isdigit() and after and after[0].text.isdigit():
             return [f"{here(word)} is where the time belongs: the time comes before the station."]
-        if part in ("TIME", "A", "B"):
+        if part in ("TIME", "K", "A", "B"):
             return []
         if part == "PARAMETER":
             return [f"{here(word)} is no parameter: they are {', '.join(self.parameters)}."] \

@@ -1,4 +1,4 @@
-"""Reads the tables of docs/FORMATS.md: refusals, statuses, keys, parameters, lines of a script."""
+"""Reads the tables of docs/FORMATS.md: refusals, statuses, keys, parameters, lines of a script and of watches."""
 import os
 import re
 from typing import Any, Dict, List, NamedTuple, Optional, Tuple
@@ -65,9 +65,9 @@ class Tables:
         return [dict(zip(titles, cells(line))) for line in found.group(1).rstrip("\n").split("\n")]
 
     def refusals(self, subject: str) -> Dict[int, str]:
-        """Returns what each refusal of a model, a script or a decision means, by number."""
+        """Returns what each refusal means, by number; the subject is as in `a model`, or `watches`."""
         meanings = {}
-        for row in self.rows("You see", f"### Refusals of a {subject}"):
+        for row in self.rows("You see", f"### Refusals of {subject}"):
             number = re.search(r"refusal (\d+)", row["You see"])
             if number:
                 meanings[int(number.group(1))] = row.get("Meaning") or row.get("Reason") or ""
@@ -96,6 +96,13 @@ class Tables:
         """Returns the form of each line of a script by its first word."""
         forms = [row["Line"].strip("`") for row in self.rows("Line", "### Lines")]
         return {form.split()[0]: form for form in forms if re.match(r"[a-z]+ [A-Z]", form)}
+
+    def watch_forms(self) -> Dict[str, str]:
+        """Returns the form of a watch by its first word."""
+        found = re.search(r"^watch [A-Z].*$", self.text, re.M)
+        if not found:
+            raise PlanningError("docs/FORMATS.md has no form of a watch")
+        return {"watch": found.group()}
 
     def commands(self) -> List[str]:
         """Returns the forms of the command line."""

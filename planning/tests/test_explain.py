@@ -210,9 +210,11 @@ class TablesOfFormats(unittest.TestCase):
         self.tables = read_tables()
 
     def test_every_refusal_is_there(self):
-        self.assertEqual(sorted(self.tables.refusals("model")), [*range(1, 13), 14])
-        self.assertEqual(sorted(self.tables.refusals("script")), list(range(1, 7)))
-        self.assertEqual(sorted(self.tables.refusals("decision")), list(range(1, 13)))
+        self.assertEqual(sorted(self.tables.refusals("a model")), [*range(1, 13), 14])
+        self.assertEqual(sorted(self.tables.refusals("a script")), list(range(1, 7)))
+        self.assertEqual(sorted(self.tables.refusals("a decision")), list(range(1, 13)))
+        self.assertEqual(sorted(self.tables.refusals("watches")), list(range(1, 6)))
+        self.assertEqual(sorted(self.tables.refusals("a watch")), [*range(3, 10), 12])
 
     def test_keys(self):
         keys = self.tables.keys("of a station")
@@ -233,17 +235,18 @@ class TablesOfFormats(unittest.TestCase):
         self.assertEqual(type_of(True), "true or false")
 
     def test_statuses_parameters_and_forms(self):
-        self.assertEqual([row.status for row in self.tables.statuses()], [0, 1, 2, 3, 4, 5, 6, 6, 7, 8])
+        self.assertEqual([row.status for row in self.tables.statuses()], [0, 1, 2, 3, 4, 5, 6, 6, 7, 8, 9, 9])
         self.assertEqual(self.tables.parameters()["weight"].taken_by, "router by weights")
         self.assertEqual(list(self.tables.script_forms()), ["analyst", "fork", "set", "end", "look"])
-        self.assertEqual(len(self.tables.commands()), 5)
+        self.assertEqual(list(self.tables.watch_forms()), ["watch"])
+        self.assertEqual(len(self.tables.commands()), 7)
 
     def test_links_become_pages(self):
         self.assertEqual(unlinked("[the rules](#rules)"), "see docs/FORMATS.md#rules")
         self.assertEqual(unlinked("or `solo`: [PLANNING.md](PLANNING.md#memory)"), "or `solo`: docs/PLANNING.md#memory")
 
     def test_a_page_without_the_table(self):
-        for question in (lambda: Tables("nothing").parameters(), lambda: Tables("nothing").refusals("model"),
+        for question in (lambda: Tables("nothing").parameters(), lambda: Tables("nothing").refusals("a model"),
                          lambda: read_tables("/nowhere/FORMATS.md")):
             with self.assertRaises(PlanningError):
                 question()
@@ -251,7 +254,7 @@ class TablesOfFormats(unittest.TestCase):
     def test_no_number_is_unexplained(self):
         with open(explain_model.__file__, encoding="utf-8") as file:
             known = set(re.findall(r"\b(\d+): self\.\w+", file.read()))
-        self.assertEqual(known, {str(number) for number in self.tables.refusals("model")})
+        self.assertEqual(known, {str(number) for number in self.tables.refusals("a model")})
 
 
 if __name__ == "__main__":
