@@ -11,8 +11,8 @@ from .shares import Shares
 
 DESCRIPTION = f"""Pictures of a trace: a station over time in several branches, or what each branch computed alone.
 
-TRACE is what `cloner run`, `solo` or `live` wrote, or - for standard input. The picture is an SVG on standard
-output, or with --output a file .svg or .png. Drawing needs matplotlib.
+TRACE is what `cloner run`, `solo`, `live`, `watch` or `links` wrote, or - for standard input. The picture is an SVG on
+standard output, or with --output a file .svg or .png. Drawing needs matplotlib.
 
 plot TRACE STATION [BRANCH ..]
   A line for each branch; without BRANCH all branches, at most {MOST_BRANCHES}. It shows how many jobs wait at a server

@@ -15,7 +15,7 @@ from .traces import Trace, open_trace
 
 DESCRIPTION = """Figures of each server, sink and branch of a trace, as tables or CSV.
 
-TRACE is what `cloner run`, `solo` or `live` wrote, or - for standard input. It is read once.
+TRACE is what `cloner run`, `solo`, `live`, `watch` or `links` wrote, or - for standard input. It is read once.
 The figures are those of a span of time: of messages at --from or later, and before --to. Without
 --to the span goes to the model's horizon. A branch that ends earlier has a shorter span.
 

@@ -18,6 +18,7 @@ is_message = re.compile(rf"{NUMBER} {STATION} {STATION} {NUMBER} {PAYLOAD} {COUN
 head_of = re.compile(rf"clone ({STATION})\s*\Z").match
 report_row = re.compile(rf"({STATION}) copies=({NUMBER}) handled=({NUMBER}) alone=({NUMBER})\s*\Z").match
 report_total = re.compile(rf"total handled=({NUMBER}) alone=({NUMBER})\s*\Z").match
+rounds_line = re.compile(rf"rounds ({NUMBER})\s*\Z").match
 
 ReportRow = Tuple[str, int, int, int]
 
@@ -28,6 +29,7 @@ class Trace:
     journal: the lines of a journal before the traces, without their ends (empty until the first branch is there)
     report: (station, copies, handled, alone) of each station (empty until all branches are read)
     total: (handled, alone) of the report, or None
+    rounds: the rounds that `links` writes after the report, or None
     number: the number of the line that was read last
     """
 
@@ -37,6 +39,7 @@ class Trace:
         self.journal: List[str] = []
         self.report: List[ReportRow] = []
         self.total: Optional[Tuple[int, int]] = None
+        self.rounds: Optional[int] = None
         self.number = 0
 
     def branches(self) -> Iterator[Tuple[str, Iterator[str]]]:
@@ -100,10 +103,12 @@ class Trace:
     def _read_report(self) -> None:
         line = self._next()
         while line is not None:
-            row, total = report_row(line), report_total(line)
-            if self.total is not None or not (row or total):
+            row, total, rounds = report_row(line), report_total(line), rounds_line(line)
+            if self.total is not None and self.rounds is None and rounds:
+                self.rounds = int(rounds.group(1))
+            elif self.total is not None or not (row or total):
                 raise self.fault(f"no line of a report: {shown(line)}")
-            if row:
+            elif row:
                 self.report.append((row.group(1), int(row.group(2)), int(row.group(3)), int(row.group(4))))
             else:
                 self.total = (int(total.group(1)), int(total.group(2)))

@@ -55,6 +55,11 @@ class Reading(unittest.TestCase):
         self.assertEqual(trace.number, 12)
         self.assertEqual(trace.journal, [])
 
+    def test_links_has_rounds_after_the_report(self):
+        trace = trace_of(BASE + FAST + REPORT + "rounds 3\n")
+        self.assertEqual([name for name, _ in read_all(trace)], ["base", "fast"])
+        self.assertEqual((trace.total, trace.rounds), ((13, 17), 3))
+
     def test_solo_has_one_branch_and_no_report(self):
         trace = trace_of(BASE)
         self.assertEqual([name for name, _ in read_all(trace)], ["base"])
@@ -115,6 +120,8 @@ class Refusing(unittest.TestCase):
     def test_a_line_that_is_no_report(self):
         self.assertIn("line 7 of the trace: no line of a report", self.refused(BASE + "report\n9 desk copies\n"))
         self.assertIn("line 10 of the trace: no line of a report", self.refused(BASE + REPORT + BASE))
+        self.assertIn("line 11 of the trace: no line", self.refused(BASE + REPORT + "rounds 3\nrounds 3\n"))
+        self.assertIn("line 7 of the trace: no line of a report", self.refused(BASE + "report\nrounds 3\n"))
 
     def test_what_is_shown_of_a_line_is_short_and_printable(self):
         self.assertTrue(self.refused("\x00\x1b[2J" + "y" * 999).endswith("??[2J" + "y" * 55 + " .."))
