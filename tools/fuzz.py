@@ -6,9 +6,12 @@
 Of each case: `run` against `solo` of each clone; 1 against 4 and 16 workers, where the program knows
 `--workers`; the report against counts out of the traces; `live` against its journal under `run`, what its
 analysts asked, and its looks against the traces; `stats`, where the program knows it, against figures
-out of the traces; the traces' order; the form of error lines, and no output beside one; the refusal of the model, the script or a decision, or the clones, against
-the formats written once more. With --plain also the traces of the plain simulator of bench/. A case
-that fails is kept in a folder, with its model, its script and what was found. Status 1 where one failed.
+out of the traces; `watch`, where the program knows it, with watches made for the case, against `run` of
+the script that the due times give; `links`, where the program knows it, against `run` and rounds worked
+out from the model; the traces' order; the form of error lines, and no output beside one; the refusal of
+the model, the script or a decision, or the clones, against the formats written once more. With --plain
+also the traces of the plain simulator of bench/. A case that fails is kept in a folder, with its model,
+its script, its watches and what was found. Status 1 where one failed.
 """
 import argparse
 import collections
@@ -22,10 +25,12 @@ import time
 from pathlib import Path
 
 from fuzz_cases import made_case
+from fuzz_links import check_links
 from fuzz_live import Difference, check_live
 from fuzz_model import expected_model
 from fuzz_script import decided, expected
 from fuzz_stats import expected_stats
+from fuzz_watch import check_watch
 
 TOP = Path(__file__).resolve().parent.parent
 BUILT = TOP / "crates" / "cloner_cli" / "out" / "cloner_cli"
@@ -63,8 +68,9 @@ class Runner:
     def __init__(self, program, plain, folder):
         self.program, self.plain = str(program.resolve()), plain and str(plain.resolve())
         self.model, self.script, self.plainest = (str(folder / name) for name in ("model", "script", "plainest"))
+        self.watches, self.other = str(folder / "watches"), str(folder / "other")
         self.out, self.err, self.runs = str(folder / "out"), str(folder / "err"), 0
-        self.workers, self.knows_stats = [], False
+        self.workers, self.knows = [], []
         signal.signal(signal.SIGALRM, rung)
 
     def started(self, words):
@@ -101,17 +107,41 @@ class Runner:
         """`cloner stats` of the present case."""
         return self.started([self.program, "stats", self.model, self.script, *more])
 
-    def run_script(self, script):
-        """`cloner run` of the present model with another script."""
+    def watch(self, *more):
+        """`cloner watch` of the present case with the present watches."""
+        return self.started([self.program, "watch", self.model, self.script, self.watches, *more])
+
+    def links(self, *more):
+        """`cloner links` of the present case."""
+        return self.started([self.program, "links", self.model, self.script, *more])
+
+    def run_script(self, script, model=None):
+        """`cloner run` of the present model, or of another one, with another script."""
         write(self.plainest, script)
-        return self.started([self.program, "run", self.model, self.plainest])
+        if model:
+            write(self.other, model)
+        return self.started([self.program, "run", self.other if model else self.model, self.plainest])
+
+    def write_watches(self, watches):
+        """Makes the present file of watches, or sees that there is none."""
+        if watches is None:
+            Path(self.watches).unlink(missing_ok=True)
+        else:
+            write(self.watches, watches)
+
+    def options(self):
+        """The options with which a mode is compared: none, and more workers."""
+        return [[]] + [["--workers", number] for number in self.workers[:1]]
 
     def find_abilities(self):
-        """Notes which numbers of workers the program knows, and if it knows `stats`."""
+        """Notes which numbers of workers the program knows, and which of its later modes."""
         write(self.model, (TOP / "examples" / "small.toml").read_bytes())
         write(self.script, (TOP / "examples" / "small.txt").read_bytes())
+        write(self.watches, b"")
         self.workers = [number for number in ("4", "16") if self.run("--workers", number).status == 0]
-        self.knows_stats = self.stats().status == 0
+        self.knows = [mode for mode in ("stats", "watch") if getattr(self, mode)().status == 0]
+        if re.search(rb"\nrounds \d+\n\Z", self.links().out):
+            self.knows.append("links")
 
 
 def write(path, data):
@@ -240,7 +270,7 @@ def check_plain(runner, case, ended):
 
 def check_lives(runner, case, ended):
     """`live` of the present case: refused texts as by `run`, and else right by itself."""
-    for more in [[]] + [["--workers", number] for number in runner.workers[:1]]:
+    for more in runner.options():
         live = runner.live(*more)
         if ended.status in (4, 5):
             if live != ended:
@@ -260,11 +290,21 @@ def check_stats(runner, case, ended):
             return
         ends = decided(case.script, model)[1].ends
         ended = Ended(0, expected_stats(split(ended.out)[0], model, ends, log_entries), b"")
-    for more in [[]] + [["--workers", number] for number in runner.workers[:1]]:
+    for more in runner.options():
         stats = runner.stats(*more)
         if stats != ended:
             raise Difference(f"`stats` {' '.join(more)}: status {stats.status} {stats.err[:200]!r}, "
                              f"{stats.out[:400]!r} in place of {ended.out[:400]!r}")
+
+
+def check_later_modes(runner, case, ended):
+    """The modes that the program may not know."""
+    if "stats" in runner.knows:
+        check_stats(runner, case, ended)
+    if "watch" in runner.knows:
+        check_watch(runner, split, case, ended)
+    if "links" in runner.knows:
+        check_links(runner, split, case, ended)
 
 
 def check_case(runner, case):
@@ -277,8 +317,7 @@ def check_case(runner, case):
         if other != ended:
             raise Difference(f"{number} workers: status {other.status} {other.err[:200]!r}; not as 1 worker")
     check_lives(runner, case, ended)
-    if runner.knows_stats:
-        check_stats(runner, case, ended)
+    check_later_modes(runner, case, ended)
     if ended.status:
         check_refused(runner, ended)
         return ended.status
@@ -292,8 +331,11 @@ def keep(folder, name, case, why):
     """Writes a case that failed, and what was found, into a folder."""
     place = folder / name
     place.mkdir(parents=True, exist_ok=True)
-    for part, data in zip(("model.toml", "script.txt", "found.txt"), (case.model, case.script, f"{why}\n".encode())):
-        write(place / part, data)
+    parts = {"model.toml": case.model, "script.txt": case.script, "watches.txt": case.watches,
+             "found.txt": f"{why}\n".encode()}
+    for part, data in parts.items():
+        if data is not None:
+            write(place / part, data)
     print(f"case {name}: {why}", flush=True)
 
 
@@ -329,9 +371,8 @@ def main():
     cases = sum(statuses.values()) + failures
     counts = ", ".join(f"status {status}: {count}" for status, count in sorted(statuses.items()))
     workers = "1, " + ", ".join(runner.workers) if runner.workers else "no --workers"
-    stats = "with" if runner.knows_stats else "without"
     print(f"{cases} cases, {runner.runs} runs in {time.perf_counter() - begin:.0f} s; {counts}; "
-          f"workers: {workers}; {stats} stats; {failures} differences")
+          f"workers: {workers}; also: {', '.join(runner.knows) or 'none'}; {failures} differences")
     sys.exit(bool(failures))
 
 
