@@ -3,7 +3,7 @@
 
     tools/hostile.py [--bin FILE] [--seconds N] [ROW ..]
 
-Each row is a model, a script and what has to come: status, error line, and for a finished run how the output
+Each row is a model, a script, for `watch` also a file of watches, and what has to come: status, error line, and for a finished run how the output
 ends. A row fails where something else comes, where anything is on the output after a refusal, or where it takes
 longer than N seconds of processor time (by default 1; the last row, a full study of the greatest size, has no
 bound). It prints a line for each row with its time and peak memory, and ends with status 1 where one failed.
@@ -44,6 +44,13 @@ def web(stations, links):
     return b"".join(text) + OUT
 
 
+def busy_desk():
+    """A desk at which something happens at each of 20,000 times, with one job waiting at most."""
+    return (b"lookahead = 1\nhorizon = 20002\nlimit = 65536\n"
+            + b'[[station]]\nname = "gate"\nkind = "source"\nevery = [1, 1]\njobs = 20000\nlink = [{ to = "desk", delay = 1 }]\n'
+            + DESK.replace(b"service = [4, 4]", b"service = [1, 1]") + OUT)
+
+
 def crowd(clones, sets, station):
     """So many clones, all but `base` with so many sets each, which come late."""
     text = []
@@ -60,7 +67,10 @@ def crowd(clones, sets, station):
 
 
 def rows():
-    """What each row shows: its name, model, script, status, error line (None: any of the status), end of the output."""
+    """What each row shows: its name, model, script, status, error line (None: any of the status), end of the output.
+
+    A row for `watch` also has a file of watches.
+    """
     yield "a router that spins", spin(100_000), b"", 7, b"cloner: limit 16384 met at station spin in clone base\n", None
     yield ("a router that spins up to the limit", spin(16_386), b"", 0, b"",
            b"report\ngate copies=1 handled=1 alone=1\nspin copies=1 handled=16384 alone=16384\ntotal handled=16385 alone=16385\n")
@@ -91,7 +101,27 @@ def rows():
            b"cloner: model: refusal 5 at station 0 key " + b"a" * 32 + b"\n", None)
     yield "a dotted key of half a million parts", b"a" + b".a" * ((MOST - 4) // 2) + b"=1", b"", 4, None, None
     yield "87,000 tables", b"[[station]]\n" * 87_000 + HEAD, b"", 4, None, None
+    yield from watch_rows()
     yield "64 stations with 16 links, 256 clones with full lists", web(64, 16), crowd(256, 256, b"gate"), 0, b"", None
+
+
+def watch_rows():
+    """The rows for `watch`."""
+    in_vain = b"".join(b"watch base desk wait 4294967295 fork w%d set desk room 5\n" % k for k in range(256))
+    at_once = in_vain.replace(b"4294967295", b"0")
+    chain = b"".join(b"watch %s desk wait 0 fork w%d set desk room 5\n" % (b"w%d" % (k - 1) if k else b"base", k)
+                     for k in range(255))
+    for name, watches, line in [("that is too long", b"#" * (MOST + 1), b"watches: refusal 1 at line 0"),
+                                ("with one too many", in_vain, b"watches: refusal 5 at line 256"),
+                                ("with a word of a megabyte", b"watch " + b"a" * (MOST - 6), b"watches: refusal 3 at line 1"),
+                                ("with a clone too many", at_once.partition(b"\n")[2], b"watch: refusal 5 at line 255")]:
+        yield f"a file of watches {name}", ONE_DESK, b"fork fast from base\n", 9, b"cloner: %s\n" % line, None, watches
+    for name, model, watches, handled, alone in [
+            ("that are due at once", ONE_DESK, at_once.partition(b"\n")[2], 12, 2303),
+            ("in a chain", ONE_DESK, chain, 22, 92),
+            ("of a long log, in vain", busy_desk(), in_vain.partition(b"\n")[2], 79996, 79996)]:
+        end = b"total handled=%d alone=%d\n" % (handled, alone)
+        yield f"255 watches {name}", model, b"", 0, b"", end, watches
 
 
 def run(words):
@@ -115,13 +145,17 @@ def main():
     given = parser.parse_args()
     failed = count = 0
     with tempfile.TemporaryDirectory() as folder:
-        model, script = Path(folder, "model.toml"), Path(folder, "script.txt")
-        for name, model_text, script_text, status, line, end in rows():
+        model, script, watched = (Path(folder, name) for name in ("model.toml", "script.txt", "watches.txt"))
+        for name, model_text, script_text, status, line, end, *watches in rows():
             if given.names and name not in given.names:
                 continue
             model.write_bytes(model_text)
             script.write_bytes(script_text)
-            code, out, err, seconds, memory = run([str(given.bin.resolve()), "run", str(model), str(script)])
+            words = ["run", str(model), str(script)]
+            if watches:
+                watched.write_bytes(watches[0])
+                words = ["watch", str(model), str(script), str(watched)]
+            code, out, err, seconds, memory = run([str(given.bin.resolve()), *words])
             well = code == status and (line is None or err == line) and (end is None or out.endswith(end))
             well = well and (status == 0 or (not out and err.count(b"\n") == 1))
             well = well and (seconds <= given.seconds or "full lists" in name)
