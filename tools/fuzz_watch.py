@@ -20,12 +20,13 @@ WAITING = re.compile(rb"(?m)^\d+ ([a-z0-9_]+) .* wait=(\d+) ")
 WITHOUT_MODEL = b"watch base desk wait 1 fork help set desk servers 2\n"
 
 
-def made_chain(rng, station, targets, horizon):
+def made_chain(rng, servers, clones):
     """As many watches as there may be, or one more or less, each of the branch of the one before it or of `base`."""
-    who, lines, is_chain = "base", [], rng.random() < 0.5
-    for number in range(rng.randint(MOST_WATCHES - 1, MOST_WATCHES + 1)):
-        change = made_set(rng, rng.choice(targets), horizon).partition(" ")[2]
-        lines.append(f"watch {who} {station.name} wait {rng.choice([0, 1])} fork w{number} set {change}")
+    who, lines, is_chain = "base", [], rng.random() < 0.3
+    room_left = MOST_WATCHES + 1 - clones
+    for number in range(rng.choice([room_left, room_left, room_left + 1, MOST_WATCHES + 1])):
+        station, target = rng.choice(servers).name, rng.choice(servers).name
+        lines.append(f"watch {who} {station} wait {rng.choice([0, 1])} fork w{number} set {target} room {number % 7}")
         who = f"w{number}" if is_chain else who
     return lines
 
@@ -36,7 +37,7 @@ def made_lines(rng, model, book, seen):
     servers = [station for station in model.stations if station.kind == "server"]
     targets = [s for s in model.stations if s.kind in ("source", "server", "delay") or s.keys.get("by") == "weights"]
     if servers and rng.random() < 0.01:
-        return made_chain(rng, rng.choice(servers), servers, horizon)
+        return made_chain(rng, servers, len(book.sets))
     known, lines = [name for name in book.sets if name not in book.ends], []
     for number in range(rng.choice([0, 1, 1, 2, 3, 5, 8]) if servers else rng.choice([0] * 9 + [1])):
         who = rng.choice(known) if known and rng.random() < 0.98 else rng.choice([*book.sets, "ghost"])
