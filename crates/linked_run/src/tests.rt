@@ -76,7 +76,7 @@ fn next_round<L: Ledger>(
 /// Whether the first two clocks of a network are these after no round, one and two, and the third round is the last.
 fn clocks_are<L: Ledger>(
     alloc: Global,
-    text: &str,
+    model: Arc<Model>,
     one: [u64; 2],
     two: [u64; 2],
     blank: Blank,
@@ -86,7 +86,6 @@ fn clocks_are<L: Ledger>(
     requires some { 0 < L.parts }
 {
     let mut steps = Steps::<L>::new(blank);
-    let model = model_of(alloc, text)?;
     if model.len() < 2 {
         return None;
     }
@@ -97,24 +96,30 @@ fn clocks_are<L: Ledger>(
     Some(world.is_done() && world.rounds() == 3)
 }
 
+/// The same, counted from 0.
+fn clocks_come(alloc: Global, text: &str, one: [u64; 2], two: [u64; 2]) -> Option<bool> {
+    let model = model_of(alloc, text)?;
+    clocks_are::<Brand>(alloc, model, one, two, Blank::new(1))
+}
+
 /// The run of a model's base clone in the caller's thread.
 fn run_base<L: Ledger>(
     alloc: Global,
-    text: &str,
+    model: &Arc<Model>,
     blank: Blank,
-) -> Option<Result<LinkedWorld, StudyFault>>
+) -> Result<LinkedWorld, StudyFault>
     requires name { blank.name ≡ L.name }
     requires parts { blank.parts ≡ L.parts }
     requires some { 0 < L.parts }
 {
     let mut steps = Steps::<L>::new(blank);
-    let model = model_of(alloc, text)?;
-    Some(run_linked_sequentially(alloc, &model, &[], &mut steps))
+    run_linked_sequentially(alloc, model, &[], &mut steps)
 }
 
 /// The number of rounds of a model.
 fn rounds_of(alloc: Global, text: &str) -> Option<u64> {
-    let linked = run_base::<Brand>(alloc, text, Blank::new(1))?.ok()?;
+    let model = model_of(alloc, text)?;
+    let linked = run_base::<Brand>(alloc, &model, Blank::new(1)).ok()?;
     Some(linked.rounds)
 }
 
@@ -164,15 +169,13 @@ fn four_workers_make_the_rounds<L: Ledger, R: Threads + Wait + Sync>(
 
 #[test]
 fn clocks_of_one_desk(rt: HostRuntime) {
-    assert!(rt;
-        clocks_are::<Brand>(rt.alloc(), ONE_DESK, [20, 2], [20, 20], Blank::new(1)) == Some(true)
-    );
+    assert!(rt; clocks_come(rt.alloc(), ONE_DESK, [20, 2], [20, 20]) == Some(true));
     assert!(rt; rounds_of(rt.alloc(), ONE_DESK) == Some(3));
 }
 
 #[test]
 fn clocks_of_a_ring(rt: HostRuntime) {
-    assert!(rt; clocks_are::<Brand>(rt.alloc(), RING, [5, 3], [8, 8], Blank::new(1)) == Some(true));
+    assert!(rt; clocks_come(rt.alloc(), RING, [5, 3], [8, 8]) == Some(true));
 }
 
 #[test]
