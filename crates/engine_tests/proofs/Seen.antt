@@ -8,12 +8,12 @@ use Rattle.engine_tests.specs.Seen.{AreSeenUpTo}
 
 -- a rack of a later front may follow
 pub seen_follows : (net : Net) (front : ℕ) (racks : List RackView) (r : RackView) → AreSeenUpTo net front racks
-    → r.net ≡ net → front < r.front → MayBePublished racks r
-seen_follows net front [] r seen e l = tt
-seen_follows net front (q ∷ racks) r seen e l =
+    → r.net ≡ net → front < r.front → r.front ≤ r.net.horizon → MayBePublished racks r
+seen_follows net front [] r seen e l w = tt
+seen_follows net front (q ∷ racks) r seen e l w =
     let same : r.net ≡ q.net = e ∙ sym seen.0.0 in
     let f : q.front < r.front = let h = seen.0.1 in omega (arith, h, l) in
-    (record { net = same; later = λ s. f }, seen_follows net front racks r seen.1 e l)
+    (record { net = same; later = λ s. f; within = λ s. w }, seen_follows net front racks r seen.1 e l w)
 
 -- and with it they are seen up to its front
 pub seen_with : (net : Net) (front : ℕ) (racks : List RackView) (r : RackView) → AreSeenUpTo net front racks

@@ -4,17 +4,22 @@ ghost use Rattle.sim_base.specs.Clones.{base};
 ghost use Rattle.run_laws.specs.Fronts.{least_of};
 ghost use Rattle.stations.specs.Runs.{simulation};
 ghost use Rattle.decision_desk.specs.Desks.{desk_id};
+ghost use Rattle.decision_desk.specs.Leasts.{leasts_of};
 ghost use Rattle.decision_desk.specs.Passes.{new_passes, new_helm};
 ghost use Rattle.decision_desk.specs.declared.desk.TheConstants.{MOST_PASSES};
+ghost use Rattle.live_study.specs.Driving.{MayTurn};
+ghost use Rattle.live_study.specs.Engines.{InStep, IsAhead};
 
 use decision_book::{Call, Reply};
 use decision_desk::{Desk, Helm, Pass, Receipt};
 use net_model::{Model, read_model};
 use sample_models::ONE_DESK;
-use sim_base::{Change, Decision, Name, NoMemory, Param};
+use sim_base::{Change, Decision, Name, NoMemory, Param, Steps};
 use std::alloc::Global;
+use std::marker::Brand;
 use std::process::Abort;
 use std::sync::atomic::{AtomicU64, Ordering};
+use std::sync::ledger::{Blank, Ledger};
 use std::sync::{Arc, Wait};
 use std::thread;
 use std::thread::Threads;
@@ -287,16 +292,112 @@ fn count_who_see_ten<R: Threads + Wait + Abort + Sync>(
     count.load(Ordering::SeqCst)
 }
 
-/// Whether three passes see front 10, the first of the worked example whose first job comes at 8.
+/// A desk of this number of analysts over the worked example, with its world.
+fn begin_world_with_desk(
+    alloc: Global,
+    analysts: u32,
+) -> Result<(Desk, Vec<Pass>, Helm, World), NoMemory>
+    requires some { 1 ≤ analysts }
+    requires few { analysts ≤ MOST_PASSES }
+    ensures passes { IfOk result (λ r. r.1.items ≡ new_passes (desk_id r.0) r.2.net analysts) }
+    ensures desk { IfOk result (λ r. r.2.desk ≡ desk_id r.0) }
+    ensures in_step { IfOk result (λ r. InStep r.2 r.3) }
+{
+    let Ok(model) = read_model(alloc, ONE_DESK.as_bytes()) else {
+        return Err(NoMemory);
+    };
+    let model = Arc::new(alloc, model)?;
+    let world = World::new(alloc, Arc::try_clone(&model)?)?;
+    let (desk, passes, helm) = Desk::begin(alloc, model, analysts)?;
+    Ok((desk, passes, helm, world))
+}
+
+/// The least time that is due, if there is one clone.
+fn least_alone(alloc: Global, world: &World) -> Result<Vec<Option<u64>>, NoMemory>
+    ensures value { IfOk result (λ v. v.items ≡ leasts_of world.now.net world.now.clones world.now.front) }
+{
+    if world.lists().len() != 1 {
+        return Err(NoMemory);
+    }
+    let least = world.least_of(0);
+    Ok(Vec::from_array(alloc, [least])?)
+}
+
+/// A turn of the helm over the base clone alone: the world takes what was accepted, and the next window's bound.
+fn raise_front<R: Wait>(
+    rt: &R,
+    alloc: Global,
+    desk: &Desk,
+    helm: &mut Helm,
+    world: World,
+) -> Result<(World, u64), NoMemory>
+    requires may_turn { MayTurn (desk_id desk.now) helm.old world }
+    ensures desk { helm.new.desk ≡ helm.old.desk }
+    ensures ahead { IfOk result (λ r. IsAhead helm.new r.0 r.1) }
+{
+    let leasts = least_alone(alloc, &world)?;
+    let turn = helm.next(rt, alloc, desk, leasts.as_slice())?;
+    let world = world.take(alloc, turn.fresh.as_slice())?;
+    let _short = world.lists();
+    let _valid = world.model().lookahead();
+    Ok((world, turn.front))
+}
+
+/// A turn of the helm, and its window, on the counter that the blank makes.
+fn take_turn_counted<L: Ledger, R: Wait>(
+    rt: &R,
+    alloc: Global,
+    desk: &Desk,
+    helm: &mut Helm,
+    world: World,
+    blank: Blank,
+) -> Result<World, NoMemory>
+    requires may_turn { MayTurn (desk_id desk.now) helm.old world }
+    requires name { blank.name ≡ L.name }
+    requires parts { blank.parts ≡ L.parts }
+    requires some { 0 < L.parts }
+    ensures desk { helm.new.desk ≡ helm.old.desk }
+    ensures in_step { IfOk result (λ w. InStep helm.new w) }
+{
+    let (world, bound) = raise_front(rt, alloc, desk, helm, world)?;
+    let mut steps = Steps::<L>::new(blank);
+    match world.window_in_place(alloc, bound, &mut steps) {
+        Ok(world) => Ok(world),
+        Err(_) => Err(NoMemory),
+    }
+}
+
+/// This number of turns of the helm, each with its window.
+fn take_turns<R: Wait>(
+    rt: &R,
+    alloc: Global,
+    desk: &Desk,
+    helm: &mut Helm,
+    world: World,
+    many: u32,
+) -> Result<World, NoMemory>
+    requires desk { helm.old.desk ≡ desk_id desk.now }
+    requires in_step { InStep helm.old world }
+{
+    let mut world = world;
+    for _ in 0..many {
+        if world.front() >= world.model().horizon() {
+            return Err(NoMemory);
+        }
+        world = take_turn_counted::<Brand, R>(rt, alloc, desk, helm, world, Blank::new(1))?;
+    }
+    Ok(world)
+}
+
+/// Whether three passes see front 10, the third of the worked example.
 #[tactic(auto, using(decision_desk::proofs::NewPasses::new_passes_desks))]
 fn three_see_ten<R: Threads + Wait + Abort + Sync>(
     rt: &R,
     alloc: Global,
 ) -> Result<bool, NoMemory> {
-    let text = ONE_DESK.replacen(alloc, "[3, 3]", "[8, 8]", 1)?;
-    let (desk, mut passes, mut helm, least) = begin_desk(alloc, text.as_str(), 3)?;
-    let front = first_turn(rt, alloc, &desk, &mut helm, least);
-    Ok(front == Some(10) && count_who_see_ten(rt, &desk, &mut passes) == 3)
+    let (desk, mut passes, mut helm, world) = begin_world_with_desk(alloc, 3)?;
+    let world = take_turns(rt, alloc, &desk, &mut helm, world, 3)?;
+    Ok(world.front() == 10 && count_who_see_ten(rt, &desk, &mut passes) == 3)
 }
 
 /// All passes ask for this, side by side, fifty times each.

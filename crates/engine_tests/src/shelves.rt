@@ -1,5 +1,5 @@
 //! A run that publishes the gate's rack after each window, and readers beside it.
-ghost use Rattle.std.specs.Prelude.{◌≡◌, ◌<◌, ◌≤◌, length, All, IfOk, IfSome};
+ghost use Rattle.std.specs.Prelude.{◌≡◌, ◌<◌, ◌≤◌, length, false, All, IfOk, IfSome};
 ghost use Rattle.net_model.specs.declared.limits.TheConstants.{MOST_STATIONS};
 ghost use Rattle.shelf.specs.Racks.{HasRack, MayOpen};
 ghost use Rattle.engine_tests.specs.Seen.{AreSeenUpTo};
@@ -75,6 +75,7 @@ fn begin_shelf<J: Naming, W: Wait + Drop>(
     requires name { opened.seen.book ≡ J.book }
     ensures seen { IfOk result (λ r. AreSeenUpTo r.0.net r.0.front r.1.published) }
     ensures there { IfOk result (λ r. HasRack 1 r.1.published) }
+    ensures quiet { IfOk result (λ r. r.1.has_published ≡ false) }
     ensures seats { IfOk result (λ r. All (λ s. HasRack 1 s) r.2.items) }
 {
     let (world, racks) = opening(alloc)?;
@@ -110,6 +111,7 @@ fn two_of<J: Naming>(seats: Vec<Seat<J>>) -> Result<(Seat<J>, Seat<J>), NoMemory
 fn step_window(alloc: Global, world: World) -> Option<(World, Rack)>
     ensures net { IfSome result (λ p. (p.0.net ≡ world.net) × (p.1.net ≡ world.net)) }
     ensures later { IfSome result (λ p. (world.front < p.1.front) × (p.0.front ≡ p.1.front)) }
+    ensures within { IfSome result (λ p. p.1.front ≤ p.1.net.horizon) }
     ensures gate { IfSome result (λ p. p.1.station ≡ 1) }
 {
     let before = world.front();
@@ -276,13 +278,16 @@ fn sees_told<J: Naming, W: Wait + Drop>(
     requires there { HasRack 1 seat.old }
     ensures published { stocker.new.published ≡ stocker.old.published }
 {
+    if stocker.spares.len() == 0 {
+        return false;
+    }
     match stocker.told() {
         Some(told) => look_told(seat, told, who) == front,
         None => false,
     }
 }
 
-/// Whether each of the two readers can be told once. They are gone then.
+/// Whether each of the two readers can be told once, and no more. They are gone then.
 fn tells_each<J: Naming, W: Wait + Drop>(
     stocker: &mut Stocker<J, W>,
     one: Seat<J>,
@@ -298,8 +303,7 @@ fn tells_each<J: Naming, W: Wait + Drop>(
     let mut two = two;
     let first = sees_told(stocker, &mut one, who, front);
     let second = sees_told(stocker, &mut two, who, front);
-    let no_more = stocker.told().is_none();
-    first && second && no_more
+    first && second && stocker.spares.is_empty()
 }
 
 /// Whether all windows were published, and two readers beside them saw what they should.
@@ -334,8 +338,8 @@ fn beside<J: Naming + Send + Sync, W: Wait + Drop + Send, R: Threads + Wait + Sy
     Ok(saw_all(stocker, one, two, who))
 }
 
-/// Whether a look before any publish gives the opening rack, one after it the rack that was published, each seat can
-/// be told of it once, and the stocker goes on when its readers are gone.
+/// Whether nothing is told before any publish, a look then gives the opening rack, one after it the rack that was
+/// published, each seat can be told of it once, and the stocker goes on when its readers are gone.
 fn looks_are_right<J: Naming, W: Wait + Drop>(
     alloc: Global,
     world: World,
@@ -346,19 +350,21 @@ fn looks_are_right<J: Naming, W: Wait + Drop>(
 ) -> Result<bool, NoMemory>
     requires seen { AreSeenUpTo world.net world.front stocker.published }
     requires there { HasRack 1 stocker.published }
+    requires quiet { stocker.has_published ≡ false }
     requires one { HasRack 1 one }
     requires two { HasRack 1 two }
 {
     let mut stocker = stocker;
     let mut one = one;
     let mut two = two;
+    let quiet = stocker.told().is_none();
     let opens = look_once(&mut one, who) == 0;
     let world = publish_window(alloc, world, &mut stocker)?;
     let front = world.front();
     let shown = look_once(&mut two, who) == front;
     let told = tells_each(&mut stocker, one, two, who, front);
     let goes_on = publish_window(alloc, world, &mut stocker).is_ok();
-    Ok(opens && 0 < front && shown && told && goes_on)
+    Ok(quiet && opens && 0 < front && shown && told && goes_on)
 }
 
 /// The same of a run that begins.
