@@ -8,31 +8,38 @@ use Rattle.net_model.specs.Text.{model}
 use Rattle.decision_script.specs.Reading.{script}
 use Rattle.decision_script.specs.Stating.{ScriptView}
 use Rattle.command_words.specs.declared.request.Mode.{Mode}
-use Rattle.command_words.specs.declared.request.Mode.TheVariants.{Solo}
-use Rattle.command_words.specs.Requests.{AssignmentView, Live, Study}
+use Rattle.command_words.specs.declared.request.Mode.TheVariants.{Links, Solo}
+use Rattle.watch_points.specs.declared.watch.Watch as watch
+use Rattle.watch_points.specs.Checking.{fit}
+use Rattle.watch_points.specs.Reading.{watches}
+use Rattle.watch_points.specs.Triggers.{clones_with_branches}
+use Rattle.command_words.specs.Requests.{AssignmentView, Live, Study, Watch}
 use Rattle.cloner_top.specs.declared.excess.Excess.{Excess}
 use Rattle.cloner_top.specs.declared.excess.Excess.TheVariants.{LimitMet}
 use Rattle.cloner_top.specs.declared.refusal.Refusal.{Refusal}
 use Rattle.cloner_top.specs.declared.refusal.Refusal.TheVariants.{OutOfMemory, Usage, NotRead}
 use Rattle.cloner_top.specs.declared.refusal.Refusal.TheVariants.{Stopped, Exceeded, CannotWrite}
 use Rattle.cloner_top.specs.declared.refusal.Text.{Text}
-use Rattle.cloner_top.specs.declared.refusal.Text.TheVariants.{Model, Script}
+use Rattle.cloner_top.specs.declared.refusal.Text.TheVariants.{Model, Script, Watches}
 use Rattle.cloner_top.specs.declared.stop.Stop.{Stop}
-use Rattle.cloner_top.specs.declared.stop.Stop.TheVariants.{BadModel, BadScript, BadDecision, NoClone}
+use Rattle.cloner_top.specs.declared.stop.Stop.TheVariants.{BadModel, BadScript, BadDecision, BadWatch, BadWatches}
+use Rattle.cloner_top.specs.declared.stop.Stop.TheVariants.{NoClone}
 use Rattle.cloner_top.specs.Answers.{InputsFailed, IsAnswer, IsLawfulEnding, Outside, cut, exceeded, memory}
 use Rattle.cloner_top.specs.Answers.{stopped, success, unread, usage}
 use Rattle.cloner_top.specs.Deciding.{clones_of}
 use Rattle.cloner_top.specs.Endings.{Ending, IsExcessOf, MayDecide, MayEnd, MayEndByTexts, MayFollow, MayLive, MayRun}
-use Rattle.cloner_top.specs.Endings.{MayRunAlone, MaySimulate, MayStudy, early_stop, mode_meets, mode_texts, overrun}
-use Rattle.cloner_top.specs.Endings.{solo_text, whole, whole_output}
+use Rattle.cloner_top.specs.Endings.{IsOver, MayRunAlone, MayRunLinked, MaySimulate, MayStudy, MayWatch, early_stop}
+use Rattle.cloner_top.specs.Endings.{mode_meets}
+use Rattle.cloner_top.specs.Endings.{mode_texts, overrun, run_texts, solo_text, whole, whole_output}
 use Rattle.cloner_top.specs.Endings as ends
 use Rattle.cloner_top.specs.Facts.{ArePreceded, Completes, IsCutFor, IsLive, IsStoppedFor, IsStudy, IsToldFor}
 use Rattle.cloner_top.specs.Facts.{IsUnreadFor, IsWritten, Writes, WritesAll, WritesIn, WritesLive, WritesOne}
+use Rattle.cloner_top.specs.Facts.{WritesLinked, WritesWatched}
 use Rattle.cloner_top.specs.Facts.{at_limit, at_once}
 use Rattle.cloner_top.specs.Outsides.{ArePut, ArePutOrCut}
 use Rattle.cloner_top.specs.Refusals.{error_line, status_of}
 use Rattle.cloner_top.specs.Stops.{excess_status, stop_status}
-use Rattle.cloner_top.specs.Texts.{AreTexts, IsUnreadFrom, Origin, in_file, made, origin_of}
+use Rattle.cloner_top.specs.Texts.{AreTexts, IsUnreadFrom, Origin, in_file, made, not_asked, origin_of}
 
 -- ---- the statuses of stops and of excesses
 
@@ -42,6 +49,8 @@ stop_status-low (BadModel fault) = omega arith
 stop_status-low (BadScript fault) = omega arith
 stop_status-low (BadDecision reply line) = omega arith
 stop_status-low (NoClone name) = omega arith
+stop_status-low (BadWatches fault) = omega arith
+stop_status-low (BadWatch reply line) = omega arith
 
 -- but not 8
 stop_status-other : (s : Stop) → stop_status s ≢ 8
@@ -49,6 +58,8 @@ stop_status-other (BadModel fault) = λ e. omega (arith, e)
 stop_status-other (BadScript fault) = λ e. omega (arith, e)
 stop_status-other (BadDecision reply line) = λ e. omega (arith, e)
 stop_status-other (NoClone name) = λ e. omega (arith, e)
+stop_status-other (BadWatches fault) = λ e. omega (arith, e)
+stop_status-other (BadWatch reply line) = λ e. omega (arith, e)
 
 -- an excess has 7
 excess_status-is : (e : Excess) → excess_status e ≡ 7
@@ -69,6 +80,11 @@ run_told : (net : Net) (clones : List Clone) (meets : ℕ → ℕ → Type 0) (t
     (most : ℕ) → MayRun net clones meets texts (overrun told e most) → told ≡ []
 run_told net clones meets texts told e most (ends.over station who met) = refl
 
+-- nor in one by the clocks of links
+linked_told : (net : Net) (clones : List Clone) (told : List (List ℕ)) (e : Excess) (most : ℕ)
+    → MayRunLinked net clones (overrun told e most) → told ≡ []
+linked_told net clones told e most (ends.over_linked station who met) = refl
+
 -- nor in the run of one clone alone
 alone_told : (net : Net) (clones : List Clone) (name : List ℕ) (part : Clone → Clone)
     (written : Clone → Result (List ℕ) Excess) (told : List (List ℕ)) (e : Excess) (most : ℕ)
@@ -80,8 +96,16 @@ alone_told net clones name part written told e most (ends.limit_met k station is
 simulation_told : (mode : Mode) (net : Net) (clones : List Clone) (told : List (List ℕ)) (e : Excess) (most : ℕ)
     → MaySimulate mode net clones (overrun told e most) → told ≡ []
 simulation_told (Solo name) net clones told e most h = alone_told net clones name whole (solo_text net) told e most h
+simulation_told Links net clones told e most h = linked_told net clones told e most h
 simulation_told mode net clones told e most h =
     run_told net clones (mode_meets mode net clones) (mode_texts mode net clones) told e most h
+
+-- nor in a run with watches
+watch_told : (text : List ℕ) (net : Net) (clones : List Clone) (told : List (List ℕ)) (e : Excess) (most : ℕ)
+    → MayWatch text net clones (overrun told e most) → told ≡ []
+watch_told text net clones told e most (ends.watched ws end is fits may) =
+    run_told net (clones_with_branches net clones ws) (IsOver net (clones_with_branches net clones ws))
+    (run_texts net (clones_with_branches net clones ws)) told e most may
 
 -- nor where all decisions are made first
 decide_told : (simulates : List Clone → Ending → Type 0) (net : Net) (s : ScriptView) (told : List (List ℕ))
@@ -112,6 +136,10 @@ follow_told (Study source mode) t net told e most h = study_told (MayEnd mode ne
     (λ cs. simulation_told mode net cs told e most) may)) h
 follow_told (Live m s) t net told e most h = study_told (MayLive net) _ (t Script) told e most
     (λ stated may. let l = live_told net stated told e most may in inr (l.0, l.1, tt)) h
+follow_told (Watch m s w) t net told e most h =
+    study_told (MayDecide (MayWatch (t Watches) net) net) _ (t Script) told e most
+    (λ stated may. inl (decide_told (MayWatch (t Watches) net) net stated told e most
+    (λ cs. watch_told (t Watches) net cs told e most) may)) h
 
 -- in an assignment
 come_told : (a : AssignmentView) (t : Text → List ℕ) (told : List (List ℕ)) (e : Excess) (most : ℕ)
@@ -202,7 +230,7 @@ module _ (words : Option AssignmentView) (before after : Outside) where
   output_same _ (exceeded a told e is why refused) not_0 not_8 = refused.output
   output_same _ (cut a is off told) not_0 not_8 = absurd (not_8 refl)
 
-  -- where the status is 2 to 6, no message was handled
+  -- where the status is 2 to 6 or 9, no message was handled
   pub idle : (status : ℕ) → IsAnswer words before after status → 2 ≤ status → status ≢ 7 → status ≢ 8
       → after.steps ≡ before.steps
   idle _ (success a is finished fetches quiet) l not_7 not_8 = absurd (omega (arith, l))
@@ -251,6 +279,22 @@ module _ (before after : Outside) where
   writes_all a net s meets texts put work study p (ends.within within) =
       record { net = net; stated = s; study = study; within = within; put = p.are; steps = p.steps }
 
+  -- one by the clocks of links also writes the rounds
+  writes_linked : (a : AssignmentView) (net : Net) (s : ScriptView) (put : List (List ℕ)) (work : ℕ)
+      → IsStudy before.inputs.files a net s → ArePutFor before after put work
+      → MayRunLinked net (clones_of net s) (whole_output put work) → WritesLinked before after a
+  writes_linked a net s put work study p (ends.linked k are few within) = record {
+    net = net;
+    stated = s;
+    study = study;
+    rounds = k;
+    are_rounds = are;
+    rounds_max = few;
+    within = within;
+    put = p.are;
+    steps = p.steps;
+  }
+
   -- the run of one clone alone writes the text of that clone
   writes_one : (a : AssignmentView) (net : Net) (s : ScriptView) (name : List ℕ) (part : Net → Clone → Clone)
       (written : Net → Clone → Result (List ℕ) Excess) (put : List (List ℕ)) (work : ℕ)
@@ -276,6 +320,7 @@ module _ (before after : Outside) where
       → MaySimulate mode net (clones_of net s) (whole_output put work) → WritesIn mode before after a
   writes_by (Solo name) a net s put work study p may =
       writes_one a net s name (λ n. whole) solo_text put work study p may
+  writes_by Links a net s put work study p may = writes_linked a net s put work study p may
   writes_by mode a net s put work study p may =
       writes_all a net s (mode_meets mode net (clones_of net s)) (mode_texts mode) put work study p may
 
@@ -304,6 +349,33 @@ module _ (before after : Outside) where
       steps = p.steps;
     }
 
+    -- a run with watches writes the texts of all clones with their branches
+    writes_watched : (s : ScriptView) (put : List (List ℕ)) (work : ℕ) → script (t Script) ≡ Ok s
+        → ArePutFor before after put work
+        → MayDecide (MayWatch (t Watches) net) net s (whole_output put work) → WritesWatched before after a
+    writes_watched s put work is_script p (ends.simulation _ accepted (ends.watched ws _ are fits may)) =
+        by_run put work p may
+      where
+        by_run : (put : List (List ℕ)) (work : ℕ) → ArePutFor before after put work
+            → MayRun net (clones_with_branches net (clones_of net s) ws)
+            (IsOver net (clones_with_branches net (clones_of net s) ws))
+            (run_texts net (clones_with_branches net (clones_of net s) ws)) (whole_output put work)
+            → WritesWatched before after a
+        by_run put work p (ends.within within) = record {
+          net = net;
+          stated = s;
+          study = record {
+            read = record { t = t; texts = texts; is_model = is_model; is_script = is_script };
+            accepted = accepted;
+          };
+          ws = ws;
+          are_watches = are;
+          fits = fits;
+          within = within;
+          put = p.are;
+          steps = p.steps;
+        }
+
     -- a study whose decisions are all made first writes what its clones come to
     writes_decided : (mode : Mode) (s : ScriptView) (put : List (List ℕ)) (work : ℕ) → script (t Script) ≡ Ok s
         → ArePutFor before after put work → MayDecide (MaySimulate mode net) net s (whole_output put work)
@@ -323,6 +395,9 @@ module _ (before after : Outside) where
       (λ s is m. writes_decided (Study source mode) t net texts is_model mode s put work is p m) may
   writes_follow (Live m s) t net put work texts is_model p may = writes_study (MayLive net) _ (t Script) put work
       (λ stated is h. writes_live (Live m s) t net texts is_model stated put work is p h) may
+  writes_follow (Watch m s w) t net put work texts is_model p may =
+      writes_study (MayDecide (MayWatch (t Watches) net) net) _ (t Script) put work
+      (λ stated is h. writes_watched (Watch m s w) t net texts is_model stated put work is p h) may
 
   -- an assignment
   writes_come : (a : AssignmentView) (t : Text → List ℕ) (put : List (List ℕ)) (work : ℕ)
@@ -357,6 +432,7 @@ module _ (before after : Outside) where
   unread-no_fault (in_file name) well (inl failed) = absurd (well failed)
   unread-no_fault (in_file name) well (inr lacks) = inr lacks
   unread-no_fault (made text) well h = h
+  unread-no_fault not_asked well h = h
 
   -- out of memory is an answer to all that is asked
   of_memory : (words : Option AssignmentView) → Completes words before after 1

@@ -5,6 +5,8 @@ pub mod FactLaws
 pub mod Runs
 pub mod Preparing
 pub mod RunPuts
+pub mod WatchedRuns
+pub mod LinkedRuns
 pub mod OwnScriptLaws
 pub mod LiveRuns
 pub mod JournalLaws

@@ -1,5 +1,5 @@
 -- What a fetch gives of a file states what the whole file states: it is the whole file, or too long as well.
-use Rattle.std.proofs.Common.{◌≡◌, ℕ, ◌+◌, Bool, true, false, nat_lt, if◌then◌else◌, cond, List, length, take}
+use Rattle.std.proofs.Common.{◌≡◌, ℕ, ◌+◌, Bool, true, false, nat_lt, if◌then◌else◌, cond, List, [], length, take}
 use Rattle.std.proofs.Common.{refl, ap, sym, ◌∙◌, arith, Ok, Err}
 use Rattle.std.proofs.lemmas.Bool.Decides.{nat_tests}
 use Rattle.std.proofs.lemmas.List.{length-take, take_all}
@@ -11,6 +11,8 @@ use Rattle.net_model.specs.declared.fault.ModelFault.TheVariants as bad_model
 use Rattle.decision_script.specs.Lines.{lines}
 use Rattle.decision_script.specs.Reading.{after_lines, new_reader, script_of}
 use Rattle.decision_script.specs.declared.fault.ScriptFault.TheVariants as bad_script
+use Rattle.watch_points.specs.Reading as watch_text
+use Rattle.watch_points.specs.declared.fault.WatchFault.TheVariants as bad_watches
 use Rattle.cloner_top.specs.Prefixes.{PrefixesStateTheSame}
 
 -- ---- readings that refuse what is too long
@@ -44,4 +46,6 @@ prefixes_state_the_same file = record {
   model_is = within-take MOST_FILE_BYTES (Err bad_model.TooLong) (λ t. model_of_tree (tree t)) file;
   script_is = within-take MOST_FILE_BYTES (Err bad_script.TooLong)
       (λ t. after_lines 1 new_reader (lines t) >>= λ r. Ok (script_of r)) file;
+  watches_are = within-take MOST_FILE_BYTES (Err bad_watches.TooLong)
+      (λ t. watch_text.after_lines 1 [] (lines t)) file;
 }

@@ -1,6 +1,7 @@
 -- From texts that were read to what may follow, and why nothing is prepared.
-use Rattle.std.proofs.Common.{◌≡◌, ◌∙◌, ◌≤◌, ℕ, ◌+◌, sym, ap, subst, arith, List, [], Option, Some}
+use Rattle.std.proofs.Common.{◌≡◌, ◌∙◌, ◌≤◌, ℕ, ◌+◌, refl, sym, ap, ap₂, subst, arith, List, [], Option, Some, None}
 use Rattle.std.proofs.Common.{Result, Ok, Err}
+use Rattle.sim_base.specs.Clones.{Clone}
 use Rattle.sim_outer.specs.Counts.{AreCounted}
 use Rattle.sim_outer.specs.Files.{Files}
 use Rattle.net_model.specs.Net.{Net}
@@ -14,48 +15,72 @@ use Rattle.decision_book.specs.Journal.{after}
 use Rattle.decision_book.specs.declared.call.Reply.{Reply}
 use Rattle.study_run.specs.Accepted.{IsAcceptedJournal}
 use Rattle.command_words.specs.declared.request.Mode.{Mode}
-use Rattle.command_words.specs.Requests.{AssignmentView, Live, SourceView, Study}
+use Rattle.watch_points.specs.Checking.{fit}
+use Rattle.watch_points.specs.Reading.{watches}
+use Rattle.watch_points.specs.declared.fault.WatchFault.{WatchFault}
+use Rattle.watch_points.specs.declared.watch.Watch as watch
+use Rattle.command_words.specs.Requests.{AssignmentView, FileNames, Live, Number, SourceView, Study, Watch}
 use Rattle.cloner_top.specs.declared.refusal.Refusal.{Refusal}
 use Rattle.cloner_top.specs.declared.refusal.Refusal.TheVariants.{OutOfMemory, Usage, NotRead}
 use Rattle.cloner_top.specs.declared.refusal.Refusal.TheVariants.{Stopped, Exceeded, CannotWrite}
 use Rattle.cloner_top.specs.declared.refusal.Text.{Text}
-use Rattle.cloner_top.specs.declared.refusal.Text.TheVariants.{Model, Script}
+use Rattle.cloner_top.specs.declared.refusal.Text.TheVariants.{Model, Script, Watches}
 use Rattle.cloner_top.specs.declared.stop.Stop.{Stop}
-use Rattle.cloner_top.specs.declared.stop.Stop.TheVariants.{BadModel, BadScript, BadDecision, NoClone}
+use Rattle.cloner_top.specs.declared.stop.Stop.TheVariants.{BadModel, BadScript, BadDecision, BadWatch, BadWatches}
+use Rattle.cloner_top.specs.declared.stop.Stop.TheVariants.{NoClone}
 use Rattle.cloner_top.specs.Answers.{IsLawfulEnding}
-use Rattle.cloner_top.specs.Deciding.{IsDecided, IsRefusal, clones_of_book, first_refused}
-use Rattle.cloner_top.specs.Endings.{Ending, MayEnd, MayLive, MaySimulate, MayStudy, early_stop}
+use Rattle.cloner_top.specs.Deciding.{IsDecided, IsRefusal, clones_of, clones_of_book, first_refused}
+use Rattle.cloner_top.specs.Endings.{Ending, MayDecide, MayEnd, MayLive, MayRunWatched, MaySimulate, MayStudy, MayWatch}
+use Rattle.cloner_top.specs.Endings.{early_stop}
 use Rattle.cloner_top.specs.Endings as ends
 use Rattle.cloner_top.specs.Prepared.{IsNotPrepared}
-use Rattle.cloner_top.specs.Reading.{IsBadModel, IsBadScript, IsModelOf, IsNoScriptOf, IsNotFetched, IsScriptOf}
-use Rattle.cloner_top.specs.Reading.{IsUnscripted}
+use Rattle.cloner_top.specs.Reading.{IsBadModel, IsBadScript, IsBadWatch, IsBadWatches, IsModelOf, IsNoScriptOf}
+use Rattle.cloner_top.specs.Reading.{IsNotFetched, IsScriptOf, IsUnscripted}
 use Rattle.cloner_top.specs.Refusals.{IsMemoryOrStop}
-use Rattle.cloner_top.specs.Texts.{AreTexts, IsDue, IsTextOf, IsUnread}
+use Rattle.cloner_top.specs.Texts.{AreTexts, HasPlan, IsDue, IsText, IsTextOf, IsUnread, fetches_of, known_from}
+use Rattle.cloner_top.specs.Texts.{later_fetches}
+use Rattle.cloner_top.specs.Texts.{origin_of, study_origin}
 use Rattle.cloner_top.proofs.Puts.{counted_both}
 
 -- ---- the texts of an assignment
 
--- the two texts
-abbrev texts_of : List ℕ → List ℕ → Text → List ℕ
-texts_of m s Model = m
-texts_of m s Script = s
+-- the three texts
+abbrev texts_of : List ℕ → List ℕ → List ℕ → Text → List ℕ
+texts_of m s w Model = m
+texts_of m s w Script = s
+texts_of m s w Watches = w
+
+-- a study does not ask for watches
+no_watches : (source : SourceView) (files : Option Files) → IsText (known_from (study_origin source Watches) files) []
+no_watches (FileNames m s) files = tt
+no_watches (Number n) files = tt
 
 -- a result is not both
 ok_err : {A B : Type 0} (r : Result A B) (a : A) (b : B) → r ≡ Ok a → r ≡ Err b → ⊥
 ok_err r a b h k = let e = sym h ∙ k in cc
 
+-- a result is one
+same_ok : {A B : Type 0} (r : Result A B) (x y : A) → r ≡ Ok x → r ≡ Ok y → x ≡ y
+same_ok r x y h k = let e = sym h ∙ k in cc
+
 module _ (files : Option Files) (a : AssignmentView) (m : List ℕ) (m_is : IsTextOf a files Model m) where
   -- the model's text breaks a rule
   model_refused : (fault : ModelFault) → model m ≡ Err fault → IsLawfulEnding files a (early_stop (BadModel fault))
   model_refused fault bad = record {
-    t = texts_of m [];
-    texts = record { model_is = m_is; script_is = λ net is. absurd (ok_err (model m) net fault is bad) };
+    t = texts_of m [] [];
+    texts = record {
+      model_is = m_is;
+      script_is = λ net is. absurd (ok_err (model m) net fault is bad);
+      watches_is = λ net stated is script_is none. absurd (ok_err (model m) net fault is bad);
+    };
     may = ends.bad_model fault bad;
   }
 
-  -- both texts
-  both_texts : (s : List ℕ) → IsTextOf a files Script s → AreTexts a files (texts_of m s)
-  both_texts s s_is = record { model_is = m_is; script_is = λ net is. s_is }
+  -- all texts
+  all_texts : (s w : List ℕ) → IsTextOf a files Script s → IsTextOf a files Watches w
+      → AreTexts a files (texts_of m s w)
+  all_texts s w s_is w_is =
+      record { model_is = m_is; script_is = λ net is. s_is; watches_is = λ net stated is script_is none. w_is }
 
 module _ (files : Option Files) (source : SourceView) (mode : Mode) (m s : List ℕ) (net : Net)
     (m_is : IsTextOf (Study source mode) files Model m) (is_model : model m ≡ Ok net)
@@ -63,8 +88,8 @@ module _ (files : Option Files) (source : SourceView) (mode : Mode) (m s : List 
   -- how the study of these texts ends is how what is asked ends
   study_ends : (end : Ending) → MayStudy (MayEnd mode net) s end → IsLawfulEnding files (Study source mode) end
   study_ends end may = record {
-    t = texts_of m s;
-    texts = both_texts files (Study source mode) m m_is s s_is;
+    t = texts_of m s [];
+    texts = all_texts files (Study source mode) m m_is s [] s_is (no_watches source files);
     may = ends.read net end is_model may;
   }
 
@@ -83,16 +108,92 @@ module _ (files : Option Files) (mn sn m s : List ℕ) (net : Net) (m_is : IsTex
   -- how a live study of these texts ends is how what is asked ends
   live_ends : (end : Ending) → MayStudy (MayLive net) s end → IsLawfulEnding files (Live mn sn) end
   live_ends end may = record {
-    t = texts_of m s;
-    texts = both_texts files (Live mn sn) m m_is s s_is;
+    t = texts_of m s [];
+    texts = all_texts files (Live mn sn) m m_is s [] s_is tt;
     may = ends.read net end is_model may;
   }
 
--- the fetches of one text, and then of another, are at most those of both
-pub few_of_both : (n m : ℕ) (old mid new : Option ℕ) → AreCounted n old mid → AreCounted m mid new
+module _ (files : Option Files) (mn sn wn m s : List ℕ) (net : Net) (m_is : IsTextOf (Watch mn sn wn) files Model m)
+    (is_model : model m ≡ Ok net) (s_is : IsTextOf (Watch mn sn wn) files Script s) where
+  -- a study with watches whose script breaks a rule
+  watch_no_script : (fault : ScriptFault) → script s ≡ Err fault
+      → IsLawfulEnding files (Watch mn sn wn) (early_stop (BadScript fault))
+  watch_no_script fault bad = record {
+    t = texts_of m s [];
+    texts = record {
+      model_is = m_is;
+      script_is = λ n is. s_is;
+      watches_is = λ n st is script_is none. absurd (ok_err (script s) st fault script_is bad);
+    };
+    may = ends.read net _ is_model (ends.bad_script fault bad);
+  }
+
+  -- one of which a decision is refused
+  watch_refused : (stated : ScriptView) → script s ≡ Ok stated → (reply : Reply) (line : ℕ)
+      → first_refused net stated ≡ Some (reply, line)
+      → IsLawfulEnding files (Watch mn sn wn) (early_stop (BadDecision reply line))
+  watch_refused stated is_script reply line bad = record {
+    t = texts_of m s [];
+    texts = record {
+      model_is = m_is;
+      script_is = λ n is. s_is;
+      watches_is = λ n st is script_is none.
+          let same = ap₂ first_refused (same_ok (model m) net n is_model is)
+          (same_ok (script s) stated st is_script script_is) in
+          let both = sym bad ∙ (same ∙ none) in absurd cc;
+    };
+    may = ends.read net _ is_model (ends.study stated _ is_script (ends.refused_decision reply line bad));
+  }
+
+  module _ (w : List ℕ) (stated : ScriptView) (is_script : script s ≡ Ok stated)
+      (accepted : first_refused net stated ≡ None) (w_is : IsTextOf (Watch mn sn wn) files Watches w) where
+    -- how a study with these watches ends is how what is asked ends
+    watch_ends : (end : Ending) → MayWatch w net (clones_of net stated) end → IsLawfulEnding files (Watch mn sn wn) end
+    watch_ends end may = record {
+      t = texts_of m s w;
+      texts = all_texts files (Watch mn sn wn) m m_is s w s_is w_is;
+      may = ends.read net end is_model (ends.study stated end is_script (ends.simulation end accepted may));
+    }
+
+-- the fetches of one text, and then at most so many others, are at most those of all
+pub few_of_both : (n m : ℕ) (old mid new : Option ℕ) → AreCounted n old mid
+    → (k : ℕ) × ((k ≤ m) × AreCounted k mid new) → (k : ℕ) × ((k ≤ n + m) × AreCounted k old new)
+few_of_both n m old mid new h more = let most : n + more.0 ≤ n + m = let l = more.1.0 in omega (arith, l) in
+    (n + more.0, (most, counted_both n more.0 old mid new h more.1.1))
+
+-- those of one text are at most those of both
+pub few_of_first : (n m : ℕ) (old new : Option ℕ) → AreCounted n old new
     → (k : ℕ) × ((k ≤ n + m) × AreCounted k old new)
-few_of_both n m old mid new h k = let most : n + m ≤ n + m = omega arith in
+few_of_first n m old new h = let most : n ≤ n + m = omega arith in (n, (most, h))
+
+-- and those of both are at most those of both
+pub few_of_two : (n m : ℕ) (old mid new : Option ℕ) → AreCounted n old mid → AreCounted m mid new
+    → (k : ℕ) × ((k ≤ n + m) × AreCounted k old new)
+few_of_two n m old mid new h k = let most : n + m ≤ n + m = omega arith in
     (n + m, (most, counted_both n m old mid new h k))
+
+-- of a study only the script is fetched after the model
+pub study_fetches : (a : AssignmentView) (mode : Mode) → (source : SourceView) × (a ≡ Study source mode)
+    → (old new : Option ℕ) → AreCounted (fetches_of (origin_of a Script)) old new
+    → AreCounted (later_fetches a) old new
+study_fetches a mode is old new h = subst (λ n. AreCounted n old new) (sym (script_alone is.0 a is.1)) h
+  where
+    none : (source : SourceView) → fetches_of (study_origin source Watches) ≡ 0
+    none (FileNames m s) = refl
+    none (Number n) = refl
+
+    script_alone : (source : SourceView) (x : AssignmentView) → x ≡ Study source mode
+        → later_fetches x ≡ fetches_of (origin_of x Script)
+    script_alone source x e = subst (λ y. later_fetches y ≡ fetches_of (origin_of y Script)) (sym e)
+        (let z = none source in omega (arith, z))
+
+-- and likewise of a live study
+pub live_fetches : (a : AssignmentView) → (mn : List ℕ) × ((sn : List ℕ) × (a ≡ Live mn sn))
+    → (old new : Option ℕ) → AreCounted (fetches_of (origin_of a Script)) old new
+    → AreCounted (later_fetches a) old new
+live_fetches a is old new h =
+    subst (λ x. AreCounted (fetches_of (origin_of x Script)) old new → AreCounted (later_fetches x) old new)
+    (sym is.1.1) (λ k. k) h
 
 -- ---- why nothing is prepared
 
@@ -107,16 +208,21 @@ stopped_by rose files a P (Stopped stop) each h = each stop h
 stopped_by rose files a P (Exceeded e) each h = absurd h
 stopped_by rose files a P CannotWrite each h = absurd h
 
+-- a text that is due was not fetched
+unfetched : (rose : Type 0) (files : Option Files) (a : AssignmentView) (text : Text) (r : Refusal)
+    → IsDue a files text → IsNotFetched rose a files text r → IsNotPrepared rose files a r
+unfetched rose files a text OutOfMemory due h = tt
+unfetched rose files a text Usage due h = absurd h
+unfetched rose files a text (NotRead which) due h =
+    subst (λ t. IsDue a files t × IsUnread rose a files t) (sym h.0) (due, h.1)
+unfetched rose files a text (Stopped stop) due h = absurd h
+unfetched rose files a text (Exceeded e) due h = absurd h
+unfetched rose files a text CannotWrite due h = absurd h
+
 -- the model's text was not fetched
 pub no_model_text : (rose : Type 0) (files : Option Files) (a : AssignmentView) (r : Refusal)
     → IsNotFetched rose a files Model r → IsNotPrepared rose files a r
-no_model_text rose files a OutOfMemory h = tt
-no_model_text rose files a Usage h = absurd h
-no_model_text rose files a (NotRead which) h =
-    subst (λ t. IsDue a files t × IsUnread rose a files t) (sym h.0) (tt, h.1)
-no_model_text rose files a (Stopped stop) h = absurd h
-no_model_text rose files a (Exceeded e) h = absurd h
-no_model_text rose files a CannotWrite h = absurd h
+no_model_text rose files a r h = unfetched rose files a Model r tt h
 
 -- it breaks a rule
 pub bad_model : (files : Option Files) (a : AssignmentView) (m : List ℕ) → IsTextOf a files Model m → (stop : Stop)
@@ -125,6 +231,8 @@ bad_model files a m text (BadModel fault) h = model_refused files a m text fault
 bad_model files a m text (BadScript fault) h = absurd h
 bad_model files a m text (BadDecision reply line) h = absurd h
 bad_model files a m text (NoClone name) h = absurd h
+bad_model files a m text (BadWatches fault) h = absurd h
+bad_model files a m text (BadWatch reply line) h = absurd h
 
 -- the script's text was not fetched
 pub no_script_text : (rose : Type 0) (files : Option Files) (a : AssignmentView) (r : Refusal)
@@ -153,6 +261,8 @@ by_script Q s (BadModel fault) h each = absurd h
 by_script Q s (BadScript fault) h each = each fault h
 by_script Q s (BadDecision reply line) h each = absurd h
 by_script Q s (NoClone name) h each = absurd h
+by_script Q s (BadWatches fault) h each = absurd h
+by_script Q s (BadWatch reply line) h each = absurd h
 
 -- and that of a decision its reply and its line
 by_decision : (Q : Stop → Type 0) (net : Net) (st : ScriptView) (stop : Stop) → IsRefusal net st stop
@@ -161,6 +271,30 @@ by_decision Q net st (BadModel fault) h each = absurd h
 by_decision Q net st (BadScript fault) h each = absurd h
 by_decision Q net st (BadDecision reply line) h each = each reply line h
 by_decision Q net st (NoClone name) h each = absurd h
+by_decision Q net st (BadWatches fault) h each = absurd h
+by_decision Q net st (BadWatch reply line) h each = absurd h
+
+-- that of a text of watches is its fault
+by_watches : (Q : Stop → Type 0) (w : List ℕ) (stop : Stop) → IsBadWatches w stop
+    → ((fault : WatchFault) → watches w ≡ Err fault → Q (BadWatches fault)) → Q stop
+by_watches Q w (BadModel fault) h each = absurd h
+by_watches Q w (BadScript fault) h each = absurd h
+by_watches Q w (BadDecision reply line) h each = absurd h
+by_watches Q w (NoClone name) h each = absurd h
+by_watches Q w (BadWatches fault) h each = each fault h
+by_watches Q w (BadWatch reply line) h each = absurd h
+
+-- and that of a watch its reply and its line
+by_watch : (Q : Stop → Type 0) (net : Net) (cs : List Clone) (ws : List watch.Watch) (stop : Stop)
+    → IsBadWatch net cs ws stop
+    → ((reply : Reply) (line : ℕ) → fit net cs ws ≡ Err (record { line = line; reply = reply })
+    → Q (BadWatch reply line)) → Q stop
+by_watch Q net cs ws (BadModel fault) h each = absurd h
+by_watch Q net cs ws (BadScript fault) h each = absurd h
+by_watch Q net cs ws (BadDecision reply line) h each = absurd h
+by_watch Q net cs ws (NoClone name) h each = absurd h
+by_watch Q net cs ws (BadWatches fault) h each = absurd h
+by_watch Q net cs ws (BadWatch reply line) h each = each reply line h
 
 module _ (rose : Type 0) (files : Option Files) (a : AssignmentView) (net : Net) (m : IsModelOf a files net) where
   -- there is no script, where each stop of its text ends what is asked
@@ -247,3 +381,121 @@ module _ (rose : Type 0) (files : Option Files) (a : AssignmentView) (net : Net)
       → MayLive net stated end → IsLawfulEnding files x end) (sym is.1.1)
       (λ mm ss end may. live_ends files is.0 is.1.0 mm.m ss.s net mm.text mm.is_model ss.text end
       (ends.study stated end ss.is_script may)) m s
+
+-- ---- a study with watches
+
+module _ (rose : Type 0) (files : Option Files) (mn sn wn : List ℕ) (net : Net)
+    (m : IsModelOf (Watch mn sn wn) files net) where
+  -- it has no script
+  watch_unscripted : (r : Refusal) → IsUnscripted rose (Watch mn sn wn) files r
+      → IsNotPrepared rose files (Watch mn sn wn) r
+  watch_unscripted r h = no_script rose files (Watch mn sn wn) net m (λ stop bad.
+      by_script (λ x. IsLawfulEnding files (Watch mn sn wn) (early_stop x)) bad.s stop bad.is_bad
+      (λ fault is. watch_no_script files mn sn wn m.m bad.s net m.text m.is_model bad.text fault is)) r h
+
+  module _ (stated : ScriptView) (s : IsScriptOf (Watch mn sn wn) files stated) where
+    -- a decision of it is refused
+    watch_undecided : (r : Refusal) → IsMemoryOrStop (IsRefusal net stated) r
+        → IsNotPrepared rose files (Watch mn sn wn) r
+    watch_undecided r h = stopped_by rose files (Watch mn sn wn) (IsRefusal net stated) r (λ stop bad.
+        by_decision (λ x. IsLawfulEnding files (Watch mn sn wn) (early_stop x)) net stated stop bad
+        (λ reply line is. watch_refused files mn sn wn m.m s.s net m.text m.is_model s.text stated s.is_script reply
+        line is)) h
+
+    module _ (book : BookView) (decided : IsDecided net stated book) where
+      -- the clones of its book are those of its script
+      book_clones : clones_of_book book ≡ clones_of net stated
+      book_clones = ap (λ n. (after n book.events).clones) decided.net_is ∙ decided.clones
+
+      -- the text of its watches was not fetched
+      watch_unfetched : (r : Refusal) → IsNotFetched rose (Watch mn sn wn) files Watches r
+          → IsNotPrepared rose files (Watch mn sn wn) r
+      watch_unfetched r h = unfetched rose files (Watch mn sn wn) Watches r (record {
+        m = m.m;
+        s = s.s;
+        net = net;
+        stated = stated;
+        model_text = m.text;
+        is_model = m.is_model;
+        script_text = s.text;
+        is_script = s.is_script;
+        accepted = decided.none;
+      }) h
+
+      module _ (w : List ℕ) (w_is : IsTextOf (Watch mn sn wn) files Watches w) where
+        -- how it ends with these watches
+        ends_with : (end : Ending) → MayWatch w net (clones_of net stated) end
+            → IsLawfulEnding files (Watch mn sn wn) end
+        ends_with = watch_ends files mn sn wn m.m s.s net m.text m.is_model s.text w stated s.is_script decided.none
+            w_is
+
+        -- the text breaks a rule
+        watch_unread : (r : Refusal) → IsMemoryOrStop (IsBadWatches w) r
+            → IsNotPrepared rose files (Watch mn sn wn) r
+        watch_unread r h = stopped_by rose files (Watch mn sn wn) (IsBadWatches w) r (λ stop bad.
+            by_watches (λ x. IsLawfulEnding files (Watch mn sn wn) (early_stop x)) w stop bad
+            (λ fault is. ends_with _ (ends.bad_watches fault is))) h
+
+        module _ (ws : List watch.Watch) (are : watches w ≡ Ok ws) where
+          -- a watch does not fit
+          watch_unfit : (r : Refusal) → IsMemoryOrStop (IsBadWatch net (clones_of_book book) ws) r
+              → IsNotPrepared rose files (Watch mn sn wn) r
+          watch_unfit r h = stopped_by rose files (Watch mn sn wn) (IsBadWatch net (clones_of_book book) ws) r
+              (λ stop bad. by_watch (λ x. IsLawfulEnding files (Watch mn sn wn) (early_stop x)) net
+              (clones_of_book book) ws stop bad (λ reply line is. ends_with _ (ends.bad_watch ws reply line are
+              (subst (λ cs. fit net cs ws ≡ Err (record { line = line; reply = reply })) book_clones is)))) h
+
+          -- all fit
+          watch_fits : fit net (clones_of_book book) ws ≡ Ok tt → (end : Ending)
+              → MayRunWatched net (clones_of_book book) ws end → IsLawfulEnding files (Watch mn sn wn) end
+          watch_fits fits end may = ends_with end (ends.watched ws end are
+              (subst (λ cs. fit net cs ws ≡ Ok tt) book_clones fits)
+              (subst (λ cs. MayRunWatched net cs ws end) book_clones may))
+
+-- the same of an assignment that is one
+module _ (rose : Type 0) (files : Option Files) (a : AssignmentView) (net : Net)
+    (is : (mn : List ℕ) × ((sn : List ℕ) × ((wn : List ℕ) × (a ≡ Watch mn sn wn)))) (m : IsModelOf a files net) where
+  pub no_watch_script : (r : Refusal) → IsUnscripted rose a files r → IsNotPrepared rose files a r
+  no_watch_script = subst (λ x. IsModelOf x files net → (r : Refusal) → IsUnscripted rose x files r
+      → IsNotPrepared rose files x r) (sym is.1.1.1)
+      (λ mm r h. watch_unscripted rose files is.0 is.1.0 is.1.1.0 net mm r h) m
+
+  module _ (stated : ScriptView) (s : IsScriptOf a files stated) where
+    -- a decision is refused
+    pub no_watch_decisions : (r : Refusal) → IsMemoryOrStop (IsRefusal net stated) r → IsNotPrepared rose files a r
+    no_watch_decisions = subst (λ x. IsModelOf x files net → IsScriptOf x files stated → (r : Refusal)
+        → IsMemoryOrStop (IsRefusal net stated) r → IsNotPrepared rose files x r) (sym is.1.1.1)
+        (λ mm ss r h. watch_undecided rose files is.0 is.1.0 is.1.1.0 net mm stated ss r h) m s
+
+    module _ (book : BookView) (decided : IsDecided net stated book) where
+      -- the text of the watches was not fetched
+      pub no_watch_text : (r : Refusal) → IsNotFetched rose a files Watches r → IsNotPrepared rose files a r
+      no_watch_text = subst (λ x. IsModelOf x files net → IsScriptOf x files stated → (r : Refusal)
+          → IsNotFetched rose x files Watches r → IsNotPrepared rose files x r) (sym is.1.1.1)
+          (λ mm ss r h. watch_unfetched rose files is.0 is.1.0 is.1.1.0 net mm stated ss book decided r h) m s
+
+      module _ (w : List ℕ) (w_is : IsTextOf a files Watches w) where
+        -- it breaks a rule
+        pub no_watch_list : (r : Refusal) → IsMemoryOrStop (IsBadWatches w) r → IsNotPrepared rose files a r
+        no_watch_list = subst (λ x. IsModelOf x files net → IsScriptOf x files stated → IsTextOf x files Watches w
+            → (r : Refusal) → IsMemoryOrStop (IsBadWatches w) r → IsNotPrepared rose files x r) (sym is.1.1.1)
+            (λ mm ss ww r h. watch_unread rose files is.0 is.1.0 is.1.1.0 net mm stated ss book decided w ww r h)
+            m s w_is
+
+        module _ (ws : List watch.Watch) (are : watches w ≡ Ok ws) (told : Net) (same : told ≡ net) where
+          -- a watch does not fit
+          pub no_fit : (r : Refusal) → IsMemoryOrStop (IsBadWatch told (clones_of_book book) ws) r
+              → IsNotPrepared rose files a r
+          no_fit r bad = subst (λ x. IsModelOf x files net → IsScriptOf x files stated → IsTextOf x files Watches w
+              → IsNotPrepared rose files x r) (sym is.1.1.1)
+              (λ mm ss ww. watch_unfit rose files is.0 is.1.0 is.1.1.0 net mm stated ss book decided w ww ws are r
+              (subst (λ n. IsMemoryOrStop (IsBadWatch n (clones_of_book book) ws) r) same bad)) m s w_is
+
+          -- all fit
+          pub watching_ready : fit told (clones_of_book book) ws ≡ Ok tt → (end : Ending)
+              → MayRunWatched told (clones_of_book book) ws end → IsLawfulEnding files a end
+          watching_ready fits end may = subst (λ x. IsModelOf x files net → IsScriptOf x files stated
+              → IsTextOf x files Watches w → IsLawfulEnding files x end) (sym is.1.1.1)
+              (λ mm ss ww. watch_fits rose files is.0 is.1.0 is.1.1.0 net mm stated ss book decided w ww ws are
+              (subst (λ n. fit n (clones_of_book book) ws ≡ Ok tt) same fits) end
+              (subst (λ n. MayRunWatched n (clones_of_book book) ws end) same may)) m s w_is

@@ -60,8 +60,18 @@ counted_both n m (Some o) mid new h k = let e : mid ≡ Some (counts_after n o) 
     (rw e at k) ∙ ap Some (count_both n m o)
 
 module _ (first others : List (List ℕ)) where
+  -- where the first were put, and then the others, all were put
+  pub put_after : (old mid new : SinkView) → ArePut first old mid → ArePut others mid new
+      → ArePut (first ++ others) old new
+  put_after old mid new h k = record {
+    bytes = subst (λ t. IsAppended old.bytes t new.bytes) (sym (concat-append first others))
+        (appended_then (concat first) (concat others) old.bytes mid.bytes new.bytes h.bytes k.bytes);
+    calls = subst (λ n. AreCounted n old.calls new.calls) (sym (length-append first others))
+        (counted_both (length first) (length others) old.calls mid.calls new.calls h.calls k.calls);
+  }
+
   -- where the first were put, and the others were cut off, all together were cut off
-  cut_after : (old mid new : SinkView) → IsAppended old.bytes (concat first) mid.bytes
+  pub cut_after : (old mid new : SinkView) → IsAppended old.bytes (concat first) mid.bytes
       → AreCounted (length first) old.calls mid.calls → old.faults ≤ mid.faults → AreCut others mid new
       → AreCut (first ++ others) old new
   cut_after old mid new bytes counted later cut = record {
@@ -82,7 +92,7 @@ module _ (first others : List (List ℕ)) where
       many = let l = length-append first cut.whole in omega (arith, l)
 
   -- where the first were cut off, all together were
-  cut_ahead : (old new : SinkView) → AreCut first old new → AreCut (first ++ others) old new
+  pub cut_ahead : (old new : SinkView) → AreCut first old new → AreCut (first ++ others) old new
   cut_ahead old new cut = record {
     whole = cut.whole;
     text = cut.text;

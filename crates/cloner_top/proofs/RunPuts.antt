@@ -12,7 +12,7 @@ use Rattle.cloner_top.specs.declared.refusal.Refusal.{Refusal}
 use Rattle.cloner_top.specs.declared.refusal.Refusal.TheVariants.{CannotWrite}
 use Rattle.cloner_top.specs.Endings.{run_texts}
 use Rattle.cloner_top.specs.Outsides.{AreDone, ArePut, IsNotPut}
-use Rattle.cloner_top.proofs.Puts.{cut_before, cut_last, cut_then, put_more, put_then}
+use Rattle.cloner_top.proofs.Puts.{cut_after, cut_ahead, cut_before, cut_last, cut_then, put_after, put_more, put_then}
 
 -- ---- run_texts, clone_texts
 -- the texts of a run by their parts
@@ -20,6 +20,12 @@ texts_are : (net : Net) (cs : List Clone) (last : List ℕ) → last ≡ report 
     → map (clone_text net) cs ++ last ∷ [] ≡ run_texts net cs
 unfolding run_texts
 texts_are net cs last is = ap (λ t. map (clone_text net) cs ++ t ∷ []) is
+
+-- they are the same by another name of the network and of the clones
+pub run_texts_same : (told net : Net) (those cs : List Clone) → told ≡ net → those ≡ cs
+    → run_texts told those ≡ run_texts net cs
+run_texts_same told net those cs same_net same_clones = ap (λ (n : Net). run_texts n those) same_net
+    ∙ ap (run_texts net) same_clones
 
 -- the trace texts by another name of the network and of the clones
 same_texts : (told net : Net) (those cs : List Clone) → told ≡ net → those ≡ cs
@@ -65,7 +71,7 @@ module _ (journal : List ℕ) (told net : Net) (those cs : List Clone) (same_net
     (old mid new : SinkView) (put : ArePut (journal ∷ []) old mid) (later : old.faults ≤ mid.faults) where
   -- the texts of the run, by other names of the network and of the clones
   run_same : run_texts told those ≡ run_texts net cs
-  run_same = ap (λ (n : Net). run_texts n those) same_net ∙ ap (run_texts net) same_clones
+  run_same = run_texts_same told net those cs same_net same_clones
 
   -- the texts of the run were put after the journal, or they were cut off
   pub journal_done : {T : Type 0} (r : Result T Refusal) → AreDone (run_texts told those) mid new r
@@ -75,3 +81,21 @@ module _ (journal : List ℕ) (told net : Net) (those cs : List Clone) (same_net
   journal_done (Err e) cut cause = subst (λ x. IsNotPut (journal ∷ run_texts net cs) old new x) (sym cause)
       (cut_then journal (run_texts net cs) old mid new put later
       (subst (λ t. AreCut t mid new) run_same (subst (λ x. IsNotPut (run_texts told those) mid new x) cause cut)))
+
+-- ---- AreDone, of a run and the rounds
+-- the texts of a run were put, and then a line
+module _ (first : List (List ℕ)) (line : List ℕ) (old mid new : SinkView) (put : ArePut first old mid)
+    (later : old.faults ≤ mid.faults) where
+  -- the line was put, or cut off
+  pub line_done : {T : Type 0} (r : Result T Refusal) → AreDone (line ∷ []) mid new r
+      → IfErr r (λ e. e ≡ CannotWrite) → AreDone (first ++ line ∷ []) old new r
+  line_done (Ok t) more cause = put_after first (line ∷ []) old mid new put more
+  line_done (Err e) cut cause = subst (λ x. IsNotPut (first ++ line ∷ []) old new x) (sym cause)
+      (cut_after first (line ∷ []) old mid new put.bytes put.calls later
+      (subst (λ x. IsNotPut (line ∷ []) mid new x) cause cut))
+
+-- the texts of a run were not put, so neither were they with a line
+pub run_not_put : (first : List (List ℕ)) (line : List ℕ) (old new : SinkView) (r : Refusal)
+    → IsNotPut first old new r → r ≡ CannotWrite → IsNotPut (first ++ line ∷ []) old new r
+run_not_put first line old new r h is = subst (IsNotPut (first ++ line ∷ []) old new) (sym is)
+    (cut_ahead first (line ∷ []) old new (subst (IsNotPut first old new) is h))

@@ -1,7 +1,8 @@
 -- How what is asked may end: the modes in one table.
-use Rattle.std.specs.Prelude.{◌≡◌, ℕ, ◌+◌, ◌≤◌, List, [], ◌∷◌, ◌++◌, map, length, Some, None, Result, Ok, Err}
+use Rattle.std.specs.Prelude.{◌≡◌, ℕ, ◌+◌, ◌/◌, ◌<◌, ◌≤◌, List, [], ◌∷◌, ◌++◌, map, length, Some, None, Result, Ok, Err}
+use Rattle.std.specs.Prelude.{codes, decimal}
 use Rattle.sim_base.specs.Clones.{Clone, clone_at, place_of}
-use Rattle.net_model.specs.Net.{Net, site_of}
+use Rattle.net_model.specs.Net.{HasStation, Net, site_of}
 use Rattle.net_model.specs.Text.{model}
 use Rattle.net_model.specs.declared.fault.ModelFault.{ModelFault}
 use Rattle.decision_script.specs.Reading.{script}
@@ -10,26 +11,34 @@ use Rattle.decision_script.specs.declared.fault.ScriptFault.{ScriptFault}
 use Rattle.decision_book.specs.declared.call.Reply.{Reply}
 use Rattle.decision_book.specs.Books.{BookView}
 use Rattle.decision_book.specs.Journal.{after}
-use Rattle.stations.specs.Runs.{trace_of}
+use Rattle.stations.specs.Runs.{IsBeyond, trace_of}
 use Rattle.world_core.specs.Overs.{most_handled}
 use Rattle.world_core.specs.Worlds.{total_handled}
 use Rattle.trace_report.specs.Outputs.{clone_text, report}
 use Rattle.study_run.specs.Limits.{AreWithin, IsWithin, MeetsLimit, MeetsLimitAlone}
 use Rattle.study_stats.specs.Rows.{statistics}
+use Rattle.link_clocks.specs.NetClocks.{AreAllRounds}
 use Rattle.journal_text.specs.declared.looked.Looked.{Looked}
 use Rattle.journal_text.specs.JournalText.{journal_text}
 use Rattle.live_study.specs.Engines.{MeetsLimitLast}
 use Rattle.live_study.specs.Looks.{AreLooks, AreMadeLooks}
 use Rattle.live_study.specs.Scripts.{IsJournalOf}
+use Rattle.watch_points.specs.Checking.{fit}
+use Rattle.watch_points.specs.Reading.{watches}
+use Rattle.watch_points.specs.Triggers.{clones_with_branches}
+use Rattle.watch_points.specs.declared.fault.WatchFault.{WatchFault}
+use Rattle.watch_points.specs.declared.watch.Watch.{Watch}
 use Rattle.command_words.specs.declared.request.Mode.{Mode}
-use Rattle.command_words.specs.declared.request.Mode.TheVariants.{Report, Solo, Stats}
+use Rattle.command_words.specs.declared.request.Mode.TheVariants.{Links, Report, Solo, Stats}
+use Rattle.command_words.specs.Requests as asked
 use Rattle.command_words.specs.Requests.{AssignmentView, Live, Study}
 use Rattle.cloner_top.specs.declared.excess.Excess.{Excess}
 use Rattle.cloner_top.specs.declared.excess.Excess.TheVariants.{LimitMet}
 use Rattle.cloner_top.specs.declared.refusal.Text.{Text}
-use Rattle.cloner_top.specs.declared.refusal.Text.TheVariants.{Model, Script}
+use Rattle.cloner_top.specs.declared.refusal.Text.TheVariants.{Model, Script, Watches}
 use Rattle.cloner_top.specs.declared.stop.Stop.{Stop}
-use Rattle.cloner_top.specs.declared.stop.Stop.TheVariants.{BadModel, BadScript, BadDecision, NoClone}
+use Rattle.cloner_top.specs.declared.stop.Stop.TheVariants.{BadModel, BadScript, BadDecision, BadWatch, BadWatches}
+use Rattle.cloner_top.specs.declared.stop.Stop.TheVariants.{NoClone}
 use Rattle.cloner_top.specs.Deciding.{clones_of, first_refused}
 
 -- an ending: these texts are written, for which this number of messages was handled; nothing is, for this cause, and
@@ -69,6 +78,46 @@ mode_texts mode net clones = run_texts net clones
 abbrev pub mode_meets : Mode → Net → List Clone → ℕ → ℕ → Type 0
 mode_meets mode net clones = MeetsLimit net clones
 
+-- this station of this clone has a log beyond the limit at the horizon
+pub record IsOver (net : Net) (clones : List Clone) (station who : ℕ) : Type 0 where
+  pub is_station : HasStation net station
+  pub clone : who < length clones
+  pub beyond : IsBeyond net station net.horizon (clone_at clones who)
+
+-- ---- all clones, kept in step by the clocks of links
+
+-- the line of the rounds
+abbrev pub rounds_line : ℕ → List ℕ
+rounds_line k = codes "rounds " ++ decimal k ++ codes "\n"
+
+-- how such a run may end: it writes what a run writes, and then the line of its rounds, after which all clocks are at
+-- the horizon, and after no fewer; at the limit any station and clone with a log beyond it may be told
+pub data MayRunLinked (net : Net) (clones : List Clone) : Ending → Type 0 where
+  linked : (k : ℕ) → AreAllRounds net k → k ≤ net.horizon / net.lookahead + 1 → AreWithin net clones
+      → MayRunLinked net clones (whole_output (run_texts net clones ++ rounds_line k ∷ [])
+      (total_handled net clones net.horizon))
+  over_linked : (station who : ℕ) → IsOver net clones station who
+      → MayRunLinked net clones (overrun [] (limit_met_at net station (clone_at clones who).name)
+      (most_handled net (length clones)))
+
+-- ---- all clones, with the branches of watches
+
+-- how a run of these clones with these watches may end: the clones of the whole run are theirs and the branches; at the
+-- limit any station and clone with a log beyond it may be told
+abbrev pub MayRunWatched : Net → List Clone → List Watch → Ending → Type 0
+MayRunWatched net clones ws end = MayRun net (clones_with_branches net clones ws)
+    (IsOver net (clones_with_branches net clones ws)) (run_texts net (clones_with_branches net clones ws)) end
+
+-- how it may end with a text of watches: it is refused, or a watch does not fit
+pub data MayWatch (text : List ℕ) (net : Net) (clones : List Clone) : Ending → Type 0 where
+  bad_watches : (fault : WatchFault) → watches text ≡ Err fault
+      → MayWatch text net clones (early_stop (BadWatches fault))
+  bad_watch : (ws : List Watch) (reply : Reply) (line : ℕ) → watches text ≡ Ok ws
+      → fit net clones ws ≡ Err (record { line = line; reply = reply })
+      → MayWatch text net clones (early_stop (BadWatch reply line))
+  watched : (ws : List Watch) (end : Ending) → watches text ≡ Ok ws → fit net clones ws ≡ Ok tt
+      → MayRunWatched net clones ws end → MayWatch text net clones end
+
 -- ---- one clone alone
 
 -- how a run of the clone of this name alone may end: this part of the clone is run, and this is written of the clone,
@@ -100,6 +149,7 @@ solo_text net c = Ok (clone_text net c)
 -- how the simulation of decided clones may end
 abbrev pub MaySimulate : Mode → Net → List Clone → Ending → Type 0
 MaySimulate (Solo name) net clones end = MayRunAlone net clones name whole (solo_text net) end
+MaySimulate Links net clones end = MayRunLinked net clones end
 MaySimulate mode net clones end = MayRun net clones (mode_meets mode net clones) (mode_texts mode net clones) end
 
 -- how a live study of a script may end: some journal of its analysts, and what they saw, are the first text; then comes
@@ -140,6 +190,7 @@ pub data MayStudy (ends : ScriptView → Ending → Type 0) (s : List ℕ) : End
 abbrev pub MayFollow : AssignmentView → (Text → List ℕ) → Net → Ending → Type 0
 MayFollow (Study source mode) t net end = MayStudy (MayEnd mode net) (t Script) end
 MayFollow (Live m s) t net end = MayStudy (MayLive net) (t Script) end
+MayFollow (asked.Watch m s w) t net end = MayStudy (MayDecide (MayWatch (t Watches) net) net) (t Script) end
 
 -- how an assignment of these texts may end
 pub data MayEndByTexts (a : AssignmentView) (t : Text → List ℕ) : Ending → Type 0 where

@@ -1,5 +1,5 @@
 -- What an answer of the program says, one fact at a time.
-use Rattle.std.specs.Prelude.{◌≡◌, ◌⊎◌, ℕ, ◌+◌, ◌≤◌, List, [], ◌∷◌, ◌++◌, length, Option, Some, None, Result, Ok}
+use Rattle.std.specs.Prelude.{◌≡◌, ◌⊎◌, ℕ, ◌+◌, ◌/◌, ◌≤◌, List, [], ◌∷◌, ◌++◌, length, Option, Some, None, Result, Ok}
 use Rattle.sim_base.specs.Clones.{Clone, clone_at, place_of}
 use Rattle.sim_outer.specs.Counts.{AreCounted, HasRisen}
 use Rattle.sim_outer.specs.Files.{Files}
@@ -12,22 +12,27 @@ use Rattle.decision_book.specs.Journal.{after as after_events}
 use Rattle.stations.specs.Runs.{trace_of}
 use Rattle.world_core.specs.Worlds.{total_handled}
 use Rattle.study_run.specs.Limits.{AreWithin, IsWithin}
+use Rattle.link_clocks.specs.NetClocks.{AreAllRounds}
 use Rattle.journal_text.specs.declared.looked.Looked.{Looked}
 use Rattle.journal_text.specs.JournalText.{journal_text}
 use Rattle.live_study.specs.Looks.{AreLooks}
 use Rattle.live_study.specs.Scripts.{IsJournalOf}
+use Rattle.watch_points.specs.Checking.{fit}
+use Rattle.watch_points.specs.Reading.{watches}
+use Rattle.watch_points.specs.Triggers.{clones_with_branches}
+use Rattle.watch_points.specs.declared.watch.Watch as watch
 use Rattle.command_words.specs.declared.request.Mode.{Mode}
-use Rattle.command_words.specs.declared.request.Mode.TheVariants.{Solo}
-use Rattle.command_words.specs.Requests.{AssignmentView, Live, Study}
+use Rattle.command_words.specs.declared.request.Mode.TheVariants.{Links, Solo}
+use Rattle.command_words.specs.Requests.{AssignmentView, Live, Study, Watch}
 use Rattle.cloner_top.specs.declared.excess.Excess.{Excess}
 use Rattle.cloner_top.specs.declared.refusal.Refusal.{Refusal}
 use Rattle.cloner_top.specs.declared.refusal.Text.{Text}
-use Rattle.cloner_top.specs.declared.refusal.Text.TheVariants.{Model, Script}
+use Rattle.cloner_top.specs.declared.refusal.Text.TheVariants.{Model, Script, Watches}
 use Rattle.cloner_top.specs.declared.stop.Stop.{Stop}
 use Rattle.cloner_top.specs.Answers.{InputsFailed, IsLawfulEnding, Outside}
 use Rattle.cloner_top.specs.Deciding.{clones_of, first_refused}
-use Rattle.cloner_top.specs.Endings.{Ending, IsExcessOf, early_stop, mode_texts, overrun, run_texts, solo_text}
-use Rattle.cloner_top.specs.Endings.{whole, whole_output}
+use Rattle.cloner_top.specs.Endings.{Ending, IsExcessOf, early_stop, mode_texts, overrun, rounds_line, run_texts}
+use Rattle.cloner_top.specs.Endings.{solo_text, whole, whole_output}
 use Rattle.cloner_top.specs.Outsides.{ArePut, ArePutOrCut, IsStudyCut}
 use Rattle.cloner_top.specs.Refusals.{error_line, status_of}
 use Rattle.cloner_top.specs.Stops.{excess_line, excess_status, stop_line, stop_status}
@@ -89,15 +94,46 @@ pub record WritesLive (before after : Outside) (a : AssignmentView) : Type 0 whe
       before.output after.output
   pub steps : after.steps ≡ before.steps + total_handled net (after_events net book.events).clones net.horizon
 
--- what a mode writes: of all clones the texts of its row, of one clone its trace text
+-- all clones were run, kept in step by the clocks of links, no log of any is beyond the limit, and what a run writes
+-- was put, and then the line of the rounds
+pub record WritesLinked (before after : Outside) (a : AssignmentView) : Type 0 where
+  pub net : Net
+  pub stated : ScriptView
+  pub study : IsStudy before.inputs.files a net stated
+  pub rounds : ℕ
+  pub are_rounds : AreAllRounds net rounds
+  pub rounds_max : rounds ≤ net.horizon / net.lookahead + 1
+  pub within : AreWithin net (clones_of net stated)
+  pub put : ArePut (run_texts net (clones_of net stated) ++ rounds_line rounds ∷ []) before.output after.output
+  pub steps : after.steps ≡ before.steps + total_handled net (clones_of net stated) net.horizon
+
+-- all clones of the script and the branches of the watches were run, no log of any is beyond the limit, and what a run
+-- of them writes was put, in the order of the watches
+pub record WritesWatched (before after : Outside) (a : AssignmentView) : Type 0 where
+  pub net : Net
+  pub stated : ScriptView
+  pub study : IsStudy before.inputs.files a net stated
+  pub ws : List watch.Watch
+  pub are_watches : watches (study.read.t Watches) ≡ Ok ws
+  pub fits : fit net (clones_of net stated) ws ≡ Ok tt
+  pub within : AreWithin net (clones_with_branches net (clones_of net stated) ws)
+  pub put : ArePut (run_texts net (clones_with_branches net (clones_of net stated) ws)) before.output after.output
+  pub steps : after.steps
+      ≡ before.steps + total_handled net (clones_with_branches net (clones_of net stated) ws) net.horizon
+
+-- what a mode writes: of all clones the texts of its row, by the clocks of links also the rounds, of one clone its
+-- trace text
 abbrev pub WritesIn : Mode → Outside → Outside → AssignmentView → Type 0
 WritesIn (Solo name) before after a = WritesOne name (λ net. whole) solo_text before after a
+WritesIn Links before after a = WritesLinked before after a
 WritesIn mode before after a = WritesAll (mode_texts mode) before after a
 
--- what is written: what the mode writes, or of a live study the journal and then the texts of a run
+-- what is written: what the mode writes, of a live study the journal and then the texts of a run, or with watches the
+-- texts of a run with their branches
 abbrev pub Writes : AssignmentView → Outside → Outside → Type 0
 Writes (Study source mode) before after = WritesIn mode before after (Study source mode)
 Writes (Live m s) before after = WritesLive before after (Live m s)
+Writes (Watch m s w) before after = WritesWatched before after (Watch m s w)
 
 -- status 0: the whole output is written, and nothing told
 pub record IsWritten (words : Option AssignmentView) (before after : Outside) : Type 0 where
@@ -143,6 +179,7 @@ pub record IsCutFor (words : Option AssignmentView) (before after : Outside) : T
 abbrev pub IsLive : AssignmentView → Type 0
 IsLive (Study source mode) = ⊥
 IsLive (Live m s) = Unit {0}
+IsLive (Watch m s w) = ⊥
 
 -- what is told before the line: nothing, or, at the limit of a live study, one text
 abbrev pub ArePreceded : Option AssignmentView → ℕ → List (List ℕ) → Type 0

@@ -3,11 +3,13 @@ use Rattle.std.specs.Prelude.{◌≡◌, ℕ, List}
 use Rattle.sim_outer.specs.Files.{prefix_of}
 use Rattle.net_model.specs.Text.{model}
 use Rattle.decision_script.specs.Reading.{script}
+use Rattle.watch_points.specs.Reading.{watches}
 
--- the bytes that a fetch gives of a file state the same model and the same script as the whole file
+-- the bytes that a fetch gives of a file state the same model, script and watches as the whole file
 pub record StatesTheSame (file : List ℕ) : Type 0 where
   pub model_is : model (prefix_of file) ≡ model file
   pub script_is : script (prefix_of file) ≡ script file
+  pub watches_are : watches (prefix_of file) ≡ watches file
 
 -- so it is of each file, however long
 abbrev pub PrefixesStateTheSame : Type 0

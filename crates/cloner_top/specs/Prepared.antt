@@ -1,15 +1,16 @@
 -- What is ready to be run: all that is asked was read and decided, and no message is handled yet.
-use Rattle.std.specs.Prelude.{Option}
+use Rattle.std.specs.Prelude.{◌≡◌, Option, Ok}
 use Rattle.sim_outer.specs.Files.{Files}
 use Rattle.command_words.specs.Requests.{AssignmentView}
 use Rattle.study_run.specs.Accepted.{IsAcceptedJournal}
+use Rattle.watch_points.specs.Checking.{fit}
 use Rattle.cloner_top.specs.declared.prepared.Prepared.{Prepared}
-use Rattle.cloner_top.specs.declared.prepared.Prepared.TheVariants.{Decided, Undecided}
+use Rattle.cloner_top.specs.declared.prepared.Prepared.TheVariants.{Decided, Undecided, Watching}
 use Rattle.cloner_top.specs.declared.refusal.Refusal.{Refusal}
 use Rattle.cloner_top.specs.declared.refusal.Refusal.TheVariants.{NotRead, OutOfMemory, Stopped}
 use Rattle.cloner_top.specs.Answers.{IsLawfulEnding}
 use Rattle.cloner_top.specs.Deciding.{clones_of_book}
-use Rattle.cloner_top.specs.Endings.{Ending, MayLive, MaySimulate, early_stop}
+use Rattle.cloner_top.specs.Endings.{Ending, MayLive, MayRunWatched, MaySimulate, early_stop}
 use Rattle.cloner_top.specs.Texts.{IsDue, IsUnread}
 
 -- how it may end
@@ -17,11 +18,14 @@ abbrev pub MayEndFrom : Prepared → Ending → Type 0
 MayEndFrom (Decided decided) end =
     MaySimulate decided.mode decided.plan.model.value (clones_of_book decided.plan.book) end
 MayEndFrom (Undecided study) end = MayLive study.model.value study.script end
+MayEndFrom (Watching w) end = MayRunWatched w.plan.model.value (clones_of_book w.plan.book) w.watches end
 
--- the decisions that are made were all accepted
+-- the decisions that are made were all accepted, and the watches fit
 abbrev pub IsReady : Prepared → Type 0
 IsReady (Decided decided) = IsAcceptedJournal decided.plan.book.net decided.plan.book.events
 IsReady (Undecided study) = Unit {0}
+IsReady (Watching w) = IsAcceptedJournal w.plan.book.net w.plan.book.events
+    × (fit w.plan.model.value (clones_of_book w.plan.book) w.watches ≡ Ok tt)
 
 -- it is what is asked: however it ends, that is a lawful ending
 abbrev pub IsPrepared : Option Files → AssignmentView → Prepared → Type 0

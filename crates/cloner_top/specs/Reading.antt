@@ -1,25 +1,39 @@
 -- Texts that are fetched and read, and why not.
-use Rattle.std.specs.Prelude.{◌≡◌, ℕ, List, Option, Ok, Err}
+use Rattle.std.specs.Prelude.{◌≡◌, ℕ, List, [], Option, Ok, Err}
+use Rattle.sim_base.specs.Clones.{Clone}
 use Rattle.sim_outer.specs.Files.{Files}
 use Rattle.net_model.specs.Net.{Net}
 use Rattle.net_model.specs.Text.{model}
+use Rattle.decision_script.specs.Printing.{canonical_text}
 use Rattle.decision_script.specs.Reading.{script}
 use Rattle.decision_script.specs.Stating.{ScriptView}
+use Rattle.made_study.specs.Scripts.{made_script}
+use Rattle.made_study.specs.Texts.{model_text}
+use Rattle.watch_points.specs.Checking.{fit}
+use Rattle.watch_points.specs.Reading.{watches}
+use Rattle.watch_points.specs.declared.watch.Watch.{Watch}
 use Rattle.command_words.specs.Requests.{AssignmentView}
 use Rattle.cloner_top.specs.declared.reading.Origin as code
 use Rattle.cloner_top.specs.declared.reading.Origin.TheVariants as from
 use Rattle.cloner_top.specs.declared.refusal.Refusal.{Refusal}
 use Rattle.cloner_top.specs.declared.refusal.Refusal.TheVariants.{NotRead, OutOfMemory, Stopped}
 use Rattle.cloner_top.specs.declared.refusal.Text.{Text}
-use Rattle.cloner_top.specs.declared.refusal.Text.TheVariants.{Model, Script}
+use Rattle.cloner_top.specs.declared.refusal.Text.TheVariants.{Model, Script, Watches}
 use Rattle.cloner_top.specs.declared.stop.Stop.{Stop}
-use Rattle.cloner_top.specs.declared.stop.Stop.TheVariants.{BadModel, BadScript}
-use Rattle.cloner_top.specs.Texts.{IsTextOf, IsUnread, Origin, in_file, made, made_text}
+use Rattle.cloner_top.specs.declared.stop.Stop.TheVariants.{BadModel, BadScript, BadWatch, BadWatches}
+use Rattle.cloner_top.specs.Texts.{IsTextOf, IsUnread, Origin, in_file, made, not_asked}
+
+-- the text that is made of a number: a model or a script
+abbrev pub made_text : Text → ℕ → List ℕ
+made_text Model n = model_text n
+made_text Script n = canonical_text made_script
+made_text Watches n = []
 
 -- where a text comes from, as plain data
 abbrev pub origin_view : code.Origin → Text → Origin
 origin_view (from.InFile name) text = in_file name.now
 origin_view (from.Made number) text = made (made_text text number)
+origin_view from.NotAsked text = not_asked
 
 -- out of memory, or the text was not read
 abbrev pub IsNotFetched : Type 0 → AssignmentView → Option Files → Text → Refusal → Type 0
@@ -36,6 +50,16 @@ IsBadModel text stop = ⊥
 abbrev pub IsBadScript : List ℕ → Stop → Type 0
 IsBadScript text (BadScript fault) = script text ≡ Err fault
 IsBadScript text stop = ⊥
+
+-- the rule of watches that a text breaks
+abbrev pub IsBadWatches : List ℕ → Stop → Type 0
+IsBadWatches text (BadWatches fault) = watches text ≡ Err fault
+IsBadWatches text stop = ⊥
+
+-- the first watch that does not fit
+abbrev pub IsBadWatch : Net → List Clone → List Watch → Stop → Type 0
+IsBadWatch net clones ws (BadWatch reply line) = fit net clones ws ≡ Err (record { line = line; reply = reply })
+IsBadWatch net clones ws stop = ⊥
 
 -- the model's text is this model
 pub record IsModelOf (a : AssignmentView) (files : Option Files) (net : Net) : Type 0 where

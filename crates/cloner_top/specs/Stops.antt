@@ -6,8 +6,11 @@ use Rattle.decision_script.specs.declared.fault.ScriptFault.{ScriptFault}
 use Rattle.decision_script.specs.Faults as script
 use Rattle.decision_book.specs.declared.call.Reply.{Reply}
 use Rattle.decision_book.specs.Numbers.{reply_number}
+use Rattle.watch_points.specs.declared.fault.WatchFault.{WatchFault}
+use Rattle.watch_points.specs.Faults as watch
 use Rattle.cloner_top.specs.declared.stop.Stop.{Stop}
-use Rattle.cloner_top.specs.declared.stop.Stop.TheVariants.{BadModel, BadScript, BadDecision, NoClone}
+use Rattle.cloner_top.specs.declared.stop.Stop.TheVariants.{BadModel, BadScript, BadDecision, BadWatch, BadWatches}
+use Rattle.cloner_top.specs.declared.stop.Stop.TheVariants.{NoClone}
 use Rattle.cloner_top.specs.declared.excess.Excess.{Excess}
 use Rattle.cloner_top.specs.declared.excess.Excess.TheVariants.{LimitMet}
 
@@ -17,6 +20,8 @@ stop_status (BadModel fault) = 4
 stop_status (BadScript fault) = 5
 stop_status (BadDecision reply line) = 6
 stop_status (NoClone name) = 6
+stop_status (BadWatches fault) = 9
+stop_status (BadWatch reply line) = 9
 
 -- and for each excess
 abbrev pub excess_status : Excess → ℕ
@@ -46,6 +51,18 @@ decision_line reply line =
     codes "cloner: decision: refusal " ++ decimal (reply_number reply) ++ codes " at line " ++ decimal line
     ++ codes "\n"
 
+-- the first rule of watches that is broken
+abbrev pub watches_line : WatchFault → List ℕ
+watches_line fault =
+    codes "cloner: watches: refusal " ++ decimal (watch.fault_number fault) ++ codes " at line "
+    ++ decimal (watch.fault_line fault) ++ codes "\n"
+
+-- the first watch that does not fit
+abbrev pub watch_line : Reply → ℕ → List ℕ
+watch_line reply line =
+    codes "cloner: watch: refusal " ++ decimal (reply_number reply) ++ codes " at line " ++ decimal line
+    ++ codes "\n"
+
 -- the name that no clone has
 abbrev pub no_clone_line : List ℕ → List ℕ
 no_clone_line name = codes "cloner: no clone " ++ name ++ codes "\n"
@@ -62,6 +79,8 @@ stop_line (BadModel fault) = model_line fault
 stop_line (BadScript fault) = script_line fault
 stop_line (BadDecision reply line) = decision_line reply line
 stop_line (NoClone name) = no_clone_line name
+stop_line (BadWatches fault) = watches_line fault
+stop_line (BadWatch reply line) = watch_line reply line
 
 -- and for each excess
 abbrev pub excess_line : Excess → List ℕ

@@ -12,7 +12,8 @@ use std::marker::Model;
 /// The most bytes of a line: more than the longest usage line has.
 pub const LONGEST_LINE: usize = 320;
 
-/// A line of at most [`LONGEST_LINE`] bytes, in a buffer of its own. It takes no memory.
+/// A line of at most [`LONGEST_LINE`] bytes, in a buffer of its own: of the error sink, or the rounds of `links`. It
+/// takes no memory.
 #[derive(Drop)]
 pub struct ErrorLine {
     text: ArrayString<LONGEST_LINE>,

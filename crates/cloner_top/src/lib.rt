@@ -6,7 +6,7 @@
 //!
 //! ```text
 //! words -command_words-> request -prepare-> what is read and decided -writing-> output
-//!                            statuses 3 to 6                      statuses 6 to 8
+//!                            statuses 3 to 6, 9                   statuses 6 to 8
 //! ```
 //!
 //! An example, over files and sinks in memory:
@@ -27,6 +27,7 @@ pub mod error_line;
 pub mod excess;
 pub mod halt;
 pub mod laws;
+mod linking;
 mod live;
 mod prepare;
 mod prepared;
@@ -36,6 +37,7 @@ mod reading;
 pub mod refusal;
 mod running;
 pub mod stop;
+mod watching;
 mod writing;
 
 pub use command_words::{Assignment, Mode, Request, Source};

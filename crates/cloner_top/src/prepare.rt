@@ -1,24 +1,27 @@
 //! Reads what is asked and decides it: all that comes before the first message.
-ghost use Rattle.std.specs.Prelude.{◌≡◌, ◌≤◌, ℕ, List, IfErr, IfOk, OnOk};
+ghost use Rattle.std.specs.Prelude.{◌≡◌, ◌≤◌, ◌+◌, ℕ, List, IfErr, IfOk, Ok, OnOk};
 ghost use Rattle.sim_outer.specs.Counts.{AreCounted, HasRisen};
 ghost use Rattle.command_words.specs.Requests as requests;
 ghost use Rattle.command_words.specs.Requests.{SourceView, assignment_view};
-ghost use Rattle.cloner_top.specs.Deciding.{IsDecided, IsRefusal};
+ghost use Rattle.watch_points.specs.Checking.{fit};
+ghost use Rattle.cloner_top.specs.Deciding.{IsDecided, IsRefusal, clones_of_book};
 ghost use Rattle.cloner_top.specs.Prepared.{IsNotPrepared, IsPrepared, IsReady};
-ghost use Rattle.cloner_top.specs.Reading.{IsModelOf, IsScriptOf, IsUnscripted};
+ghost use Rattle.cloner_top.specs.Reading.{IsBadWatch, IsModelOf, IsScriptOf, IsUnscripted};
 ghost use Rattle.cloner_top.specs.Refusals.{IsMemoryOrStop};
-ghost use Rattle.cloner_top.specs.Texts.{all_fetches, fetches_of, origin_of};
+ghost use Rattle.cloner_top.specs.Texts.{all_fetches, fetches_of, later_fetches, origin_of};
 
 use crate::deciding::decide_script;
-use crate::prepared::{Decided, Plan, Prepared, Study};
-use crate::reading::{fetch_text, read_model_text, read_script_text};
+use crate::prepared::{Decided, Plan, Prepared, Study, Watching};
+use crate::reading::{fetch_text, read_model_text, read_script_text, read_watches_text};
 use crate::refusal::{Refusal, Text};
+use crate::stop::Stop;
 use command_words::{Assignment, Mode};
 use decision_script::Script;
 use net_model::Model;
 use sim_outer::Inputs;
 use std::alloc::Global;
 use std::sync::Arc;
+use watch_points::{Watches, check};
 
 // The plan of a model and a script: all decisions are made at front 0, before the simulation begins. Nothing is
 // simulated.
@@ -100,8 +103,10 @@ fn prepare_study<I: Inputs>(
         (I.view inputs.old).files (assignment_view assignment.now) r) }
     ensures later { (I.view inputs.old).faults ≤ (I.view inputs.new).faults }
     ensures same { (I.view inputs.new).files ≡ (I.view inputs.old).files }
-    ensures counted { AreCounted (fetches_of (origin_of (assignment_view assignment.now) Text.Script))
-        (I.view inputs.old).calls (I.view inputs.new).calls }
+    ensures fetched { OnOk result (AreCounted (later_fetches (assignment_view assignment.now))
+        (I.view inputs.old).calls (I.view inputs.new).calls) }
+    ensures few { (n : ℕ) × ((n ≤ later_fetches (assignment_view assignment.now))
+        × AreCounted n (I.view inputs.old).calls (I.view inputs.new).calls) }
 {
     let script = match fetch_script(alloc, inputs, assignment) {
         Ok(script) => script,
@@ -128,11 +133,71 @@ fn prepare_live<I: Inputs>(
         (I.view inputs.old).files (assignment_view assignment.now) r) }
     ensures later { (I.view inputs.old).faults ≤ (I.view inputs.new).faults }
     ensures same { (I.view inputs.new).files ≡ (I.view inputs.old).files }
-    ensures counted { AreCounted (fetches_of (origin_of (assignment_view assignment.now) Text.Script))
-        (I.view inputs.old).calls (I.view inputs.new).calls }
+    ensures fetched { OnOk result (AreCounted (later_fetches (assignment_view assignment.now))
+        (I.view inputs.old).calls (I.view inputs.new).calls) }
+    ensures few { (n : ℕ) × ((n ≤ later_fetches (assignment_view assignment.now))
+        × AreCounted n (I.view inputs.old).calls (I.view inputs.new).calls) }
 {
     match fetch_script(alloc, inputs, assignment) {
         Ok(script) => Ok(Prepared::Undecided(Study { model, script })),
+        Err(refusal) => Err(refusal),
+    }
+}
+
+// Whether watches fit the clones of a plan, or the first watch that does not.
+fn check_watches(plan: &Plan, watches: &Watches) -> Result<(), Refusal>
+    ensures ok { OnOk result (fit plan.now.model.value (clones_of_book plan.now.book) watches.now ≡ Ok tt) }
+    ensures err { IfErr result (λ r.
+        IsMemoryOrStop (IsBadWatch plan.now.model.value (clones_of_book plan.now.book) watches.now) r) }
+{
+    match check(&plan.model, plan.book.lists(), watches) {
+        Ok(()) => Ok(()),
+        Err(unfit) => Err(Refusal::Stopped(Stop::BadWatch {
+            reply: unfit.reply,
+            line: unfit.line,
+        })),
+    }
+}
+
+// A study with watches; the model was read.
+fn prepare_watch<I: Inputs>(
+    alloc: Global,
+    inputs: &mut I,
+    assignment: &Assignment,
+    model: Arc<Model>,
+) -> Result<Prepared, Refusal>
+    requires watch { (m : List ℕ) × ((s : List ℕ) × ((w : List ℕ)
+        × (assignment_view assignment.now ≡ requests.Watch m s w))) }
+    requires model { IsModelOf (assignment_view assignment.now) (I.view inputs.old).files model.value }
+    ensures ready { IfOk result IsReady }
+    ensures ok { IfOk result (λ p. IsPrepared (I.view inputs.old).files (assignment_view assignment.now) p) }
+    ensures err { IfErr result (λ r. IsNotPrepared (HasRisen (I.view inputs.old).faults (I.view inputs.new).faults)
+        (I.view inputs.old).files (assignment_view assignment.now) r) }
+    ensures later { (I.view inputs.old).faults ≤ (I.view inputs.new).faults }
+    ensures same { (I.view inputs.new).files ≡ (I.view inputs.old).files }
+    ensures fetched { OnOk result (AreCounted (later_fetches (assignment_view assignment.now))
+        (I.view inputs.old).calls (I.view inputs.new).calls) }
+    ensures few { (n : ℕ) × ((n ≤ later_fetches (assignment_view assignment.now))
+        × AreCounted n (I.view inputs.old).calls (I.view inputs.new).calls) }
+{
+    let script = match fetch_script(alloc, inputs, assignment) {
+        Ok(script) => script,
+        Err(refusal) => return Err(refusal),
+    };
+    let plan = match plan_study(alloc, model, &script) {
+        Ok(plan) => plan,
+        Err(refusal) => return Err(refusal),
+    };
+    let text = match fetch_text(alloc, inputs, assignment, Text::Watches) {
+        Ok(text) => text,
+        Err(refusal) => return Err(refusal),
+    };
+    let watches = match read_watches_text(alloc, text.as_slice()) {
+        Ok(watches) => watches,
+        Err(refusal) => return Err(refusal),
+    };
+    match check_watches(&plan, &watches) {
+        Ok(()) => Ok(Prepared::Watching(Watching { plan, watches })),
         Err(refusal) => Err(refusal),
     }
 }
@@ -164,5 +229,6 @@ pub(crate) fn prepare<I: Inputs>(
     match *assignment {
         Assignment::Study { mode, .. } => prepare_study(alloc, inputs, assignment, mode, model),
         Assignment::Live { .. } => prepare_live(alloc, inputs, assignment, model),
+        Assignment::Watch { .. } => prepare_watch(alloc, inputs, assignment, model),
     }
 }

@@ -6,6 +6,7 @@ use decision_book::Book;
 use decision_script::Script;
 use net_model::Model;
 use std::sync::Arc;
+use watch_points::Watches;
 
 /// A model and a script whose analysts decide while it runs.
 #[derive(Drop)]
@@ -29,6 +30,13 @@ pub(crate) struct Decided {
     pub(crate) plan: Plan,
 }
 
+/// Decided clones, and watches that fit them.
+#[derive(Drop)]
+pub(crate) struct Watching {
+    pub(crate) plan: Plan,
+    pub(crate) watches: Watches,
+}
+
 /// All that is asked was read and decided, and no message is handled yet.
 #[derive(Drop)]
 pub(crate) enum Prepared {
@@ -36,4 +44,6 @@ pub(crate) enum Prepared {
     Decided(Decided),
     /// Analysts decide while it runs.
     Undecided(Study),
+    /// All decisions are made, and watches make branches while it runs.
+    Watching(Watching),
 }

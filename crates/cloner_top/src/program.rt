@@ -129,24 +129,32 @@ fn obey_or_complain<I: Inputs, O: Sink, E: Sink, G: Gate, L: Ledger, R: Threads 
 
 /// All that the program does: the words of the command line to its status.
 ///
-/// `run MODEL SCRIPT` runs all clones that the script makes in one world, which they share, and writes the trace text
-/// of each and then the report; `live MODEL SCRIPT` has the analysts of the script decide and look while that world
-/// runs, and writes their journal before the rest; `gen NUMBER` runs the model and the script made of the number, and
-/// writes the report alone; `stats MODEL SCRIPT` runs as `run` does and writes the statistics of each clone's servers;
-/// `solo MODEL SCRIPT --clone NAME` runs one clone alone and writes its trace text. Each text is put in one call, and
-/// all memory is taken before the first. The status is 0 if all is written. Otherwise the error sink is told why in one
-/// line. If the limit is met in a live study, its journal is told before the line:
+/// - `run MODEL SCRIPT` runs all clones that the script makes in one world, which they share. It writes the trace text
+///   of each, and then the report.
+/// - `solo MODEL SCRIPT --clone NAME` runs one clone alone, and writes its trace text.
+/// - `live MODEL SCRIPT` has the analysts of the script decide and look while that world runs. It writes their journal,
+///   and then what a run writes.
+/// - `gen NUMBER` runs the model and the script that are made of the number, and writes the report alone.
+/// - `watch MODEL SCRIPT WATCHES` makes a branch whenever a watched line gets long. It writes what a run writes, in the
+///   order of the watches.
+/// - `stats MODEL SCRIPT` runs as `run` does, and writes the statistics of each clone's servers.
+/// - `links MODEL SCRIPT` keeps the stations in step by the clocks of their links. It writes what a run writes, and
+///   then the number of rounds.
 ///
-/// 1. memory was refused, at any place before the first put;
+/// Each text is put in one call, and all memory is taken before the first. The status is 0 if all is written. If not,
+/// the error sink is told why in one line. If the limit is met in a live study, its journal is told before the line:
+///
+/// 1. out of memory, at any place before the first put;
 /// 2. the command line has no known form;
-/// 3. a file that was due was not read, which comes only where the inputs had a fault or have no such file;
+/// 3. a file that was due was not read: the inputs had a fault or have no such file;
 /// 4. the model's text is no model;
 /// 5. the script's text is no script;
 /// 6. a decision is refused, or there is no clone of the name; in a live study the journal shows what is refused;
 /// 7. a log would grow longer than the model's limit before the horizon;
-/// 8. the output was cut off, which comes only where it had a fault.
+/// 8. the output was cut off, which comes only if it had a fault;
+/// 9. the text of the watches states none, or a watch does not fit.
 ///
-/// After 1 to 7 the output is as before.
+/// After every status but 0 and 8 the output is as before.
 pub fn cloner<R: Threads + Wait + Sync, I: Inputs, O: Sink, E: Sink, G: Gate, L: Ledger>(
     rt: &R,
     alloc: Global,

@@ -1,25 +1,32 @@
 //! Puts the texts of a study, each in one call whose parts are put as they are made, once all memory was taken.
-ghost use Rattle.std.specs.Prelude.{◌≡◌, ◌≤◌, ◌∷◌, [], IfErr, IfOk};
-ghost use Rattle.trace_report.specs.Outputs.{report};
+ghost use Rattle.std.specs.Prelude.{◌≡◌, ◌≤◌, ◌∷◌, ◌++◌, [], IfErr, IfOk, OnErr, OnOk, length, map};
+ghost use Rattle.sim_outer.specs.Bytes.{IsAppended};
+ghost use Rattle.sim_outer.specs.Counts.{AreCounted};
+ghost use Rattle.rolling_text.specs.Puts.{AreCut};
+ghost use Rattle.rolling_text.specs.Texts.{AreTextsReady};
+ghost use Rattle.trace_report.specs.Outputs.{clone_text, clone_texts, report};
 ghost use Rattle.trace_report.specs.TraceText.{trace_text};
 ghost use Rattle.study_run.specs.Reports.{MayReport};
 ghost use Rattle.study_stats.specs.Rows.{statistics};
-ghost use Rattle.cloner_top.specs.Endings.{run_texts};
+ghost use Rattle.watch_laws.specs.Orders.{IsPlaceOrder, in_order};
+ghost use Rattle.cloner_top.specs.Endings.{rounds_line, run_texts};
 ghost use Rattle.cloner_top.specs.Outsides.{AreDone, ArePutOrCut};
 ghost use Rattle.cloner_top.specs.RunTexts.{IsReadyRun, MayPutRun};
 
+use crate::error_line::ErrorLine;
 use crate::refusal::Refusal;
 use crew_pool::Workers;
 use log_chain::Log;
 use net_model::Model;
-use rolling_text::{Texts, WorldTraces, prepare, put_alone, put_texts};
+use rolling_text::{Texts, WorldTraces, prepare, put_alone, put_texts, put_texts_sequentially};
 use sim_base::{Name, NoMemory};
-use sim_outer::Sink;
+use sim_outer::{PutFailed, Sink};
 use std::alloc::Global;
 use std::sync::Wait;
 use std::thread::Threads;
 use study_run::make_report;
 use study_stats::make_statistics;
+use watched_run::WatchedWorld;
 use world_core::World;
 
 /// Puts one text.
@@ -90,12 +97,18 @@ struct RunTexts<'a> {
     report: Vec<u8>,
 }
 
-// Takes all memory that the texts of a world at the horizon need.
-fn prepare_run<'a>(alloc: Global, model: &Model, world: &'a World) -> Result<RunTexts<'a>, NoMemory>
+// Takes all memory that these texts of a world at the horizon, and its report, need.
+fn prepare_run<'a>(
+    alloc: Global,
+    model: &Model,
+    world: &World,
+    traces: WorldTraces<'a>,
+) -> Result<RunTexts<'a>, NoMemory>
     requires may_put { MayPutRun model.now world.now }
-    ensures ready { IfOk result (λ run. IsReadyRun model.now world.now.clones run) }
+    requires same_net { traces.net ≡ model.now }
+    requires same_report { report model.now traces.clones ≡ report model.now world.now.clones }
+    ensures ready { IfOk result (λ run. IsReadyRun model.now traces.entry.clones run) }
 {
-    let traces = WorldTraces::of(world);
     let texts = prepare(alloc, &traces)?;
     let report = make_report(alloc, model, world)?;
     Ok(RunTexts {
@@ -103,6 +116,29 @@ fn prepare_run<'a>(alloc: Global, model: &Model, world: &'a World) -> Result<Run
         texts,
         report,
     })
+}
+
+// Puts the trace text of each clone: in this thread, or with several workers.
+fn put_traces<'a, O: Sink, R: Threads + Wait + Sync>(
+    rt: &R,
+    alloc: Global,
+    workers: Workers,
+    traces: &WorldTraces<'a>,
+    texts: Texts<'a>,
+    out: &mut O,
+) -> Result<(), PutFailed>
+    requires ready { AreTextsReady traces.now.net traces.now.clones texts }
+    ensures ok { OnOk result (IsAppended (O.view out.old).bytes (clone_texts traces.now.net traces.now.clones)
+        (O.view out.new).bytes) }
+    ensures each { OnOk result (AreCounted (length traces.now.clones) (O.view out.old).calls (O.view out.new).calls) }
+    ensures cut { OnErr result (AreCut (map (clone_text traces.now.net) traces.now.clones)
+        (O.view out.old) (O.view out.new)) }
+    ensures later { (O.view out.old).faults ≤ (O.view out.new).faults }
+{
+    if workers.count == 1 {
+        return put_texts_sequentially(traces, texts, out);
+    }
+    put_texts(rt, alloc, traces, workers.count, texts, out)
 }
 
 // Puts the trace text of each clone, and then the report.
@@ -117,13 +153,14 @@ fn put_prepared<'a, O: Sink, R: Threads + Wait + Sync>(
     ensures done { AreDone (run_texts run.entry.traces.net run.entry.traces.clones)
         (O.view out.old) (O.view out.new) result }
     ensures cause { IfErr result (λ r. r ≡ Refusal.CannotWrite) }
+    ensures later { (O.view out.old).faults ≤ (O.view out.new).faults }
 {
     let RunTexts {
         traces,
         texts,
         report,
     } = run;
-    match put_texts(rt, alloc, &traces, workers.count, texts, out) {
+    match put_traces(rt, alloc, workers, &traces, texts, out) {
         Ok(()) => put_text(out, report.as_slice()),
         Err(_) => Err(Refusal::CannotWrite),
     }
@@ -141,9 +178,67 @@ pub(crate) fn put_run<O: Sink, R: Threads + Wait + Sync>(
     requires may_put { MayPutRun model.now world.now }
     ensures done { AreDone (run_texts model.now world.now.clones) (O.view out.old) (O.view out.new) result }
 {
-    match prepare_run(alloc, model, world) {
+    match prepare_run(alloc, model, world, WorldTraces::of(world)) {
         Ok(run) => put_prepared(rt, alloc, workers, run, out),
         Err(NoMemory) => Err(Refusal::OutOfMemory),
+    }
+}
+
+/// Puts the trace text of each clone of a run with watches, in the order of the watches, and then the report.
+pub(crate) fn put_watched<O: Sink, R: Threads + Wait + Sync>(
+    rt: &R,
+    alloc: Global,
+    workers: Workers,
+    model: &Model,
+    watched: WatchedWorld,
+    out: &mut O,
+) -> Result<(), Refusal>
+    requires may_put { MayPutRun model.now watched.world }
+    requires order { IsPlaceOrder (length watched.world.clones) watched.order.items }
+    ensures done { AreDone (run_texts model.now (in_order watched.world.clones watched.order.items))
+        (O.view out.old) (O.view out.new) result }
+{
+    let WatchedWorld { world, order } = watched;
+    let traces = WorldTraces::in_order(&world, order);
+    match prepare_run(alloc, model, &world, traces) {
+        Ok(run) => put_prepared(rt, alloc, workers, run, out),
+        Err(NoMemory) => Err(Refusal::OutOfMemory),
+    }
+}
+
+// The line of the rounds.
+fn line_of_rounds(rounds: u64) -> ErrorLine
+    ensures { result ≡ rounds_line rounds }
+{
+    let mut line = ErrorLine::new();
+    line.push("rounds ");
+    line.push_number(rounds);
+    line.push("\n");
+    line
+}
+
+/// Puts what a run writes, and then the line of the rounds.
+pub(crate) fn put_linked<O: Sink, R: Threads + Wait + Sync>(
+    rt: &R,
+    alloc: Global,
+    workers: Workers,
+    model: &Model,
+    world: &World,
+    rounds: u64,
+    out: &mut O,
+) -> Result<(), Refusal>
+    requires may_put { MayPutRun model.now world.now }
+    ensures done { AreDone (run_texts model.now world.now.clones ++ rounds_line rounds ∷ [])
+        (O.view out.old) (O.view out.new) result }
+{
+    let line = line_of_rounds(rounds);
+    let run = match prepare_run(alloc, model, world, WorldTraces::of(world)) {
+        Ok(run) => run,
+        Err(NoMemory) => return Err(Refusal::OutOfMemory),
+    };
+    match put_prepared(rt, alloc, workers, run, out) {
+        Ok(()) => put_text(out, line.text().as_bytes()),
+        Err(refusal) => Err(refusal),
     }
 }
 
@@ -161,7 +256,7 @@ pub(crate) fn put_live<O: Sink, R: Threads + Wait + Sync>(
     ensures done { AreDone (journal.now ∷ run_texts model.now world.now.clones)
         (O.view out.old) (O.view out.new) result }
 {
-    let run = match prepare_run(alloc, model, world) {
+    let run = match prepare_run(alloc, model, world, WorldTraces::of(world)) {
         Ok(run) => run,
         Err(NoMemory) => return Err(Refusal::OutOfMemory),
     };

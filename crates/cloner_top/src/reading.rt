@@ -3,10 +3,12 @@ ghost use Rattle.std.specs.Prelude.{◌≡◌, ◌≤◌, IfErr, IfOk, Ok, Err};
 ghost use Rattle.sim_outer.specs.Counts.{AreCounted, HasRisen};
 ghost use Rattle.net_model.specs.Text.{model};
 ghost use Rattle.decision_script.specs.Reading.{script};
-ghost use Rattle.command_words.specs.Requests.{FileNames, assignment_view, source_view};
-ghost use Rattle.cloner_top.specs.Reading.{IsBadModel, IsBadScript, IsNotFetched, origin_view};
+ghost use Rattle.watch_points.specs.Reading.{watches};
+ghost use Rattle.command_words.specs.Requests.{FileNames, Number, Watch, assignment_view, source_view};
+ghost use Rattle.cloner_top.specs.Reading.{IsBadModel, IsBadScript, IsBadWatches, IsNotFetched, made_text};
+ghost use Rattle.cloner_top.specs.Reading.{origin_view};
 ghost use Rattle.cloner_top.specs.Refusals.{IsMemoryOrStop};
-ghost use Rattle.cloner_top.specs.Texts.{IsTextOf, fetches_of, made_text, origin_of as origin_in, study_origin};
+ghost use Rattle.cloner_top.specs.Texts.{IsTextOf, fetches_of, origin_of as origin_in, study_origin};
 
 use crate::refusal::{Refusal, Text};
 use crate::stop::Stop;
@@ -17,6 +19,7 @@ use net_model::{Model, ModelFault, read_model};
 use sim_base::NoMemory;
 use sim_outer::{FetchFault, Inputs};
 use std::alloc::Global;
+use watch_points::{WatchFault, Watches, read_watches};
 
 /// Reads the model that a text is.
 pub(crate) fn read_model_text(alloc: Global, text: &[u8]) -> Result<Model, Refusal>
@@ -42,13 +45,26 @@ pub(crate) fn read_script_text(alloc: Global, text: &[u8]) -> Result<Script, Ref
     }
 }
 
-// Makes a text of a number.
+/// Reads the watches that a text states.
+pub(crate) fn read_watches_text(alloc: Global, text: &[u8]) -> Result<Watches, Refusal>
+    ensures ok { IfOk result (λ ws. watches text.now ≡ Ok ws) }
+    ensures err { IfErr result (λ r. IsMemoryOrStop (IsBadWatches text.now) r) }
+{
+    match read_watches(alloc, text) {
+        Ok(watches) => Ok(watches),
+        Err(WatchFault::NoMemory) => Err(Refusal::OutOfMemory),
+        Err(fault) => Err(Refusal::Stopped(Stop::BadWatches(fault))),
+    }
+}
+
+// Makes a text of a number: the model or the script.
 fn make_text(alloc: Global, text: Text, number: u32) -> Result<Vec<u8>, NoMemory>
     ensures { IfOk result (λ v. v.items ≡ made_text text number) }
 {
     match text {
         Text::Model => model_text(alloc, number),
         Text::Script => script_text(alloc),
+        Text::Watches => Ok(Vec::new(alloc)),
     }
 }
 
@@ -59,6 +75,8 @@ pub enum Origin<'a> {
     InFile(&'a str),
     /// It is made of this number.
     Made(u32),
+    /// It is not asked for.
+    NotAsked,
 }
 
 // Where a text of two files comes from.
@@ -68,6 +86,17 @@ fn origin_of_files<'a>(model: &'a str, script: &'a str, text: Text) -> Origin<'a
     match text {
         Text::Model => Origin::InFile(model),
         Text::Script => Origin::InFile(script),
+        Text::Watches => Origin::NotAsked,
+    }
+}
+
+// Where a text that is made of a number comes from.
+fn origin_of_number<'a>(number: u32, text: Text) -> Origin<'a>
+    ensures value { origin_view result text ≡ study_origin (Number number) text }
+{
+    match text {
+        Text::Model | Text::Script => Origin::Made(number),
+        Text::Watches => Origin::NotAsked,
     }
 }
 
@@ -77,7 +106,19 @@ fn origin_of_study<'a>(source: Source<'a>, text: Text) -> Origin<'a>
 {
     match source {
         Source::FileNames { model, script } => origin_of_files(model, script, text),
-        Source::Number(number) => Origin::Made(number),
+        Source::Number(number) => origin_of_number(number, text),
+    }
+}
+
+// Where a text of three files comes from.
+fn origin_of_watch<'a>(model: &'a str, script: &'a str, watches: &'a str, text: Text) -> Origin<'a>
+    ensures value { origin_view result text
+        ≡ origin_in (Watch model.entry.now script.entry.now watches.entry.now) text }
+{
+    match text {
+        Text::Model => Origin::InFile(model),
+        Text::Script => Origin::InFile(script),
+        Text::Watches => Origin::InFile(watches),
     }
 }
 
@@ -88,6 +129,11 @@ fn origin_of<'a>(assignment: &Assignment<'a>, text: Text) -> Origin<'a>
     match *assignment {
         Assignment::Study { source, .. } => origin_of_study(source, text),
         Assignment::Live { model, script } => origin_of_files(model, script, text),
+        Assignment::Watch {
+            model,
+            script,
+            watches,
+        } => origin_of_watch(model, script, watches, text),
     }
 }
 
@@ -116,5 +162,6 @@ pub(crate) fn fetch_text<I: Inputs>(
             Ok(bytes) => Ok(bytes),
             Err(NoMemory) => Err(Refusal::OutOfMemory),
         },
+        Origin::NotAsked => Ok(Vec::new(alloc)),
     }
 }

@@ -15,6 +15,8 @@ pub enum Text {
     Model,
     /// The script.
     Script,
+    /// The watches.
+    Watches,
 }
 
 /// The first cause, in the order of the statuses.
@@ -51,11 +53,12 @@ fn line_of_unread(text: Text) -> ErrorLine
     match text {
         Text::Model => line_of_text("cloner: cannot read the model\n"),
         Text::Script => line_of_text("cloner: cannot read the script\n"),
+        Text::Watches => line_of_text("cloner: cannot read the watches\n"),
     }
 }
 
 impl Refusal {
-    /// The status of the program, from 1 to 8.
+    /// The status of the program, from 1 to 9.
     pub fn status(&self) -> u8
         ensures { result ≡ status_of self.now }
     {

@@ -1,7 +1,7 @@
 //! Why a study is not written, before any message is handled.
 ghost use Rattle.std.specs.Prelude.{◌≡◌, ◌+◌, ◌++◌, ◌≤◌, length};
 ghost use Rattle.cloner_top.specs.Stops.{key_part, stop_line, stop_status, model_line};
-ghost use Rattle.cloner_top.specs.Stops.{script_line, decision_line, no_clone_line};
+ghost use Rattle.cloner_top.specs.Stops.{script_line, decision_line, no_clone_line, watch_line, watches_line};
 ghost use Rattle.cloner_top.specs.declared.error_line.TheConstants.{LONGEST_LINE};
 ghost use Rattle.net_model.specs.Faults.{fault_key};
 ghost use Rattle.net_model.specs.declared.key_text.TheConstants.{LONGEST_KEY_TEXT};
@@ -11,6 +11,7 @@ use decision_book::Reply;
 use decision_script::ScriptFault;
 use net_model::ModelFault;
 use sim_base::Name;
+use watch_points::WatchFault;
 
 /// The first cause, in the order of the statuses, for which nothing is run: no message is handled.
 #[derive(Clone, Copy, Debug, PartialEq, Eq)]
@@ -23,6 +24,10 @@ pub enum Stop {
     BadDecision { reply: Reply, line: u32 },
     /// The decisions make no clone of this name.
     NoClone(Name),
+    /// The text of the watches is none.
+    BadWatches(WatchFault),
+    /// The first watch that does not fit the model and the script's clones, with its line.
+    BadWatch { reply: Reply, line: u32 },
 }
 
 // The line of a model that is refused.
@@ -77,6 +82,32 @@ fn line_of_decision(reply: &Reply, number: u32) -> ErrorLine
     line
 }
 
+// The line of a text of watches that is refused.
+fn line_of_watches(fault: &WatchFault) -> ErrorLine
+    ensures { result ≡ watches_line fault.now }
+{
+    let mut line = ErrorLine::new();
+    line.push("cloner: watches: refusal ");
+    line.push_number(fault.number() as u64);
+    line.push(" at line ");
+    line.push_number(fault.line() as u64);
+    line.push("\n");
+    line
+}
+
+// The line of a watch that does not fit, with the number of its line in the file of watches.
+fn line_of_watch(reply: &Reply, number: u32) -> ErrorLine
+    ensures { result ≡ watch_line reply.now number }
+{
+    let mut line = ErrorLine::new();
+    line.push("cloner: watch: refusal ");
+    line.push_number(reply.number() as u64);
+    line.push(" at line ");
+    line.push_number(number as u64);
+    line.push("\n");
+    line
+}
+
 // The line of a name that no clone has.
 fn line_of_no_clone(name: &Name) -> ErrorLine
     ensures { result ≡ no_clone_line name.now }
@@ -89,7 +120,7 @@ fn line_of_no_clone(name: &Name) -> ErrorLine
 }
 
 impl Stop {
-    /// The status of the program, from 4 to 6.
+    /// The status of the program: 4 to 6, or 9.
     pub fn status(&self) -> u8
         ensures { result ≡ stop_status self.now }
     {
@@ -97,6 +128,7 @@ impl Stop {
             Stop::BadModel(_) => 4,
             Stop::BadScript(_) => 5,
             Stop::BadDecision { .. } | Stop::NoClone(_) => 6,
+            Stop::BadWatches(_) | Stop::BadWatch { .. } => 9,
         }
     }
 
@@ -109,6 +141,8 @@ impl Stop {
             Stop::BadScript(fault) => line_of_script(fault),
             Stop::BadDecision { reply, line } => line_of_decision(reply, *line),
             Stop::NoClone(name) => line_of_no_clone(name),
+            Stop::BadWatches(fault) => line_of_watches(fault),
+            Stop::BadWatch { reply, line } => line_of_watch(reply, *line),
         }
     }
 }

@@ -8,10 +8,12 @@ ghost use Rattle.study_run.specs.Accepted.{IsAcceptedJournal};
 
 use crate::alone::write_alone;
 use crate::halt::Halt;
+use crate::linking::write_links;
 use crate::live::write_live;
 use crate::prepared::{Decided, Prepared};
 use crate::refusal::Refusal;
 use crate::running::{write_report, write_run, write_stats};
+use crate::watching::write_watched;
 use command_words::Mode;
 use crew_pool::{Gate, Workers};
 use sim_base::Steps;
@@ -40,6 +42,7 @@ fn write_decided<O: Sink, G: Gate, L: Ledger, R: Threads + Wait + Sync>(
         Mode::Run => write_run(rt, alloc, gate, workers, &decided.plan, out, steps),
         Mode::Report => write_report(rt, alloc, gate, workers, &decided.plan, out, steps),
         Mode::Stats => write_stats(rt, alloc, gate, workers, &decided.plan, out, steps),
+        Mode::Links => write_links(rt, alloc, gate, workers, &decided.plan, out, steps),
         Mode::Solo(name) => write_alone(alloc, &name, &decided.plan, out, steps),
     }
 }
@@ -68,5 +71,11 @@ pub(crate) fn write_prepared<O: Sink, G: Gate, L: Ledger, R: Threads + Wait + Sy
             }
         }
         Prepared::Undecided(study) => write_live(rt, alloc, gate, workers, study, out, steps),
+        Prepared::Watching(watching) => {
+            match write_watched(rt, alloc, gate, workers, watching, out, steps) {
+                Ok(()) => Ok(()),
+                Err(refusal) => Err(Halt::Refused(refusal)),
+            }
+        }
     }
 }
