@@ -4,12 +4,14 @@ ghost use Rattle.std.specs.Prelude.{◌≡◌, ◌<◌};
 mod branches;
 mod failures;
 mod kinds;
+mod links;
 mod live;
 mod many;
 mod models;
 mod refusals;
 mod statistics;
 mod texts;
+mod watches;
 mod words;
 
 use cloner_top::cloner;
@@ -102,10 +104,15 @@ const SOLO_BASE: &[&str] = &["solo", "m", "s", "--clone", "base"];
 /// `live` of the two.
 const LIVE: &[&str] = &["live", "m", "s"];
 
+/// `watch` of the two and the watches in `w`.
+const WATCH: &[&str] = &["watch", "m", "s", "w"];
+
 /// The lines of error where a file is not read, and where the output is cut off.
 const NO_MODEL: &str = "cloner: cannot read the model\n";
 
 const NO_SCRIPT: &str = "cloner: cannot read the script\n";
+
+const NO_WATCHES: &str = "cloner: cannot read the watches\n";
 
 const CUT: &str = "cloner: cannot write\n";
 
@@ -196,16 +203,21 @@ fn file(alloc: Global, name: &str, text: &str) -> Result<(Word, Vec<u8>), NoMemo
     ))
 }
 
-/// A model in the file `m` and a script in the file `s`, where these fetches fail.
+/// A model in the file `m`, a script in the file `s` and watches in the file `w` if there are any, where these fetches
+/// fail.
 fn inputs_of(
     alloc: Global,
     model: &str,
     script: &str,
+    watches: Option<&str>,
     failing: &[u32],
 ) -> Result<MemInputs, NoMemory> {
     let mut files = Vec::new(alloc);
     files.push(file(alloc, "m", model)?)?;
     files.push(file(alloc, "s", script)?)?;
+    if let Some(watches) = watches {
+        files.push(file(alloc, "w", watches)?)?;
+    }
     MemInputs::new(alloc, files, Vec::from_slice(alloc, failing)?)
 }
 
@@ -233,18 +245,19 @@ fn cloner_counted<G: Gate, L: Ledger, R: Threads + Wait + Sync>(
     cloner(rt, alloc, words, inputs, out, err, gate, &mut steps)
 }
 
-/// How the program ends on a model in the file `m` and a script in the file `s`.
-fn run_program<G: Gate, R: Threads + Wait + Sync>(
+/// How the program ends on a model in the file `m`, a script in the file `s` and watches in the file `w`.
+fn run_with_watches<G: Gate, R: Threads + Wait + Sync>(
     rt: &R,
     alloc: Global,
     gate: &G,
     words: &[&str],
     model: &str,
     script: &str,
+    watches: Option<&str>,
     outside: &Outside,
 ) -> Result<Outcome, NoMemory> {
     let words = words_of(alloc, words)?;
-    let mut inputs = inputs_of(alloc, model, script, outside.fetch)?;
+    let mut inputs = inputs_of(alloc, model, script, watches, outside.fetch)?;
     let mut out = sink_of(alloc, outside.takes, outside.put)?;
     let mut err = sink_of(alloc, 1000, outside.error)?;
     let status = cloner_counted::<G, Brand, R>(
@@ -258,4 +271,17 @@ fn run_program<G: Gate, R: Threads + Wait + Sync>(
         Blank::new(1),
     );
     Ok(Outcome { status, out, err })
+}
+
+/// How the program ends on a model in the file `m` and a script in the file `s`.
+fn run_program<G: Gate, R: Threads + Wait + Sync>(
+    rt: &R,
+    alloc: Global,
+    gate: &G,
+    words: &[&str],
+    model: &str,
+    script: &str,
+    outside: &Outside,
+) -> Result<Outcome, NoMemory> {
+    run_with_watches(rt, alloc, gate, words, model, script, None, outside)
 }

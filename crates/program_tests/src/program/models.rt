@@ -37,6 +37,39 @@ by = "turn"
 link = [{ to = "spin", delay = 1 }]
 "#;
 
+/// Two servers in a ring, with delays of 3 and 5.
+pub const RING: &str = r#"lookahead = 2
+horizon = 20
+[[station]]
+name = "gate"
+kind = "source"
+every = [3, 3]
+jobs = 2
+link = [{ to = "a", delay = 2 }]
+[[station]]
+name = "a"
+kind = "server"
+servers = 1
+room = 5
+service = [1, 1]
+link = [{ to = "b", delay = 3 }]
+[[station]]
+name = "b"
+kind = "server"
+servers = 1
+room = 5
+service = [1, 1]
+link = [{ to = "a", delay = 5 }]
+"#;
+
+/// A sink alone.
+pub const ONE_SINK: &str = r#"lookahead = 2
+horizon = 20
+[[station]]
+name = "out"
+kind = "sink"
+"#;
+
 /// A source whose jobs raise more fronts than the text of a script has room for.
 pub const MANY_FRONTS: &str = r#"lookahead = 1
 horizon = 130000

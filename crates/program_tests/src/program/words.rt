@@ -8,7 +8,7 @@ use std::test::Fail;
 use std::thread::Threads;
 
 const USAGE: &str =
-    "usage: cloner run MODEL SCRIPT [--workers N], solo MODEL SCRIPT --clone NAME, live MODEL SCRIPT [--workers N], gen NUMBER [--workers N], stats MODEL SCRIPT [--workers N]\n";
+    "usage: cloner run MODEL SCRIPT [--workers N], solo MODEL SCRIPT --clone NAME, live MODEL SCRIPT [--workers N], gen NUMBER [--workers N], watch MODEL SCRIPT WATCHES [--workers N], stats MODEL SCRIPT [--workers N], links MODEL SCRIPT [--workers N]\n";
 
 /// What a command line shows, and its words.
 type Words = (&'static str, &'static [&'static str]);
