@@ -3,8 +3,8 @@
 
     bench/bench.py [--bin FILE] [--rounds N] [--workers N] [--only PART] [--plot FILE] [WORKLOAD ..]
 
-Parts: `workloads` (beside the plain simulator), `solo`, `stats`, `start`, `growth` (also a plot as SVG),
-and `simpy`; by default all. Within each round all programs run in turn, with their output thrown away. Before
+Parts: `workloads` (beside the plain simulator), `solo`, `stats`, `links`, `watch`, `start`, `growth`
+(also a plot as SVG), and `simpy`; by default all. Within each round all programs run in turn, with their output thrown away. Before
 that each runs once for its bytes and its peak memory, and the bytes must be equal. Status 1 where a run
 failed or bytes differ. README.md says what the columns mean.
 """
@@ -24,7 +24,9 @@ HERE = Path(__file__).resolve().parent
 TOP = HERE.parent
 CRATE = TOP / "crates" / "cloner_cli"
 BUILT = CRATE / "out" / "cloner_cli"
-PARTS = ("workloads", "solo", "stats", "start", "growth", "simpy")
+PARTS = ("workloads", "solo", "stats", "links", "watch", "start", "growth", "simpy")
+LINKED = ("clinic", "gen", "hub", "wide", "tight", "wait60000")
+MOST_WATCHES = 255
 
 
 def arguments():
@@ -168,6 +170,46 @@ def measure_stats(bench):
         printed([name, f"{lines:,}", *ratios])
 
 
+def linked_row(bench, name):
+    """The cells of one workload: `cloner links` beside `cloner run`, by one worker and by several."""
+    files = bench.files(name)
+    commands = {mode: [bench.cloner, mode, *files] for mode in ("run", "links")}
+    commands |= {mode + " by many": [*commands[mode], *(bench.workers or [])] for mode in ("run", "links")}
+    runs = {label: peak_and_bytes(command, bench.folder) for label, command in commands.items()}
+    whole = runs["run"][1]
+    line = runs["links"][1][len(whole):]
+    for label in ("links", "links by many"):
+        if runs[label][1] != whole + line or not line.startswith(b"rounds "):
+            raise Failed(f"{name}: the bytes of `{label}` differ from those of `run`")
+    times = rounds_of(commands, bench.rounds)
+    peak = f"{runs['links'][0] / runs['run'][0]:.2f}" if runs["run"][0] else "-"
+    return [name, line.split()[1].decode(), f"{ratio(times, 'links', 'run', 1):.2f}",
+            f"{ratio(times, 'links by many', 'run by many', 0):.2f}", f"{ratio(times, 'links by many', 'links', 0):.2f}",
+            f"{ratio(times, 'run by many', 'run', 0):.2f}", peak]
+
+
+def measure_links(bench):
+    """The table of `cloner links`, which keeps stations in step by their links, in rounds in place of windows."""
+    headed("`cloner links`", ["workload", "rounds", "`links` to `run`, processor time", "with workers, wall time",
+                              "workers to one, `links`", "workers to one, `run`", "`links` to `run`, peak memory"])
+    for name in LINKED:
+        printed(linked_row(bench, name))
+
+
+def measure_watch(bench):
+    """What watches cost that wait in vain: the clinic with as many as there may be, beside `cloner run`."""
+    files = bench.files("clinic")
+    watches = bench.folder / "watches.txt"
+    lines = [f"watch base doctor wait 4096 fork w{i} set doctor servers 4\n" for i in range(MOST_WATCHES - 7)]
+    watches.write_text("".join(lines))
+    commands = {"run": [bench.cloner, "run", *files], "watch": [bench.cloner, "watch", *files, str(watches)]}
+    if peak_and_bytes(commands["watch"], bench.folder)[1] != peak_and_bytes(commands["run"], bench.folder)[1]:
+        raise Failed("the bytes of `watch` differ from those of `run`")
+    times = rounds_of(commands, bench.rounds)
+    headed("`cloner watch`: processor time", ["workload", "watches that wait in vain", "`watch` to `run`"])
+    printed(["clinic", len(lines), f"{ratio(times, 'watch', 'run', 1):.2f}"])
+
+
 def measure_start(bench):
     """How long the small example takes, beside a program that does nothing."""
     times = rounds_of({"small": bench.small, "true": ["/bin/true"]}, max(bench.rounds, 5) * 20)
@@ -251,6 +293,10 @@ def main():
             measure_solo(bench)
         if "stats" in parts:
             measure_stats(bench)
+        if "links" in parts:
+            measure_links(bench)
+        if "watch" in parts:
+            measure_watch(bench)
         if "start" in parts:
             measure_start(bench)
         if "growth" in parts:
