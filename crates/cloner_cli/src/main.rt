@@ -1,21 +1,21 @@
-//! The program `cloner`: `main` hands the words of the command line, the real files and the real streams to
-//! `cloner_top`.
+//! The program `cloner`: `main` passes the command line, the real files and the real streams to `cloner_top`.
 //!
-//! A planner starts it with a model, a script and a mode. Everything that it does stands in the contract of
-//! `cloner_top::cloner`, which takes files and sinks by their traits and gives a status; here they are the system's:
+//! A planner starts it with a model, a script and a mode. Its behaviour is the contract of `cloner_top::cloner`, which
+//! takes files and sinks by their traits and returns a status. Here they are the system's:
 //!
 //! ```text
 //! words   the arguments without the program's name     inputs   files, read by name
 //! output  standard output                              errors   standard error
 //! ```
 //!
-//! Where the arguments are no text, `cloner` is given none, and answers that the command line has no known form. Where
-//! memory is refused while the words are made, `run_or_complain` tells the line of status 1. Its exit code has the
-//! status that `cloner` answers, over inputs and sinks of every kind; `main` makes the words and the real ones, and
-//! returns what it gives.
+//! If some argument is not text, `cloner` gets no words, and reports that the command line has no known form. If memory
+//! runs out while the words are made, `run_or_complain` writes the line of status 1. Its exit code is the status that
+//! `cloner` returns, for inputs and sinks of every kind. `main` makes the words and the real files and sinks, and
+//! returns that exit code.
 //!
-//! It costs what `cloner` costs; the counter of steps is one that nobody reads. The streams' own bytes are known to no
-//! clause, so what is proved of the texts is proved of `cloner` over every sink whose bytes are known.
+//! It costs what `cloner` costs; the counter of steps is not read. For real streams we prove only what their traits
+//! promise, and the traits say nothing about content. What is proved of the texts holds of `cloner` for every sink
+//! whose bytes are known.
 #![tactic(auto)]
 
 ghost use Rattle.std.specs.Prelude.{◌≡◌, ◌⊎◌, ◌<◌, ◌∷◌, [], ℕ, None, IfOk, OnErr};
@@ -39,7 +39,7 @@ use std::sync::Wait;
 use std::sync::ledger::{Blank, Ledger};
 use std::thread::Threads;
 
-// The words of the command line, without the program's name; none where they cannot be read as text.
+// The words of the command line, without the program's name; none if they cannot be read as text.
 fn words<R: Env + AllocGlobal>(rt: &R) -> Result<Vec<Word>, NoMemory> {
     let alloc = rt.alloc();
     let mut words = Vec::new(alloc);
@@ -56,7 +56,7 @@ fn words<R: Env + AllocGlobal>(rt: &R) -> Result<Vec<Word>, NoMemory> {
     Ok(words)
 }
 
-// Runs the program over these files and sinks. The process ends with the status that `cloner` answers.
+// Runs the program with these files and sinks. The exit code is the status that `cloner` returns.
 fn run<I: Inputs, O: Sink, E: Sink, L: Ledger, R: Threads + Wait + Sync>(
     rt: &R,
     alloc: Global,
@@ -85,7 +85,7 @@ fn run<I: Inputs, O: Sink, E: Sink, L: Ledger, R: Threads + Wait + Sync>(
     ExitCode::from(status)
 }
 
-// Tells the error sink that memory was refused.
+// Writes the error line for out of memory.
 fn complain<E: Sink>(err: &mut E) -> ExitCode
     ensures status { exit_status result ≡ 1 }
     ensures told { ArePutOrCut (error_line Refusal.OutOfMemory ∷ []) (E.view err.old) (E.view err.new) }
@@ -96,7 +96,7 @@ fn complain<E: Sink>(err: &mut E) -> ExitCode
     ExitCode::from(refusal.status())
 }
 
-// The exit code, by the words or by the memory that was refused them.
+// The exit code: that of the run, or that of out of memory if the words could not be made.
 fn run_or_complain<I: Inputs, O: Sink, E: Sink, L: Ledger, R: Threads + Wait + Sync>(
     rt: &R,
     alloc: Global,
@@ -109,7 +109,7 @@ fn run_or_complain<I: Inputs, O: Sink, E: Sink, L: Ledger, R: Threads + Wait + S
     requires name { blank.name ≡ L.name }
     requires parts { blank.parts ≡ L.parts }
     requires some { 0 < L.parts }
-    // the status of `cloner`, with what became of the files and the sinks
+    // the status of `cloner`, with its effect on the files and the sinks
     ensures answer { IfOk words (λ w. (n : ℕ) × IsAnswer (assignment_of w.items)
         (outside_of (I.view inputs.old) (O.view out.old) (E.view err.old) 0)
         (outside_of (I.view inputs.new) (O.view out.new) (E.view err.new) n)
@@ -120,7 +120,7 @@ fn run_or_complain<I: Inputs, O: Sink, E: Sink, L: Ledger, R: Threads + Wait + S
         (exit_status result)) }
     ensures usage { IfOk words (λ w. (exit_status result ≡ 2 → assignment_of w.items ≡ None)
         × (assignment_of w.items ≡ None → (exit_status result ≡ 1) ⊎ (exit_status result ≡ 2))) }
-    // where memory was refused to the words, the line of status 1 is told, and nothing else is done
+    // if the words could not be allocated, only the error line of status 1 is written
     ensures memory { OnErr words (exit_status result ≡ 1) }
     ensures refused { OnErr words (IsRefused
         (outside_of (I.view inputs.old) (O.view out.old) (E.view err.old) 0)

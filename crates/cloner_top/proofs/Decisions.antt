@@ -25,7 +25,7 @@ use Rattle.study_run.specs.Accepted.{IsAcceptedJournal}
 use Rattle.cloner_top.specs.Deciding.{AcceptsAct, IsDecided, IsRefusal, RefusesAct, by_line, decision_lines}
 use Rattle.cloner_top.specs.Deciding.{journal_after, lines_onto, questions, questions_onto, script_journal}
 
--- ---- items that stand before others
+-- ---- items before others
 
 -- the questions of items, and then those of others
 questions-append : (xs ys : List Item) → questions (xs ++ ys) ≡ questions xs ++ questions ys
@@ -69,7 +69,7 @@ lines-length (i ∷ is) = of_act i.act (lines-length is)
     of_act (Decide d) h = ap suc h
     of_act (Look who station) h = h
 
--- what is asked are the decisions
+-- the questions ask the decisions
 asked-decisions : (is : List Item) → map (λ q. q.decision) (questions is) ≡ decisions is
 asked-decisions [] = refl
 asked-decisions (i ∷ is) = of_act i.act (asked-decisions is)
@@ -79,7 +79,7 @@ asked-decisions (i ∷ is) = of_act i.act (asked-decisions is)
     of_act (Decide d) h = ap (λ ds. d ∷ ds) h
     of_act (Look who station) h = h
 
--- ---- one item more
+-- ---- one more item
 
 module _ (is : List Item) (i : ℕ) (item : Item) (there : slice_get is i ≡ Some item) where
   -- the items from this one on
@@ -102,7 +102,7 @@ after-journal_of_script : (net : Net) (is : List Item)
 after-journal_of_script net is =
     situation_of_script net (questions is) ∙ ap (after_all (outset net)) (asked-decisions is)
 
--- the journal with one item more
+-- the journal with one more item
 journal-more : (net : Net) (is : List Item) (item : Item) → journal_of_script net (questions (is ++ item ∷ []))
     ≡ journal_after net (journal_of_script net (questions is)) item.analyst item.act
 journal-more net is item = ap (journal_of_script net) (questions-append is (item ∷ [])) ∙ of_act item.act
@@ -113,7 +113,7 @@ journal-more net is item = ap (journal_of_script net) (questions-append is (item
         (questions is) (record { caller = item.analyst; decision = d } ∷ [])
     of_act (Look who station) = ap (journal_of_script net) (append-nil (questions is))
 
--- with one item more that is accepted, no decision is refused
+-- with one more accepted item, no decision is refused
 none-more : (net : Net) (is : List Item) (item : Item) → first_refusal net (decisions is) ≡ None
     → AcceptsAct (after net (journal_of_script net (questions is))) item.act
     → first_refusal net (decisions (is ++ item ∷ [])) ≡ None
@@ -125,7 +125,7 @@ none-more net is item none accepts = ap (first_refusal net) (decisions-append is
         (subst (λ s. reply s d ≡ Accepted) (after-journal_of_script net is) ok)
     of_act (Look who station) ok = ap (first_refusal net) (append-nil (decisions is)) ∙ none
 
--- the element behind others
+-- the element after others
 at_length : (xs ys : List ℕ) (x n : ℕ) → n ≡ length xs → slice_get (xs ++ x ∷ ys) n ≡ Some x
 at_length [] ys x n e = rw e refl
 at_length (a ∷ xs) ys x n e = let m : n ≡ suc (length xs) = omega (arith, e) in
@@ -164,7 +164,7 @@ refused_at net is more item stop stated whole none h = of_act item.act refl h
         (ap (option_map (by_line (decision_lines stated.items))) first
         ∙ ap (λ o. Some (reply (after_all (outset net) (decisions is)) d, unwrap_or o 0)) line)
 
--- ---- a book that has come to an item
+-- ---- a book at an item
 
 -- a book of the network is the journal of the first i items of a script, whose decisions were all accepted
 pub record IsAt (net : Net) (is : List Item) (i : ℕ) (book : BookView) : Type 0 where
@@ -173,7 +173,7 @@ pub record IsAt (net : Net) (is : List Item) (i : ℕ) (book : BookView) : Type 
   pub none : first_refusal net (decisions (take i is)) ≡ None
   pub accepted : IsAcceptedJournal book.net book.events
 
--- a book of the network in which nothing has been asked has come to the first item
+-- an empty book of the network is at the first item
 pub IsAt-begin : (net : Net) (is : List Item) (book : BookView) → book ≡ record { net = net; events = [] }
     → IsAt net is 0 book
 IsAt-begin net is book e = record {
@@ -185,11 +185,11 @@ IsAt-begin net is book e = record {
 
 module _ (net : Net) (is : List Item) (i : ℕ) (item : Item) (old : BookView) (there : slice_get is i ≡ Some item)
     (at : IsAt net is i old) where
-  -- the book leaves what the journal of the items before leaves
+  -- the book and the journal of the earlier items lead to the same clones and front
   journal_is : after old.net old.events ≡ after net (journal_of_script net (questions (take i is)))
   journal_is = ap₂ after at.net_is at.events
 
-  -- with an item that is no decision, or one that is accepted, the book comes to the next item
+  -- with an item that is a look, or an accepted decision, the book is at the next item
   pub goes_on : (new : BookView) → new.net ≡ old.net
       → new.events ≡ journal_after old.net old.events item.analyst item.act
       → AcceptsAct (after old.net old.events) item.act
@@ -204,7 +204,7 @@ module _ (net : Net) (is : List Item) (i : ℕ) (item : Item) (old : BookView) (
     accepted = all at.accepted;
   }
 
-  -- where the item is a decision that is refused, it is the first of the script that is, and the stop says so
+  -- if the item is a refused decision, it is the first one of the script, and the stop reports it
   pub refused_here : (stated : ScriptView) (stop : Stop) → stated.items ≡ is
       → RefusesAct (after old.net old.events) item.line item.act stop → IsRefusal net stated stop
   refused_here stated stop e h =

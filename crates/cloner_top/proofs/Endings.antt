@@ -1,4 +1,4 @@
--- From one kind of endings to another, from a call that writes to an ending, and from an ending to an answer.
+-- From one kind of endings to another, from a call that writes to an ending, and from an ending to a status.
 use Rattle.std.proofs.Common.{◌≡◌, ℕ, refl, sym, ap, subst, ◌∙◌, arith, List, [], ◌∷◌, Option, Some, None}
 use Rattle.std.proofs.Common.{Result, Ok, Err, IfErr, OnOk}
 use Rattle.std.proofs.lemmas.Result.{IfErr-weaker}
@@ -51,7 +51,7 @@ module _ (P Q : Ending → Type 0) (on : (end : Ending) → P end → Q end) (ol
   failed_on old new (Exceeded e) h = (excess_on [] e h.0, h.1)
   failed_on old new CannotWrite h = record { texts = h.texts; wrote = wrote_on h.texts h.wrote; cut = h.cut }
 
-  -- and if a journal may be told before the line
+  -- the same if a journal may be put before the error line
   halted_on : (old new : SinkView) (h : Halt) → IsHalted P old_steps new_steps old new h
       → IsHalted Q old_steps new_steps old new h
   halted_on old new (halt.Refused r) h = failed_on old new r h
@@ -71,7 +71,7 @@ put_done P old_steps new_steps texts old new (Err (Stopped stop)) w h = absurd h
 put_done P old_steps new_steps texts old new (Err (Exceeded e)) w h = absurd h
 put_done P old_steps new_steps texts old new (Err CannotWrite) w h = record { texts = texts; wrote = w; cut = h }
 
--- a run that left nothing to write
+-- a run without texts to write
 pub no_run_failed : (P : Ending → Type 0) (old_steps new_steps : ℕ) (out : SinkView) (r : Refusal)
     → IsNoRun P old_steps new_steps r → IsFailed P old_steps new_steps out out r
 no_run_failed P old_steps new_steps out OutOfMemory h = refl
@@ -81,9 +81,9 @@ no_run_failed P old_steps new_steps out (Stopped stop) h = absurd h
 no_run_failed P old_steps new_steps out (Exceeded e) h = (h, refl)
 no_run_failed P old_steps new_steps out CannotWrite h = absurd h
 
--- ---- what is asked
+-- ---- the whole assignment
 
--- what is not prepared is not written
+-- an assignment that is not prepared is not written
 pub unprepared : (rose : Type 0) (files : Option Files) (a : AssignmentView) (steps : ℕ) (out : SinkView) (r : Refusal)
     → IsNotPrepared rose files a r → IsFailedFor rose files a steps steps out out r
 unprepared rose files a steps out OutOfMemory h = refl
@@ -93,7 +93,7 @@ unprepared rose files a steps out (Stopped stop) h = (h, refl, refl)
 unprepared rose files a steps out (Exceeded e) h = absurd h
 unprepared rose files a steps out CannotWrite h = absurd h
 
--- why no lawful ending was written is why what is asked was not
+-- if no allowed ending was written, the assignment's output was not
 failed_is : (rose : Type 0) (files : Option Files) (a : AssignmentView) (old_steps new_steps : ℕ) (old new : SinkView)
     (r : Refusal) → IsFailed (IsLawfulEnding files a) old_steps new_steps old new r
     → IsFailedFor rose files a old_steps new_steps old new r
@@ -104,7 +104,7 @@ failed_is rose files a old_steps new_steps old new (Stopped stop) h = h
 failed_is rose files a old_steps new_steps old new (Exceeded e) h = h
 failed_is rose files a old_steps new_steps old new CannotWrite h = h
 
--- and with what is told before the line
+-- the same with what is put before the error line
 halted_is : (rose : Type 0) (files : Option Files) (a : AssignmentView) (old_steps new_steps : ℕ)
     (old new : SinkView) (h : Halt) → IsHalted (IsLawfulEnding files a) old_steps new_steps old new h
     → IsHaltedFor rose files a old_steps new_steps old new h
@@ -112,7 +112,7 @@ halted_is rose files a old_steps new_steps old new (halt.Refused r) h =
     failed_is rose files a old_steps new_steps old new r h
 halted_is rose files a old_steps new_steps old new (halt.Overrun journal e) h = h
 
--- what is prepared was not written, which is why what is asked was not
+-- if a prepared study was not written, the assignment's output was not, for the same cause
 pub prepared_halted : (P : Ending → Type 0) (rose : Type 0) (files : Option Files) (a : AssignmentView)
     → ((end : Ending) → P end → IsLawfulEnding files a end) → (old_steps new_steps : ℕ) (old new : SinkView)
     {T : Type 0} (r : Result T Halt) → IfErr r (λ e. IsHalted P old_steps new_steps old new e)
@@ -121,22 +121,22 @@ prepared_halted P rose files a on old_steps new_steps old new r h =
     IfErr-weaker r _ _ (λ e halts. halted_is rose files a old_steps new_steps old new e
     (halted_on P (IsLawfulEnding files a) on old_steps new_steps old new e halts)) h
 
--- what holds holds where a result is there
+-- a fact also holds if a result is Ok
 pub if_ok : {T E : Type 0} {A : Type 0} (r : Result T E) → A → OnOk r A
 if_ok (Ok t) a = a
 if_ok (Err e) a = tt
 
--- ---- answers
+-- ---- statuses
 
 module _ (words : Option AssignmentView) (before after : Outside) where
-  -- the words were not read, and nothing but a line was told: the answer by its cause
+  -- the words were not read, and only an error line was put: the status by its cause
   by_fault : (f : WordsFault) → (f ≡ fault.Usage → words ≡ None) → IsRefused before after [] (words_refusal f)
       → after.inputs ≡ before.inputs → after.steps ≡ before.steps
       → IsAnswer words before after (status_of (words_refusal f))
   by_fault fault.NoMemory none refused inputs steps = answer.memory refused
   by_fault fault.Usage none refused inputs steps = answer.usage (none refl) refused inputs steps
 
-  -- the words were not read, and one line tells why
+  -- the words were not read, and one error line says why
   pub words_answer : (f : WordsFault) (r : Refusal) (status : ℕ) → (f ≡ fault.Usage → words ≡ None)
       → r ≡ words_refusal f → after.output ≡ before.output
       → ArePutOrCut (error_line r ∷ []) before.errors after.errors → after.inputs ≡ before.inputs
@@ -150,7 +150,7 @@ module _ (words : Option AssignmentView) (before after : Outside) where
         told_is = subst (λ x. ArePutOrCut (error_line x ∷ []) before.errors after.errors) same told;
       }) inputs steps)
 
-  -- what is asked was not written, and a line was told: the answer by its cause
+  -- the assignment's output was not written, and an error line was put: the status by its cause
   by_refusal : (a : AssignmentView) (r : Refusal) → words ≡ Some a
       → IsFailedFor (HasRisen before.inputs.faults after.inputs.faults) before.inputs.files a before.steps after.steps
       before.output after.output r
@@ -164,7 +164,7 @@ module _ (words : Option AssignmentView) (before after : Outside) where
   by_refusal a (Exceeded e) is h told = answer.exceeded a [] e is h.0 (record { output = h.1; told_is = told })
   by_refusal a CannotWrite is h told = answer.cut a is h told
 
-  -- the status of that cause is the answer
+  -- the status of that cause is returned
   pub unwritten : (a : AssignmentView) (r : Refusal) (status : ℕ) → words ≡ Some a
       → IsFailedFor (HasRisen before.inputs.faults after.inputs.faults) before.inputs.files a before.steps after.steps
       before.output after.output r
@@ -172,7 +172,7 @@ module _ (words : Option AssignmentView) (before after : Outside) where
       → IsAnswer words before after status
   unwritten a r status asks h told is = subst (IsAnswer words before after) (sym is) (by_refusal a r asks h told)
 
-  -- the limit of a live study, of which the journal is told
+  -- a live study met the limit, and its journal was put
   pub overrun_is : (a : AssignmentView) (journal : List ℕ) (e : Excess) (status : ℕ) → words ≡ Some a
       → IsExcessOf (IsLawfulEnding before.inputs.files a) before.steps after.steps (journal ∷ []) e
       → after.output ≡ before.output → ArePutOrCut (journal ∷ excess_line e ∷ []) before.errors after.errors

@@ -1,4 +1,4 @@
--- The facts of an answer.
+-- The facts that each status implies.
 use Rattle.std.proofs.Common.{◌≡◌, ◌≢◌, ◌⊎◌, inl, inr, refl, sym, subst, ◌∙◌, ℕ}
 use Rattle.std.proofs.Common.{◌≤◌, ◌+◌, arith, List, [], ◌∷◌, length, Option, Some, None, Result, Ok}
 use Rattle.sim_base.specs.Clones.{Clone}
@@ -43,7 +43,7 @@ use Rattle.cloner_top.specs.Texts.{AreTexts, IsUnreadFrom, Origin, in_file, made
 
 -- ---- the statuses of stops and of excesses
 
--- a stop has at least 4
+-- the status of a stop is at least 4
 stop_status-low : (s : Stop) → 4 ≤ stop_status s
 stop_status-low (BadModel fault) = omega arith
 stop_status-low (BadScript fault) = omega arith
@@ -52,7 +52,7 @@ stop_status-low (NoClone name) = omega arith
 stop_status-low (BadWatches fault) = omega arith
 stop_status-low (BadWatch reply line) = omega arith
 
--- but not 8
+-- it is not 8
 stop_status-other : (s : Stop) → stop_status s ≢ 8
 stop_status-other (BadModel fault) = λ e. omega (arith, e)
 stop_status-other (BadScript fault) = λ e. omega (arith, e)
@@ -61,38 +61,38 @@ stop_status-other (NoClone name) = λ e. omega (arith, e)
 stop_status-other (BadWatches fault) = λ e. omega (arith, e)
 stop_status-other (BadWatch reply line) = λ e. omega (arith, e)
 
--- an excess has 7
+-- the status of an excess is 7
 excess_status-is : (e : Excess) → excess_status e ≡ 7
 excess_status-is (LimitMet limit station clone) = refl
 
--- so at least 7
+-- it is at least 7
 excess_status-low : (e : Excess) → 7 ≤ excess_status e
 excess_status-low (LimitMet limit station clone) = omega arith
 
--- but not 8
+-- it is not 8
 excess_status-other : (e : Excess) → excess_status e ≢ 8
 excess_status-other (LimitMet limit station clone) = λ h. omega (arith, h)
 
--- ---- what is told before the line
+-- ---- what is put before the error line
 
--- in a run of all clones nothing is
+-- nothing in a run of all clones
 run_told : (net : Net) (clones : List Clone) (meets : ℕ → ℕ → Type 0) (texts told : List (List ℕ)) (e : Excess)
     (most : ℕ) → MayRun net clones meets texts (overrun told e most) → told ≡ []
 run_told net clones meets texts told e most (ends.over station who met) = refl
 
--- nor in one by the clocks of links
+-- nothing in a run in rounds
 linked_told : (net : Net) (clones : List Clone) (told : List (List ℕ)) (e : Excess) (most : ℕ)
     → MayRunLinked net clones (overrun told e most) → told ≡ []
 linked_told net clones told e most (ends.over_linked station who met) = refl
 
--- nor in the run of one clone alone
+-- nothing in the run of one clone alone
 alone_told : (net : Net) (clones : List Clone) (name : List ℕ) (part : Clone → Clone)
     (written : Clone → Result (List ℕ) Excess) (told : List (List ℕ)) (e : Excess) (most : ℕ)
     → MayRunAlone net clones name part written (overrun told e most) → told ≡ []
 alone_told net clones name part written told e most (ends.too_long k too_much is within long) = refl
 alone_told net clones name part written told e most (ends.limit_met k station is meets) = refl
 
--- nor in a simulation of decided clones
+-- nothing in the simulation of a plan
 simulation_told : (mode : Mode) (net : Net) (clones : List Clone) (told : List (List ℕ)) (e : Excess) (most : ℕ)
     → MaySimulate mode net clones (overrun told e most) → told ≡ []
 simulation_told (Solo name) net clones told e most h = alone_told net clones name whole (solo_text net) told e most h
@@ -100,29 +100,29 @@ simulation_told Links net clones told e most h = linked_told net clones told e m
 simulation_told mode net clones told e most h =
     run_told net clones (mode_meets mode net clones) (mode_texts mode net clones) told e most h
 
--- nor in a run with watches
+-- nothing in a run with watches
 watch_told : (text : List ℕ) (net : Net) (clones : List Clone) (told : List (List ℕ)) (e : Excess) (most : ℕ)
     → MayWatch text net clones (overrun told e most) → told ≡ []
 watch_told text net clones told e most (ends.watched ws end is fits may) =
     run_told net (clones_with_branches net clones ws) (IsOver net (clones_with_branches net clones ws))
     (run_texts net (clones_with_branches net clones ws)) told e most may
 
--- nor where all decisions are made first
+-- nothing if all decisions are made first
 decide_told : (simulates : List Clone → Ending → Type 0) (net : Net) (s : ScriptView) (told : List (List ℕ))
     (e : Excess) (most : ℕ) → ((clones : List Clone) → simulates clones (overrun told e most) → told ≡ [])
     → MayDecide simulates net s (overrun told e most) → told ≡ []
 decide_told simulates net s told e most each (ends.simulation end none may) = each (clones_of net s) may
 
--- in a live study one text is, and the status is 7
+-- one text in a live study, and the status is 7
 live_told : (net : Net) (s : ScriptView) (told : List (List ℕ)) (e : Excess) (most : ℕ)
     → MayLive net s (overrun told e most) → (length told ≡ 1) × (excess_status e ≡ 7)
 live_told net s told e most (ends.over_live book looks station who journal are_made meets) = (refl, refl)
 
--- nothing is told, or the study is live, one text is told, and the status is 7
+-- nothing is put, or the study is live, one text is put, and the status is 7
 abbrev AreToldFor : AssignmentView → List (List ℕ) → Excess → Type 0
 AreToldFor a told e = (told ≡ []) ⊎ ((length told ≡ 1) × (excess_status e ≡ 7) × IsLive a)
 
--- in a study of which there is the script's text
+-- in a study with this script text
 study_told : (ends_so : ScriptView → Ending → Type 0) (T : Type 0) (s : List ℕ) (told : List (List ℕ)) (e : Excess)
     (most : ℕ) → ((stated : ScriptView) → ends_so stated (overrun told e most) → T)
     → MayStudy ends_so s (overrun told e most) → T
@@ -146,7 +146,7 @@ come_told : (a : AssignmentView) (t : Text → List ℕ) (told : List (List ℕ)
     → MayEndByTexts a t (overrun told e most) → AreToldFor a told e
 come_told a t told e most (ends.read net end is may) = follow_told a t net told e most may
 
--- what is told before the line of an excess
+-- before the error line of an excess
 preceded : (words : Option AssignmentView) (files : Option Files) (a : AssignmentView) (old new : ℕ)
     (told : List (List ℕ)) (e : Excess) → words ≡ Some a → IsExcessOf (IsLawfulEnding files a) old new told e
     → ArePreceded words (excess_status e) told
@@ -159,7 +159,7 @@ preceded words files a old new told e is why = by (come_told a why.may.t told e 
 -- ---- IsAnswer, by its status
 
 module _ (words : Option AssignmentView) (before after : Outside) where
-  -- where something is asked, the command line has a known form
+  -- if there is an assignment, the command line has a known form
   none_is : (a : AssignmentView) → words ≡ Some a → words ≡ None → ⊥
   none_is a is none = let h = sym is ∙ none in cc
 
@@ -173,7 +173,7 @@ module _ (words : Option AssignmentView) (before after : Outside) where
   usage_cause _ (exceeded a told e is why refused) two = absurd (let l = excess_status-low e in omega (arith, two, l))
   usage_cause _ (cut a is off told) two = absurd (omega (arith, two))
 
-  -- a command line of no known form gets status 1 or 2
+  -- a command line of no known form has status 1 or 2
   pub formless : (status : ℕ) → IsAnswer words before after status → words ≡ None → (status ≡ 1) ⊎ (status ≡ 2)
   formless _ (success a is finished fetches quiet) none = absurd (none_is a is none)
   formless _ (memory refused) none = inl refl
@@ -183,7 +183,7 @@ module _ (words : Option AssignmentView) (before after : Outside) where
   formless _ (exceeded a told e is why refused) none = absurd (none_is a is none)
   formless _ (cut a is off told) none = absurd (none_is a is none)
 
-  -- status 3 means that a text that was due was not read
+  -- status 3 means that a required text was not read
   pub unread_cause : (status : ℕ) → IsAnswer words before after status → status ≡ 3 → IsUnreadFor words before after
   unread_cause _ (success a is finished fetches quiet) three = absurd (omega (arith, three))
   unread_cause _ (memory refused) three = absurd (omega (arith, three))
@@ -196,7 +196,7 @@ module _ (words : Option AssignmentView) (before after : Outside) where
       absurd (let l = excess_status-low e in omega (arith, three, l))
   unread_cause _ (cut a is off told) three = absurd (omega (arith, three))
 
-  -- the statuses from 4 on but 8 mean that it stopped, or that there was too much of something
+  -- statuses from 4 except 8 mean that the study is not run, or that a limit is exceeded
   pub stop_cause : (status : ℕ) → IsAnswer words before after status → 4 ≤ status → status ≢ 8
       → IsStoppedFor words before after status
   stop_cause _ (success a is finished fetches quiet) l h = absurd (omega (arith, l))
@@ -209,7 +209,7 @@ module _ (words : Option AssignmentView) (before after : Outside) where
       record { told = told; line = _; cause = at_limit a told e is why; told_is = refused.told_is }
   stop_cause _ (cut a is off told) l h = absurd (h refl)
 
-  -- status 8 means that a prefix of the output was written, and that the output had a fault
+  -- status 8 means that a prefix of the output was written, and that a write failed
   pub cut_cause : (status : ℕ) → IsAnswer words before after status → status ≡ 8 → IsCutFor words before after
   cut_cause _ (success a is finished fetches quiet) eight = absurd (omega (arith, eight))
   cut_cause _ (memory refused) eight = absurd (omega (arith, eight))
@@ -219,7 +219,7 @@ module _ (words : Option AssignmentView) (before after : Outside) where
   cut_cause _ (exceeded a told e is why refused) eight = absurd (excess_status-other e eight)
   cut_cause _ (cut a is off told) eight = record { a = a; asks = is; cut = off }
 
-  -- where the status is neither 0 nor 8, the output is as before
+  -- if the status is neither 0 nor 8, the output is unchanged
   pub output_same : (status : ℕ) → IsAnswer words before after status → status ≢ 0 → status ≢ 8
       → after.output ≡ before.output
   output_same _ (success a is finished fetches quiet) not_0 not_8 = absurd (not_0 refl)
@@ -230,7 +230,7 @@ module _ (words : Option AssignmentView) (before after : Outside) where
   output_same _ (exceeded a told e is why refused) not_0 not_8 = refused.output
   output_same _ (cut a is off told) not_0 not_8 = absurd (not_8 refl)
 
-  -- where the status is 2 to 6 or 9, no message was handled
+  -- if the status is 2 to 6 or 9, no message was handled
   pub idle : (status : ℕ) → IsAnswer words before after status → 2 ≤ status → status ≢ 7 → status ≢ 8
       → after.steps ≡ before.steps
   idle _ (success a is finished fetches quiet) l not_7 not_8 = absurd (omega (arith, l))
@@ -241,12 +241,12 @@ module _ (words : Option AssignmentView) (before after : Outside) where
   idle _ (exceeded a told e is why refused) l not_7 not_8 = absurd (not_7 (excess_status-is e))
   idle _ (cut a is off told) l not_7 not_8 = absurd (not_8 refl)
 
-  -- a line alone, by its cause
+  -- a line alone, from its cause
   one_line : (r : Refusal) → ArePutOrCut (error_line r ∷ []) before.errors after.errors
       → IsToldFor words before after (status_of r)
   one_line r told = record { told = []; refusal = r; is = refl; preceded = inl refl; told_is = told }
 
-  -- after any status but 0 a line tells why
+  -- after any status except 0 an error line is put
   pub told_for : (status : ℕ) → IsAnswer words before after status → status ≢ 0 → IsToldFor words before after status
   told_for _ (success a is finished fetches quiet) not_0 = absurd (not_0 refl)
   told_for _ (memory refused) not_0 = one_line OutOfMemory refused.told_is
@@ -264,7 +264,7 @@ module _ (words : Option AssignmentView) (before after : Outside) where
 
 -- ---- what is written
 
--- these texts were put, for which so many messages were handled
+-- these texts were put, after this number of handled messages
 record ArePutFor (before after : Outside) (texts : List (List ℕ)) (work : ℕ) : Type 0 where
   are : ArePut texts before.output after.output
   steps : after.steps ≡ before.steps + work
@@ -279,7 +279,7 @@ module _ (before after : Outside) where
   writes_all a net s meets texts put work study p (ends.within within) =
       record { net = net; stated = s; study = study; within = within; put = p.are; steps = p.steps }
 
-  -- one by the clocks of links also writes the rounds
+  -- a run in rounds also writes the number of rounds
   writes_linked : (a : AssignmentView) (net : Net) (s : ScriptView) (put : List (List ℕ)) (work : ℕ)
       → IsStudy before.inputs.files a net s → ArePutFor before after put work
       → MayRunLinked net (clones_of net s) (whole_output put work) → WritesLinked before after a
@@ -314,7 +314,7 @@ module _ (before after : Outside) where
     steps = p.steps;
   }
 
-  -- a simulation of decided clones writes what its mode asks for
+  -- the simulation of a plan writes what its mode defines
   writes_by : (mode : Mode) (a : AssignmentView) (net : Net) (s : ScriptView) (put : List (List ℕ)) (work : ℕ)
       → IsStudy before.inputs.files a net s → ArePutFor before after put work
       → MaySimulate mode net (clones_of net s) (whole_output put work) → WritesIn mode before after a
@@ -324,7 +324,7 @@ module _ (before after : Outside) where
   writes_by mode a net s put work study p may =
       writes_all a net s (mode_meets mode net (clones_of net s)) (mode_texts mode) put work study p may
 
-  -- a study of which there is the script's text
+  -- a study with this script text
   writes_study : (ends_so : ScriptView → Ending → Type 0) (W : Type 0) (s : List ℕ) (put : List (List ℕ)) (work : ℕ)
       → ((stated : ScriptView) → script s ≡ Ok stated → ends_so stated (whole_output put work) → W)
       → MayStudy ends_so s (whole_output put work) → W
@@ -376,7 +376,7 @@ module _ (before after : Outside) where
           steps = p.steps;
         }
 
-    -- a study whose decisions are all made first writes what its clones come to
+    -- a study whose decisions are all made first writes what its clones' simulation writes
     writes_decided : (mode : Mode) (s : ScriptView) (put : List (List ℕ)) (work : ℕ) → script (t Script) ≡ Ok s
         → ArePutFor before after put work → MayDecide (MaySimulate mode net) net s (whole_output put work)
         → WritesIn mode before after a
@@ -406,7 +406,7 @@ module _ (before after : Outside) where
   writes_come a t put work texts p (ends.read net _ is_model may) = writes_follow a t net put work texts is_model p may
 
 module _ (words : Option AssignmentView) (before after : Outside) where
-  -- status 0 means that the whole output is written, and nothing told
+  -- status 0 means that the whole output is written, and the error sink is unchanged
   pub finished : (status : ℕ) → IsAnswer words before after status → status ≡ 0 → IsWritten words before after
   finished _ (success a is done fetches quiet) is_0 = record {
     a = a;
@@ -423,10 +423,10 @@ module _ (words : Option AssignmentView) (before after : Outside) where
   finished _ (exceeded a told e is why refused) is_0 = absurd (let l = excess_status-low e in omega (arith, is_0, l))
   finished _ (cut a is off told) is_0 = absurd (omega (arith, is_0))
 
--- ---- an ending comes
+-- ---- an ending is reached
 
 module _ (before after : Outside) where
-  -- where no input failed, a text that was not read is not there
+  -- if no input operation failed, a text that was not read is missing
   unread-no_fault : (from : Origin) → ¬ (InputsFailed before after)
       → IsUnreadFrom (InputsFailed before after) from before.inputs.files → IsUnreadFrom ⊥ from before.inputs.files
   unread-no_fault (in_file name) well (inl failed) = absurd (well failed)
@@ -434,12 +434,12 @@ module _ (before after : Outside) where
   unread-no_fault (made text) well h = h
   unread-no_fault not_asked well h = h
 
-  -- out of memory is an answer to all that is asked
+  -- out of memory is always a possible result
   of_memory : (words : Option AssignmentView) → Completes words before after 1
   of_memory None = inl refl
   of_memory (Some a) = λ well. inl refl
 
-  -- where no input failed, the answer is out of memory, usage, a text that is not there, or a lawful ending
+  -- if no input operation failed, the result is out of memory, usage, a missing text, or an allowed ending
   pub completes : (words : Option AssignmentView) (status : ℕ) → IsAnswer words before after status
       → Completes words before after status
   completes words _ (success a is done fetches quiet) =

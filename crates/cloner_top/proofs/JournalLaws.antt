@@ -23,7 +23,7 @@ use Rattle.study_run.specs.Limits.{MeetsLimit}
 use Rattle.cloner_top.specs.Journals.{JournalRunsTheSame}
 use Rattle.world_core.specs.Worlds.{total_handled}
 
--- ---- the decisions of a script's calls are those that a script can state
+-- ---- a script can express the decisions of a script's calls
 
 -- the decisions among acts
 acts_decide : (acts : List Act) → AllByRecursion IsAct acts → AllByRecursion IsDecision (decisions_asked acts)
@@ -31,7 +31,7 @@ acts_decide [] all = tt
 acts_decide (Decide d ∷ acts) all = (all.0, acts_decide acts all.1)
 acts_decide (Look who station ∷ acts) all = acts_decide acts all.1
 
--- an act, where it is the analyst's own, before others
+-- an act, if it is the analyst's own, before others
 own_first : (own : Bool) (act : Act) (others : List Act) → IsAct act → AllByRecursion IsAct others
     → AllByRecursion IsAct ((if own then act ∷ [] else []) ++ others)
 own_first true act others is all = (is, all)
@@ -44,20 +44,20 @@ acts_are many a [] all = tt
 acts_are many a (item ∷ items) all = own_first (nat_eq item.analyst a) item.act (acts_by a items) all.0.act
     (acts_are many a items all.1)
 
--- the first of numbered calls, where it is the caller's own, has such a decision
+-- the first of numbered calls, if it is the caller's own, has a decision that a script can express
 first_is : (own : Bool) (n : ℕ) (c : Call) (ps : List (ℕ × Call)) → own ≡ true
     → AllByRecursion IsDecision (decisions_in (if own then (n, c) ∷ ps else ps)) → IsDecision c.decision
 first_is true n c ps is all = all.0
 first_is false n c ps is all = absurd cc
 
--- and the others have such decisions, whether it is or not
+-- the others have such decisions in any case
 others_are : (own : Bool) (n : ℕ) (c : Call) (ps : List (ℕ × Call))
     → AllByRecursion IsDecision (decisions_in (if own then (n, c) ∷ ps else ps))
     → AllByRecursion IsDecision (decisions_in ps)
 others_are true n c ps all = all.1
 others_are false n c ps all = all
 
--- where the calls of each caller are such, all are
+-- if the calls of each caller have such decisions, all calls have
 calls_are : (many n : ℕ) (calls : List Call)
     → AllByRecursion (λ (c : Call). IsAnalyst many c.caller) calls
     → ((a : ℕ) → IsAnalyst many a → AllByRecursion IsDecision (decisions_in (calls_from a n calls)))
@@ -75,7 +75,7 @@ calls_are many n (c ∷ calls) callers each = (
 
 -- ---- the law
 
--- within the limit, `run` of a journal read as a script may end by writing the texts of the clones that it leaves
+-- within the limit, `run` of a journal read as a script may end by writing the texts of the journal's clones
 pub journal_runs : JournalRunsTheSame
 journal_runs net s book valid stated journal short =
     let many = length s.analysts in

@@ -1,4 +1,4 @@
--- What the run of a study by the clocks of links comes to.
+-- The result of a study's run in rounds.
 use Rattle.std.proofs.Common.{◌≡◌, ℕ, sym, ap, subst, ◌∙◌, List, [], ◌∷◌, ◌++◌, length, Ok}
 use Rattle.sim_base.specs.Clones.{Clone, clone_at}
 use Rattle.net_model.specs.Net.{Net}

@@ -1,4 +1,4 @@
--- What a live study leaves, for its texts.
+-- The result of a live study, from which its texts are made.
 use Rattle.std.proofs.Common.{◌≡◌, ℕ, ◌+◌, refl, sym, ap, ap₂, subst, ◌∙◌, arith, List, [], ◌∷◌, length}
 use Rattle.std.proofs.Common.{Result, Ok, Err, IfOk}
 use Rattle.std.proofs.lemmas.Result.{IfErr-at_err, IfOk-at_ok}
@@ -42,7 +42,7 @@ module _ (net : Net) (s : ScriptView) (old_steps new_steps : ℕ) (live : LiveRu
     ends : IsAtHorizon net live.book w
     ends = IfOk-at_ok (IsAtHorizon net live.book) is ran.live_run.finished
 
-    -- its clones are those that the journal leaves
+    -- its clones are those of the journal
     clones_are : w.clones ≡ (after net live.book.events).clones
     clones_are = ap (λ (v : WorldView). v.clones) ends.world_is
 
@@ -54,7 +54,7 @@ module _ (net : Net) (s : ScriptView) (old_steps new_steps : ℕ) (live : LiveRu
     front_is : w.front ≡ net.horizon
     front_is = ap (λ (v : WorldView). v.front) ends.world_is
 
-    -- a live run leaves a live study's world, where its clones are planned, and no log is beyond the limit
+    -- a live run leads to a live study's world, if its clones are planned, and no log is beyond the limit
     pub live_world : (t : List ℕ) → t ≡ text → NoneBeyond w.net w.clones w.front
         → ArePlanned live.book.net (clones_of_book live.book)
         → IsLiveWorld net s old_steps new_steps w t
@@ -81,7 +81,7 @@ module _ (net : Net) (s : ScriptView) (old_steps new_steps : ℕ) (live : LiveRu
               (λ (v : WorldView). new_steps ≡ old_steps + total_handled net v.clones net.horizon) is ran.steps;
         }
 
-  -- the same of what is handed on
+  -- the same for values made from the world
   pub live_ok : {X : Type 0} (world : X → WorldView) (told : X → List ℕ) (r : Result X Halt)
       → IfOk r (λ x. (live.run ≡ Ok (world x)) × (told x ≡ text))
       → IfOk r (λ x. NoneBeyond (world x).net (world x).clones (world x).front)
@@ -90,7 +90,7 @@ module _ (net : Net) (s : ScriptView) (old_steps new_steps : ℕ) (live : LiveRu
   live_ok world told (Ok x) is none planned = live_world (world x) is.0 (told x) is.1 none planned
   live_ok world told (Err h) is none planned = tt
 
-  -- why there is none
+  -- why there is no world
   pub live_stops : (told : Net) → told ≡ net → (h : Halt)
       → ((e : StudyFault) × ((live.run ≡ Err e) × HaltsFor told live.book.events text e h))
       → StopsLive net s old_steps new_steps h

@@ -1,4 +1,4 @@
--- The run of one clone alone depends on that clone alone, so a clone's own script writes what the whole script does.
+-- The run of one clone alone depends only on that clone, so a clone's own script writes what the whole script does.
 use Rattle.std.proofs.Common.{◌≡◌, ℕ, refl, ap, sym, subst, ◌∙◌, List, [], ◌∷◌, length, Option, Some, None}
 use Rattle.std.proofs.Common.{Result, Ok, Err}
 use Rattle.std.specs.Prelude.{option_map}
@@ -36,7 +36,7 @@ data MayRunIt (net : Net) (name : List ℕ) (part : Clone → Clone) (written : 
 -- ---- MayRunAlone and MayRunIt
 
 module _ (net : Net) (name : List ℕ) (part : Clone → Clone) (written : Clone → Result (List ℕ) Excess) where
-  -- how a name's run may end, by the clone of that name
+  -- how the run of a name may end, from the clone of that name
   run_alone-it : (clones : List Clone) (end : Ending) → MayRunAlone net clones name part written end
       → MayRunIt net name part written (clone_named name clones) end
   run_alone-it clones _ (no_clone none) =
@@ -53,19 +53,19 @@ module _ (net : Net) (name : List ℕ) (part : Clone → Clone) (written : Clone
       subst (λ o. MayRunIt net name part written o (overrun [] (limit_met_at net station name) (most_handled net 1)))
       (sym (clone_named-place name clones k is)) (it_stops (clone_at clones k) station meets)
 
-  -- and the other way round: where there is no such clone
+  -- the converse, if there is no such clone
   it-none : (clones : List Clone) (end : Ending) → place_of name clones ≡ None
       → MayRunIt net name part written None end → MayRunAlone net clones name part written end
   it-none clones _ none it_misses = no_clone none
 
-  -- where there is one
+  -- the converse, if there is one
   it-some : (clones : List Clone) (k : ℕ) (end : Ending) → place_of name clones ≡ Some k
       → MayRunIt net name part written (Some (clone_at clones k)) end → MayRunAlone net clones name part written end
   it-some clones k _ is (it_fits _ text within text_is) = fits k text is within text_is
   it-some clones k _ is (it_is_long _ e within long) = too_long k e is within long
   it-some clones k _ is (it_stops _ station meets) = limit_met k station is meets
 
-  -- and so in both cases
+  -- the converse in both cases
   it-run_alone : (clones : List Clone) (end : Ending) (place : Option ℕ) → place_of name clones ≡ place
       → MayRunIt net name part written (clone_named name clones) end → MayRunAlone net clones name part written end
   it-run_alone clones end None is h = it-none clones end is
@@ -73,7 +73,7 @@ module _ (net : Net) (name : List ℕ) (part : Clone → Clone) (written : Clone
   it-run_alone clones end (Some k) is h = it-some clones k end is
       (subst (λ o. MayRunIt net name part written o end) (clone_named-place name clones k is) h)
 
-  -- the same clone of the name ends the same, among whatever others
+  -- the same clone of a name ends the same, among any other clones
   same_clone : (cs ds : List Clone) (end : Ending) → clone_named name cs ≡ clone_named name ds
       → MayRunAlone net cs name part written end → MayRunAlone net ds name part written end
   same_clone cs ds end same may = it-run_alone ds end (place_of name ds) refl
@@ -81,18 +81,18 @@ module _ (net : Net) (name : List ℕ) (part : Clone → Clone) (written : Clone
 
 -- ---- two scripts
 
--- where no line is refused, no decision is
+-- if no line is refused, no decision is
 by_line-none : (lines : List ℕ) (r : Option (ℕ × Reply)) → option_map (by_line lines) r ≡ None → r ≡ None
 by_line-none lines None h = refl
 by_line-none lines (Some r) h = absurd (cc)
 
--- where no decision is refused, a study of one clone ends as that clone's run alone
+-- if no decision is refused, a study of one clone ends as that clone's run alone
 run_of_end : (net : Net) (who : List ℕ) (s : ScriptView) (end : Ending) → first_refused net s ≡ None
     → MayEnd (Solo who) net s end → MayRunAlone net (clones_of net s) who whole (solo_text net) end
 run_of_end net who s _ none (refused_decision reply line is) = absurd (let e = sym none ∙ is in cc)
 run_of_end net who s _ none (simulation end n may) = may
 
--- two scripts that leave the same clone of a name
+-- two scripts with the same clone of a name
 same_end : (net : Net) (who : List ℕ) (s t : ScriptView) (end : Ending)
     → first_refused net s ≡ None → first_refused net t ≡ None
     → clone_named who (clones_of net s) ≡ clone_named who (clones_of net t)
@@ -101,7 +101,7 @@ same_end net who s t end none_s none_t same h = simulation end none_t
     (same_clone net who whole (solo_text net) (clones_of net s) (clones_of net t) end same
     (run_of_end net who s end none_s h))
 
--- where all decisions are accepted, `solo` of a clone may end with its own script as with the whole one
+-- if all decisions are accepted, `solo` of a clone may end with its own script as with the whole one
 pub own_script : OwnScriptWritesTheSame
 own_script net s who end none =
     let own = own_script_suffices net who s

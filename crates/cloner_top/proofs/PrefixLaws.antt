@@ -1,4 +1,4 @@
--- What a fetch gives of a file states what the whole file states: it is the whole file, or too long as well.
+-- The part of a file that a fetch returns is read as the whole file is: it is the whole file, or too long as well.
 use Rattle.std.proofs.Common.{◌≡◌, ℕ, ◌+◌, Bool, true, false, nat_lt, if◌then◌else◌, cond, List, [], length, take}
 use Rattle.std.proofs.Common.{refl, ap, sym, ◌∙◌, arith, Ok, Err}
 use Rattle.std.proofs.lemmas.Bool.Decides.{nat_tests}
@@ -18,11 +18,11 @@ use Rattle.cloner_top.specs.Prefixes.{PrefixesStateTheSame}
 -- ---- readings that refuse what is too long
 
 module _ {A : Type 0} (most : ℕ) (refusal : A) (reading : List ℕ → A) where
-  -- what a text says, refused where it has more bytes than this
+  -- the reading of a text, refused if it has more bytes than this
   abbrev pub within : List ℕ → A
   within text = if nat_lt most (length text) then refusal else reading text
 
-  -- with one byte more than a text may have, its beginning says what it says, whether it is too long
+  -- a text's first bytes, one more than the limit, have the same reading, whether or not the text is too long
   within-cut : (text : List ℕ) (longer : Bool) → nat_lt most (length text) ≡ longer
       → within (take (most + 1) text) ≡ within text
   within-cut text true is =
@@ -33,13 +33,13 @@ module _ {A : Type 0} (most : ℕ) (refusal : A) (reading : List ℕ → A) wher
   within-cut text false is =
       ap within (take_all (most + 1) text (grind (arith, nat_tests)))
 
-  -- or not
+  -- the same without the two cases
   pub within-take : (text : List ℕ) → within (take (most + 1) text) ≡ within text
   within-take text = within-cut text (nat_lt most (length text)) refl
 
 -- ---- a model and a script
 
--- the bytes that a fetch gives of a file state what it states
+-- the bytes that a fetch returns of a file are read as the whole file is
 pub prefixes_state_the_same : PrefixesStateTheSame
 unfolding prefix_of
 prefixes_state_the_same file = record {

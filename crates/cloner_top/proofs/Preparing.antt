@@ -1,4 +1,4 @@
--- From texts that were read to what may follow, and why nothing is prepared.
+-- From texts that were read to the possible endings, and why nothing is prepared.
 use Rattle.std.proofs.Common.{◌≡◌, ◌∙◌, ◌≤◌, ℕ, ◌+◌, refl, sym, ap, ap₂, subst, arith, List, [], Option, Some, None}
 use Rattle.std.proofs.Common.{Result, Ok, Err}
 use Rattle.sim_base.specs.Clones.{Clone}
@@ -50,16 +50,16 @@ texts_of m s w Model = m
 texts_of m s w Script = s
 texts_of m s w Watches = w
 
--- a study does not ask for watches
+-- a study has no watches
 no_watches : (source : SourceView) (files : Option Files) → IsText (known_from (study_origin source Watches) files) []
 no_watches (FileNames m s) files = tt
 no_watches (Number n) files = tt
 
--- a result is not both
+-- a result is not both Ok and Err
 ok_err : {A B : Type 0} (r : Result A B) (a : A) (b : B) → r ≡ Ok a → r ≡ Err b → ⊥
 ok_err r a b h k = let e = sym h ∙ k in cc
 
--- a result is one
+-- a result has one value
 same_ok : {A B : Type 0} (r : Result A B) (x y : A) → r ≡ Ok x → r ≡ Ok y → x ≡ y
 same_ok r x y h k = let e = sym h ∙ k in cc
 
@@ -85,7 +85,7 @@ module _ (files : Option Files) (a : AssignmentView) (m : List ℕ) (m_is : IsTe
 module _ (files : Option Files) (source : SourceView) (mode : Mode) (m s : List ℕ) (net : Net)
     (m_is : IsTextOf (Study source mode) files Model m) (is_model : model m ≡ Ok net)
     (s_is : IsTextOf (Study source mode) files Script s) where
-  -- how the study of these texts ends is how what is asked ends
+  -- an ending of the study of these texts is one of the assignment
   study_ends : (end : Ending) → MayStudy (MayEnd mode net) s end → IsLawfulEnding files (Study source mode) end
   study_ends end may = record {
     t = texts_of m s [];
@@ -93,7 +93,7 @@ module _ (files : Option Files) (source : SourceView) (mode : Mode) (m s : List 
     may = ends.read net end is_model may;
   }
 
-  -- how the simulation of its plan ends, too
+  -- an ending of the simulation of its plan is one as well
   plan_ends : (stated : ScriptView) (book : BookView) (told : Net) → script s ≡ Ok stated → told ≡ net
       → IsDecided net stated book → (end : Ending) → MaySimulate mode told (clones_of_book book) end
       → IsLawfulEnding files (Study source mode) end
@@ -105,7 +105,7 @@ module _ (files : Option Files) (source : SourceView) (mode : Mode) (m s : List 
 
 module _ (files : Option Files) (mn sn m s : List ℕ) (net : Net) (m_is : IsTextOf (Live mn sn) files Model m)
     (is_model : model m ≡ Ok net) (s_is : IsTextOf (Live mn sn) files Script s) where
-  -- how a live study of these texts ends is how what is asked ends
+  -- an ending of a live study of these texts is one of the assignment
   live_ends : (end : Ending) → MayStudy (MayLive net) s end → IsLawfulEnding files (Live mn sn) end
   live_ends end may = record {
     t = texts_of m s [];
@@ -128,7 +128,7 @@ module _ (files : Option Files) (mn sn wn m s : List ℕ) (net : Net) (m_is : Is
     may = ends.read net _ is_model (ends.bad_script fault bad);
   }
 
-  -- one of which a decision is refused
+  -- a study with watches that has a refused decision
   watch_refused : (stated : ScriptView) → script s ≡ Ok stated → (reply : Reply) (line : ℕ)
       → first_refused net stated ≡ Some (reply, line)
       → IsLawfulEnding files (Watch mn sn wn) (early_stop (BadDecision reply line))
@@ -147,7 +147,7 @@ module _ (files : Option Files) (mn sn wn m s : List ℕ) (net : Net) (m_is : Is
 
   module _ (w : List ℕ) (stated : ScriptView) (is_script : script s ≡ Ok stated)
       (accepted : first_refused net stated ≡ None) (w_is : IsTextOf (Watch mn sn wn) files Watches w) where
-    -- how a study with these watches ends is how what is asked ends
+    -- an ending of a study with these watches is one of the assignment
     watch_ends : (end : Ending) → MayWatch w net (clones_of net stated) end → IsLawfulEnding files (Watch mn sn wn) end
     watch_ends end may = record {
       t = texts_of m s w;
@@ -155,24 +155,24 @@ module _ (files : Option Files) (mn sn wn m s : List ℕ) (net : Net) (m_is : Is
       may = ends.read net end is_model (ends.study stated end is_script (ends.simulation end accepted may));
     }
 
--- the fetches of one text, and then at most so many others, are at most those of all
+-- one fetch count, followed by another, is at most the fetches of all texts
 pub few_of_both : (n m : ℕ) (old mid new : Option ℕ) → AreCounted n old mid
     → (k : ℕ) × ((k ≤ m) × AreCounted k mid new) → (k : ℕ) × ((k ≤ n + m) × AreCounted k old new)
 few_of_both n m old mid new h more = let most : n + more.0 ≤ n + m = let l = more.1.0 in omega (arith, l) in
     (n + more.0, (most, counted_both n more.0 old mid new h more.1.1))
 
--- those of one text are at most those of both
+-- the fetches of the first are at most those of both
 pub few_of_first : (n m : ℕ) (old new : Option ℕ) → AreCounted n old new
     → (k : ℕ) × ((k ≤ n + m) × AreCounted k old new)
 few_of_first n m old new h = let most : n ≤ n + m = omega arith in (n, (most, h))
 
--- and those of both are at most those of both
+-- the fetches of two are at most those of both
 pub few_of_two : (n m : ℕ) (old mid new : Option ℕ) → AreCounted n old mid → AreCounted m mid new
     → (k : ℕ) × ((k ≤ n + m) × AreCounted k old new)
 few_of_two n m old mid new h k = let most : n + m ≤ n + m = omega arith in
     (n + m, (most, counted_both n m old mid new h k))
 
--- of a study only the script is fetched after the model
+-- a study fetches only the script after the model
 pub study_fetches : (a : AssignmentView) (mode : Mode) → (source : SourceView) × (a ≡ Study source mode)
     → (old new : Option ℕ) → AreCounted (fetches_of (origin_of a Script)) old new
     → AreCounted (later_fetches a) old new
@@ -187,7 +187,7 @@ study_fetches a mode is old new h = subst (λ n. AreCounted n old new) (sym (scr
     script_alone source x e = subst (λ y. later_fetches y ≡ fetches_of (origin_of y Script)) (sym e)
         (let z = none source in omega (arith, z))
 
--- and likewise of a live study
+-- the same for a live study
 pub live_fetches : (a : AssignmentView) → (mn : List ℕ) × ((sn : List ℕ) × (a ≡ Live mn sn))
     → (old new : Option ℕ) → AreCounted (fetches_of (origin_of a Script)) old new
     → AreCounted (later_fetches a) old new
@@ -197,7 +197,7 @@ live_fetches a is old new h =
 
 -- ---- why nothing is prepared
 
--- out of memory, or it stops for a cause
+-- out of memory, or a stop for a cause
 pub stopped_by : (rose : Type 0) (files : Option Files) (a : AssignmentView) (P : Stop → Type 0) (r : Refusal)
     → ((stop : Stop) → P stop → IsLawfulEnding files a (early_stop stop)) → IsMemoryOrStop P r
     → IsNotPrepared rose files a r
@@ -208,7 +208,7 @@ stopped_by rose files a P (Stopped stop) each h = each stop h
 stopped_by rose files a P (Exceeded e) each h = absurd h
 stopped_by rose files a P CannotWrite each h = absurd h
 
--- a text that is due was not fetched
+-- a required text was not fetched
 unfetched : (rose : Type 0) (files : Option Files) (a : AssignmentView) (text : Text) (r : Refusal)
     → IsDue a files text → IsNotFetched rose a files text r → IsNotPrepared rose files a r
 unfetched rose files a text OutOfMemory due h = tt
@@ -224,7 +224,7 @@ pub no_model_text : (rose : Type 0) (files : Option Files) (a : AssignmentView) 
     → IsNotFetched rose a files Model r → IsNotPrepared rose files a r
 no_model_text rose files a r h = unfetched rose files a Model r tt h
 
--- it breaks a rule
+-- the model's text breaks a rule
 pub bad_model : (files : Option Files) (a : AssignmentView) (m : List ℕ) → IsTextOf a files Model m → (stop : Stop)
     → IsBadModel m stop → IsLawfulEnding files a (early_stop stop)
 bad_model files a m text (BadModel fault) h = model_refused files a m text fault h
@@ -244,7 +244,7 @@ no_script_text rose files a (Stopped stop) h = absurd h
 no_script_text rose files a (Exceeded e) h = absurd h
 no_script_text rose files a CannotWrite h = absurd h
 
--- it breaks a rule
+-- the script's text breaks a rule
 pub bad_script_text : (rose : Type 0) (files : Option Files) (a : AssignmentView) (s : List ℕ) (r : Refusal)
     → IsTextOf a files Script s → IsMemoryOrStop (IsBadScript s) r → IsUnscripted rose a files r
 bad_script_text rose files a s OutOfMemory text h = tt
@@ -254,7 +254,7 @@ bad_script_text rose files a s (Stopped stop) text h = record { s = s; text = te
 bad_script_text rose files a s (Exceeded e) text h = absurd h
 bad_script_text rose files a s CannotWrite text h = absurd h
 
--- the stop of a script is its fault
+-- the stop of a refused script
 by_script : (Q : Stop → Type 0) (s : List ℕ) (stop : Stop) → IsBadScript s stop
     → ((fault : ScriptFault) → script s ≡ Err fault → Q (BadScript fault)) → Q stop
 by_script Q s (BadModel fault) h each = absurd h
@@ -264,7 +264,7 @@ by_script Q s (NoClone name) h each = absurd h
 by_script Q s (BadWatches fault) h each = absurd h
 by_script Q s (BadWatch reply line) h each = absurd h
 
--- and that of a decision its reply and its line
+-- the stop of a refused decision
 by_decision : (Q : Stop → Type 0) (net : Net) (st : ScriptView) (stop : Stop) → IsRefusal net st stop
     → ((reply : Reply) (line : ℕ) → first_refused net st ≡ Some (reply, line) → Q (BadDecision reply line)) → Q stop
 by_decision Q net st (BadModel fault) h each = absurd h
@@ -274,7 +274,7 @@ by_decision Q net st (NoClone name) h each = absurd h
 by_decision Q net st (BadWatches fault) h each = absurd h
 by_decision Q net st (BadWatch reply line) h each = absurd h
 
--- that of a text of watches is its fault
+-- the stop of a refused text of watches
 by_watches : (Q : Stop → Type 0) (w : List ℕ) (stop : Stop) → IsBadWatches w stop
     → ((fault : WatchFault) → watches w ≡ Err fault → Q (BadWatches fault)) → Q stop
 by_watches Q w (BadModel fault) h each = absurd h
@@ -284,7 +284,7 @@ by_watches Q w (NoClone name) h each = absurd h
 by_watches Q w (BadWatches fault) h each = each fault h
 by_watches Q w (BadWatch reply line) h each = absurd h
 
--- and that of a watch its reply and its line
+-- the stop of a watch that does not fit
 by_watch : (Q : Stop → Type 0) (net : Net) (cs : List Clone) (ws : List watch.Watch) (stop : Stop)
     → IsBadWatch net cs ws stop
     → ((reply : Reply) (line : ℕ) → fit net cs ws ≡ Err (record { line = line; reply = reply })
@@ -297,7 +297,7 @@ by_watch Q net cs ws (BadWatches fault) h each = absurd h
 by_watch Q net cs ws (BadWatch reply line) h each = each reply line h
 
 module _ (rose : Type 0) (files : Option Files) (a : AssignmentView) (net : Net) (m : IsModelOf a files net) where
-  -- there is no script, where each stop of its text ends what is asked
+  -- there is no script, if each stop of its text ends the assignment
   no_script : ((stop : Stop) → IsNoScriptOf a files stop → IsLawfulEnding files a (early_stop stop)) → (r : Refusal)
       → IsUnscripted rose a files r → IsNotPrepared rose files a r
   no_script each OutOfMemory h = tt
@@ -310,12 +310,12 @@ module _ (rose : Type 0) (files : Option Files) (a : AssignmentView) (net : Net)
 
 -- ---- a study whose decisions are all made first
 
--- its book's decisions were all accepted in its network
+-- all decisions of its book were accepted in its network
 pub plan_accepted : (net : Net) (stated : ScriptView) (book : BookView) → IsDecided net stated book
     → IsAcceptedJournal book.net book.events
 plan_accepted net stated book is = subst (λ n. IsAcceptedJournal n book.events) (sym is.net_is) is.accepted
 
--- its book is one of its model
+-- the network of its book is that of its model
 pub plan_net : (net told : Net) (stated : ScriptView) (book : BookView) → told ≡ net → IsDecided net stated book
     → book.net ≡ told
 plan_net net told stated book same is = is.net_is ∙ sym same
@@ -330,7 +330,7 @@ module _ (rose : Type 0) (files : Option Files) (source : SourceView) (mode : Mo
       (λ fault is. study_ends files source mode m.m bad.s net m.text m.is_model bad.text _ (ends.bad_script fault is)))
       r h
 
-  -- or a decision of it is refused
+  -- or one of its decisions is refused
   study_refused : (stated : ScriptView) → IsScriptOf (Study source mode) files stated → (r : Refusal)
       → IsMemoryOrStop (IsRefusal net stated) r → IsNotPrepared rose files (Study source mode) r
   study_refused stated s r h = stopped_by rose files (Study source mode) (IsRefusal net stated) r (λ stop bad.
@@ -338,7 +338,7 @@ module _ (rose : Type 0) (files : Option Files) (source : SourceView) (mode : Mo
       (λ reply line is. study_ends files source mode m.m s.s net m.text m.is_model s.text _
       (ends.study stated _ s.is_script (ends.refused_decision reply line is)))) h
 
--- the same of an assignment that is one
+-- the same for an assignment that is such a study
 module _ (rose : Type 0) (files : Option Files) (a : AssignmentView) (mode : Mode) (net : Net)
     (is : (source : SourceView) × (a ≡ Study source mode)) (m : IsModelOf a files net) where
   pub no_study : (r : Refusal) → IsUnscripted rose a files r → IsNotPrepared rose files a r
@@ -394,7 +394,7 @@ module _ (rose : Type 0) (files : Option Files) (mn sn wn : List ℕ) (net : Net
       (λ fault is. watch_no_script files mn sn wn m.m bad.s net m.text m.is_model bad.text fault is)) r h
 
   module _ (stated : ScriptView) (s : IsScriptOf (Watch mn sn wn) files stated) where
-    -- a decision of it is refused
+    -- one of its decisions is refused
     watch_undecided : (r : Refusal) → IsMemoryOrStop (IsRefusal net stated) r
         → IsNotPrepared rose files (Watch mn sn wn) r
     watch_undecided r h = stopped_by rose files (Watch mn sn wn) (IsRefusal net stated) r (λ stop bad.
@@ -423,7 +423,7 @@ module _ (rose : Type 0) (files : Option Files) (mn sn wn : List ℕ) (net : Net
       }) h
 
       module _ (w : List ℕ) (w_is : IsTextOf (Watch mn sn wn) files Watches w) where
-        -- how it ends with these watches
+        -- how a study with these watches ends
         ends_with : (end : Ending) → MayWatch w net (clones_of net stated) end
             → IsLawfulEnding files (Watch mn sn wn) end
         ends_with = watch_ends files mn sn wn m.m s.s net m.text m.is_model s.text w stated s.is_script decided.none
@@ -452,7 +452,7 @@ module _ (rose : Type 0) (files : Option Files) (mn sn wn : List ℕ) (net : Net
               (subst (λ cs. fit net cs ws ≡ Ok tt) book_clones fits)
               (subst (λ cs. MayRunWatched net cs ws end) book_clones may))
 
--- the same of an assignment that is one
+-- the same for an assignment that is such a study
 module _ (rose : Type 0) (files : Option Files) (a : AssignmentView) (net : Net)
     (is : (mn : List ℕ) × ((sn : List ℕ) × ((wn : List ℕ) × (a ≡ Watch mn sn wn)))) (m : IsModelOf a files net) where
   pub no_watch_script : (r : Refusal) → IsUnscripted rose a files r → IsNotPrepared rose files a r
@@ -475,7 +475,7 @@ module _ (rose : Type 0) (files : Option Files) (a : AssignmentView) (net : Net)
           (λ mm ss r h. watch_unfetched rose files is.0 is.1.0 is.1.1.0 net mm stated ss book decided r h) m s
 
       module _ (w : List ℕ) (w_is : IsTextOf a files Watches w) where
-        -- it breaks a rule
+        -- their text breaks a rule
         pub no_watch_list : (r : Refusal) → IsMemoryOrStop (IsBadWatches w) r → IsNotPrepared rose files a r
         no_watch_list = subst (λ x. IsModelOf x files net → IsScriptOf x files stated → IsTextOf x files Watches w
             → (r : Refusal) → IsMemoryOrStop (IsBadWatches w) r → IsNotPrepared rose files x r) (sym is.1.1.1)

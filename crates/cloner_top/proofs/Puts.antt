@@ -60,7 +60,7 @@ counted_both n m (Some o) mid new h k = let e : mid ≡ Some (counts_after n o) 
     (rw e at k) ∙ ap Some (count_both n m o)
 
 module _ (first others : List (List ℕ)) where
-  -- where the first were put, and then the others, all were put
+  -- if the first were put, and then the others, all were put
   pub put_after : (old mid new : SinkView) → ArePut first old mid → ArePut others mid new
       → ArePut (first ++ others) old new
   put_after old mid new h k = record {
@@ -70,7 +70,7 @@ module _ (first others : List (List ℕ)) where
         (counted_both (length first) (length others) old.calls mid.calls new.calls h.calls k.calls);
   }
 
-  -- where the first were put, and the others were cut off, all together were cut off
+  -- if the first were put, and the others were cut off, they were cut off together
   pub cut_after : (old mid new : SinkView) → IsAppended old.bytes (concat first) mid.bytes
       → AreCounted (length first) old.calls mid.calls → old.faults ≤ mid.faults → AreCut others mid new
       → AreCut (first ++ others) old new
@@ -91,7 +91,7 @@ module _ (first others : List (List ℕ)) where
       many : length first + (length cut.whole + 1) ≡ length (first ++ cut.whole) + 1
       many = let l = length-append first cut.whole in omega (arith, l)
 
-  -- where the first were cut off, all together were
+  -- if the first were cut off, they were cut off together
   pub cut_ahead : (old new : SinkView) → AreCut first old new → AreCut (first ++ others) old new
   cut_ahead old new cut = record {
     whole = cut.whole;
@@ -108,17 +108,17 @@ module _ (first others : List (List ℕ)) where
 -- ---- texts, and then one
 
 module _ {X : Type 0} (f : X → List ℕ) (xs : List X) (last : List ℕ) where
-  -- what they are, one behind the other
+  -- their bytes, one after the other
   all_texts : concat (map f xs ++ last ∷ []) ≡ flat_map f xs ++ last
   all_texts = concat-append (map f xs) (last ∷ [])
       ∙ ap₂ (λ a b. a ++ b) (concat_is (map f xs) ∙ flat_map-map (λ x. x) f xs) (append-nil last)
 
-  -- how many they are
+  -- their number
   how_many : length (map f xs ++ last ∷ []) ≡ length xs + 1
   how_many = length-append (map f xs) (last ∷ []) ∙ ap (λ n. n + 1) (length-map xs f)
 
   module _ (old mid new : SinkView) where
-    -- where all but the last were taken, a call for each, and the last was put, all were put
+    -- if all but the last were taken, a call for each, and the last was put, all were put
     pub put_more : IsAppended old.bytes (flat_map f xs) mid.bytes → AreCounted (length xs) old.calls mid.calls
         → ArePut (last ∷ []) mid new → ArePut (map f xs ++ last ∷ []) old new
     put_more bytes calls put = record {
@@ -133,7 +133,7 @@ module _ {X : Type 0} (f : X → List ℕ) (xs : List X) (last : List ℕ) where
         of_one None b h = h
         of_one (Some o) b h = h
 
-    -- where all but the last were taken, and the last was cut off, the texts were cut off
+    -- if all but the last were taken, and the last was cut off, the texts were cut off
     pub cut_last : IsAppended old.bytes (flat_map f xs) mid.bytes → AreCounted (length xs) old.calls mid.calls
         → old.faults ≤ mid.faults → AreCut (last ∷ []) mid new
         → AreCut (map f xs ++ last ∷ []) old new
@@ -141,13 +141,13 @@ module _ {X : Type 0} (f : X → List ℕ) (xs : List X) (last : List ℕ) where
         (subst (λ t. IsAppended old.bytes t mid.bytes) (sym (concat_is (map f xs) ∙ flat_map-map (λ x. x) f xs)) bytes)
         (subst (λ n. AreCounted n old.calls mid.calls) (sym (length-map xs f)) counted) later cut
 
-  -- where those before the last were cut off, the texts were
+  -- if those before the last were cut off, the texts were
   pub cut_before : (old new : SinkView) → AreCut (map f xs) old new → AreCut (map f xs ++ last ∷ []) old new
   cut_before old new cut = cut_ahead (map f xs) (last ∷ []) old new cut
 
 -- ---- a text, and then others
 
--- one call before n others, or behind them
+-- one call before n others, or after them
 count_first : (n before : ℕ) → counts_after n (next_count before) ≡ next_count (counts_after n before)
 count_first zero before = refl
 count_first (suc n) before = ap next_count (count_first n before)
@@ -159,12 +159,12 @@ counted_then n None mid new h k = let m : mid ≡ None = h in (rw m at k)
 counted_then n (Some o) mid new h k = (rw h at k) ∙ ap Some (count_first n o)
 
 module _ (first : List ℕ) (texts : List (List ℕ)) where
-  -- what they are, one behind the other
+  -- their bytes, one after the other
   both_are : concat (first ∷ texts) ≡ concat (first ∷ []) ++ concat texts
   both_are = concat-append (first ∷ []) texts
 
   module _ (old mid new : SinkView) where
-    -- where the first was put, and then the others, all were put
+    -- if the first was put, and then the others, all were put
     pub put_then : ArePut (first ∷ []) old mid → ArePut texts mid new → ArePut (first ∷ texts) old new
     put_then h k = record {
       bytes = subst (λ t. IsAppended old.bytes t new.bytes) (sym both_are)
@@ -172,27 +172,27 @@ module _ (first : List ℕ) (texts : List (List ℕ)) where
       calls = counted_then (length texts) old.calls mid.calls new.calls h.calls k.calls;
     }
 
-    -- where the first was put, and the others were cut off, all together were cut off
+    -- if the first was put, and the others were cut off, they were cut off together
     pub cut_then : ArePut (first ∷ []) old mid → old.faults ≤ mid.faults → AreCut texts mid new
         → AreCut (first ∷ texts) old new
     cut_then h later k = cut_after (first ∷ []) texts old mid new h.bytes h.calls later k
 
-    -- where the first was put, and the others were told, all together were told
+    -- if the first was put, and the others were put or cut off, so were they together
     pub told_then : ArePut (first ∷ []) old mid → old.faults ≤ mid.faults → ArePutOrCut texts mid new
         → ArePutOrCut (first ∷ texts) old new
     told_then h later (inl k) = inl (put_then h k)
     told_then h later (inr k) = inr (cut_then h later k)
 
-  -- where the first was cut off, all together were
+  -- if the first was cut off, they were cut off together
   cut_first : (old new : SinkView) → AreCut (first ∷ []) old new → AreCut (first ∷ texts) old new
   cut_first old new h = cut_ahead (first ∷ []) texts old new h
 
-  -- only the outside's fault keeps a text from being put, once it is there
+  -- a text is not put only because a write failed
   pub first_cut : (old new : SinkView) (r : Refusal) → IsNotPut (first ∷ []) old new r → r ≡ CannotWrite
       → AreCut (first ∷ texts) old new
   first_cut old new r h is = cut_first old new (subst (IsNotPut (first ∷ []) old new) is h)
 
-  -- so where that fault kept the first from being put, all together were not put, for that cause
+  -- if a write failed for the first, they were not put together, for that cause
   pub first_not_put : (old new : SinkView) (r : Refusal) → IsNotPut (first ∷ []) old new r → r ≡ CannotWrite
       → IsNotPut (first ∷ texts) old new r
   first_not_put old new r h is = subst (IsNotPut (first ∷ texts) old new) (sym is) (first_cut old new r h is)

@@ -21,13 +21,13 @@ texts_are : (net : Net) (cs : List Clone) (last : List ℕ) → last ≡ report 
 unfolding run_texts
 texts_are net cs last is = ap (λ t. map (clone_text net) cs ++ t ∷ []) is
 
--- they are the same by another name of the network and of the clones
+-- the same for equal networks and equal clones
 pub run_texts_same : (told net : Net) (those cs : List Clone) → told ≡ net → those ≡ cs
     → run_texts told those ≡ run_texts net cs
 run_texts_same told net those cs same_net same_clones = ap (λ (n : Net). run_texts n those) same_net
     ∙ ap (run_texts net) same_clones
 
--- the trace texts by another name of the network and of the clones
+-- the trace texts for equal networks and equal clones
 same_texts : (told net : Net) (those cs : List Clone) → told ≡ net → those ≡ cs
     → clone_texts told those ≡ clone_texts net cs
 same_texts told net those cs same_net same_clones = ap (λ (n : Net). clone_texts n those) same_net
@@ -38,7 +38,7 @@ module _ (told net : Net) (those cs : List Clone) (same_net : told ≡ net) (sam
   module _ (last : List ℕ) (last_is : last ≡ report net cs) (old mid new : SinkView)
       (bytes : IsAppended old.bytes (clone_texts told those) mid.bytes)
       (calls : AreCounted (length those) old.calls mid.calls) where
-    -- the bytes of the traces, by other names of the network and of the clones
+    -- the bytes of the traces, for equal networks and equal clones
     bytes_same : IsAppended old.bytes (clone_texts net cs) mid.bytes
     bytes_same = subst (λ t. IsAppended old.bytes t mid.bytes) (same_texts told net those cs same_net same_clones) bytes
 
@@ -69,7 +69,7 @@ module _ (told net : Net) (those cs : List Clone) (same_net : told ≡ net) (sam
 -- a journal was put, and then the texts of a run
 module _ (journal : List ℕ) (told net : Net) (those cs : List Clone) (same_net : told ≡ net) (same_clones : those ≡ cs)
     (old mid new : SinkView) (put : ArePut (journal ∷ []) old mid) (later : old.faults ≤ mid.faults) where
-  -- the texts of the run, by other names of the network and of the clones
+  -- the texts of the run, for equal networks and equal clones
   run_same : run_texts told those ≡ run_texts net cs
   run_same = run_texts_same told net those cs same_net same_clones
 
@@ -94,7 +94,7 @@ module _ (first : List (List ℕ)) (line : List ℕ) (old mid new : SinkView) (p
       (cut_after first (line ∷ []) old mid new put.bytes put.calls later
       (subst (λ x. IsNotPut (line ∷ []) mid new x) cause cut))
 
--- the texts of a run were not put, so neither were they with a line
+-- if the texts of a run were not put, they were not put with a line either
 pub run_not_put : (first : List (List ℕ)) (line : List ℕ) (old new : SinkView) (r : Refusal)
     → IsNotPut first old new r → r ≡ CannotWrite → IsNotPut (first ++ line ∷ []) old new r
 run_not_put first line old new r h is = subst (IsNotPut (first ++ line ∷ []) old new) (sym is)

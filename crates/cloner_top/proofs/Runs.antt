@@ -1,4 +1,4 @@
--- What the run of a study comes to.
+-- The result of a study's run.
 use Rattle.std.proofs.Common.{◌≡◌, ℕ, zero, suc, ◌+◌, arith, refl, sym, ap, subst, ◌∙◌}
 use Rattle.std.proofs.Common.{List, [], ◌∷◌, length, Some, Result}
 use Rattle.std.specs.List.{AllByRecursion}
@@ -30,7 +30,7 @@ short_planned net cs planned = of_each cs planned.each
     of_each (c ∷ cs) each zero l = let s = each.0.short in omega (arith, s)
     of_each (c ∷ cs) each (suc k) l = of_each cs each.1 k (omega (arith, l))
 
--- ---- all clones, as a world tells them
+-- ---- all clones of a world
 
 module _ (texts_of : Net → List Clone → List (List ℕ)) (net told : Net) (cs those : List Clone)
     (old_steps new_steps : ℕ) (same_net : told ≡ net) (same_clones : those ≡ cs) (short : AreWithin net those)
@@ -107,7 +107,7 @@ module _ (net told : Net) (cs those : List Clone) (name : List ℕ) (k old_steps
 
 -- ---- by its mode
 
--- what became of the simulation in a mode became of it in an equal one
+-- the result of a simulation in a mode is one in an equal mode
 pub done_in_mode : {T : Type 0} (mode its : Mode) (net : Net) (cs : List Clone) (old_steps new_steps : ℕ)
     (old new : SinkView) (r : Result T Refusal) → mode ≡ its
     → IsDone (MaySimulate its net cs) old_steps new_steps old new r

@@ -1,4 +1,4 @@
--- What the run of a study with watches comes to.
+-- The result of a run with watches.
 use Rattle.std.proofs.Common.{◌≡◌, ◌<◌, ◌≤◌, ℕ, zero, suc, ◌+◌, Bool, true, false, cond, nat_lt, arith, refl, sym}
 use Rattle.std.proofs.Common.{◌⊎◌, ap, subst, ◌∙◌, inl, inr, List, [], ◌∷◌, ◌++◌, length, length-append, map, Option}
 use Rattle.std.proofs.Common.{Some}
@@ -51,7 +51,7 @@ place_of_one (x ∷ xs) c (inl e) = (0, (omega arith, sym e))
 place_of_one (x ∷ xs) c (inr i) =
     let p = place_of_one xs c i in let l = p.1.0 in (suc p.0, (omega (arith, l), p.1.1))
 
--- what holds of the clones at all places of a list holds of those of a permutation
+-- a property of the clones at all places of a list holds for those of a permutation
 permuted : (P : Clone → Type 0) (cs ds : List Clone) → IsPermutation cs ds
     → ((k : ℕ) → k < length cs → P (clone_at cs k)) → (k : ℕ) → k < length ds → P (clone_at ds k)
 permuted P cs ds p each k there =
@@ -66,7 +66,7 @@ module _ (net : Net) (cs : List Clone) (order : List ℕ) (is : IsPlaceOrder (le
   ordered : IsPermutation cs (in_order cs order)
   ordered = in_order-permutation cs order is
 
-  -- no log of theirs is beyond the limit either
+  -- none of their logs is beyond the limit either
   within_ordered : AreWithin net cs → AreWithin net (in_order cs order)
   within_ordered = permuted (λ c. IsWithinLimit (simulation net) net.horizon c) cs (in_order cs order) ordered
 
@@ -95,7 +95,7 @@ abbrev HaveFewPlans : ℕ → List Branch → Type 0
 HaveFewPlans n bs = (b : Branch) → In b bs → length b.clone.plans ≤ n
 
 module _ {S M N : Type 0} (sim : Simulation S M N) (front : ℕ) where
-  -- a branch has one decision more than its clone
+  -- a branch has one more decision than its clone
   due_plans : (w : Trigger N) (b x : Branch) (n : ℕ) (due : Option ℕ) → length b.clone.plans ≤ n
       → branch_if_due sim w b.clone due ≡ Some x → length x.clone.plans ≤ n + 1
   due_plans w b x n None few e = cc
@@ -121,7 +121,7 @@ module _ {S M N : Type 0} (sim : Simulation S M N) (front : ℕ) where
       by (Some b) named e =
           due_plans w b x n (due_time sim front w b) (few b (branch_named-in w.who bs b named).0) e
 
-  -- all branches have at most a decision for each trigger more
+  -- all branches have at most one more decision for each trigger
   branches_plans : (bs : List Branch) (ws : List (Trigger N)) (n : ℕ) → HaveFewPlans n bs
       → HaveFewPlans (n + length ws) (branches_at sim front bs ws)
   branches_plans bs [] n few b i = let l = few b i in omega (arith, l)
@@ -135,7 +135,7 @@ module _ {S M N : Type 0} (sim : Simulation S M N) (front : ℕ) where
           by (inl old) = let l = few x old in omega (arith, l)
           by (inr new) = made_plans w bs x n few new
 
--- the clones of a run with fitting watches are short where the script's are planned
+-- the clones of a run with fitting watches are short if the script's are planned
 pub branches_short : (net planned : Net) (cs : List Clone) (ws : List Watch) → ArePlanned planned cs
     → fit net cs ws ≡ Ok tt → AreShort (clones_with_branches net cs ws)
 branches_short net planned cs ws plans fits k there =

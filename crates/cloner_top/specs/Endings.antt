@@ -1,4 +1,4 @@
--- How what is asked may end: the modes in one table.
+-- The endings that each mode allows, in one table.
 use Rattle.std.specs.Prelude.{◌≡◌, ℕ, ◌+◌, ◌/◌, ◌<◌, ◌≤◌, List, [], ◌∷◌, ◌++◌, map, length, Some, None, Result, Ok, Err}
 use Rattle.std.specs.Prelude.{codes, decimal}
 use Rattle.sim_base.specs.Clones.{Clone, clone_at, place_of}
@@ -41,20 +41,20 @@ use Rattle.cloner_top.specs.declared.stop.Stop.TheVariants.{BadModel, BadScript,
 use Rattle.cloner_top.specs.declared.stop.Stop.TheVariants.{NoClone}
 use Rattle.cloner_top.specs.Deciding.{clones_of, first_refused}
 
--- an ending: these texts are written, for which this number of messages was handled; nothing is, for this cause, and
--- none was handled; or a limit is exceeded, these texts are told before the line, and at most this number was handled
+-- an ending: these texts are written after this number of handled messages; or the study is not run; or a limit is
+-- exceeded, these texts are put before the error line, and at most this number of messages was handled
 pub data Ending : Type 0 where
   whole_output : List (List ℕ) → ℕ → Ending
   early_stop : Stop → Ending
   overrun : List (List ℕ) → Excess → ℕ → Ending
 
--- where the limit is met: the limit, the name of the station of this number, and the clone's name
+-- the excess at a station and a clone: the limit and both names
 abbrev pub limit_met_at : Net → ℕ → List ℕ → Excess
 limit_met_at net station clone = LimitMet net.limit (site_of net station).name clone
 
 -- ---- all clones
 
--- how a run of these clones may end, which is to write these texts; the limit is met at a station and a clone for which
+-- how a run of these clones may end: it writes these texts, or it exceeds the limit at a station and a clone for which
 -- `meets` holds
 pub data MayRun (net : Net) (clones : List Clone) (meets : ℕ → ℕ → Type 0) (texts : List (List ℕ)) :
     Ending → Type 0 where
@@ -64,34 +64,34 @@ pub data MayRun (net : Net) (clones : List Clone) (meets : ℕ → ℕ → Type 
       → MayRun net clones meets texts (overrun [] (limit_met_at net station (clone_at clones who).name)
       (most_handled net (length clones)))
 
--- what a run of all clones writes: each one's trace text, in order of making, and then the report
+-- what a run of all clones writes: the trace of each, in creation order, and then the report
 unfoldable pub run_texts : Net → List Clone → List (List ℕ)
 run_texts net clones = map (clone_text net) clones ++ report net clones ∷ []
 
--- what each mode of all clones writes: the report alone, the statistics of their servers, or those texts
+-- what each mode writes: the report only, the statistics of the servers, or the texts of a run
 abbrev pub mode_texts : Mode → Net → List Clone → List (List ℕ)
 mode_texts Report net clones = report net clones ∷ []
 mode_texts Stats net clones = statistics net clones ∷ []
 mode_texts mode net clones = run_texts net clones
 
--- which station and which clone are told at the limit: in each mode of all clones the first
+-- the station and the clone that are reported at the limit: the first, in each mode of all clones
 abbrev pub mode_meets : Mode → Net → List Clone → ℕ → ℕ → Type 0
 mode_meets mode net clones = MeetsLimit net clones
 
--- this station of this clone has a log beyond the limit at the horizon
+-- the log of this station in this clone is beyond the limit at the horizon
 pub record IsOver (net : Net) (clones : List Clone) (station who : ℕ) : Type 0 where
   pub is_station : HasStation net station
   pub clone : who < length clones
   pub beyond : IsBeyond net station net.horizon (clone_at clones who)
 
--- ---- all clones, kept in step by the clocks of links
+-- ---- all clones, in rounds with a clock for each link
 
--- the line of the rounds
+-- the line with the number of rounds
 abbrev pub rounds_line : ℕ → List ℕ
 rounds_line k = codes "rounds " ++ decimal k ++ codes "\n"
 
--- how such a run may end: it writes what a run writes, and then the line of its rounds, after which all clocks are at
--- the horizon, and after no fewer; at the limit any station and clone with a log beyond it may be told
+-- how a run in rounds may end: it writes what `run` writes, and then the least number of rounds after which all clocks
+-- are at the horizon; at the limit any station and clone with a log beyond it may be reported
 pub data MayRunLinked (net : Net) (clones : List Clone) : Ending → Type 0 where
   linked : (k : ℕ) → AreAllRounds net k → k ≤ net.horizon / net.lookahead + 1 → AreWithin net clones
       → MayRunLinked net clones (whole_output (run_texts net clones ++ rounds_line k ∷ [])
@@ -102,13 +102,13 @@ pub data MayRunLinked (net : Net) (clones : List Clone) : Ending → Type 0 wher
 
 -- ---- all clones, with the branches of watches
 
--- how a run of these clones with these watches may end: the clones of the whole run are theirs and the branches; at the
--- limit any station and clone with a log beyond it may be told
+-- how a run of these clones with these watches may end: its clones are these and the branches; at the limit any station
+-- and clone with a log beyond it may be reported
 abbrev pub MayRunWatched : Net → List Clone → List Watch → Ending → Type 0
 MayRunWatched net clones ws end = MayRun net (clones_with_branches net clones ws)
     (IsOver net (clones_with_branches net clones ws)) (run_texts net (clones_with_branches net clones ws)) end
 
--- how it may end with a text of watches: it is refused, or a watch does not fit
+-- how a study with a text of watches may end: the text is refused, a watch does not fit, or it is run
 pub data MayWatch (text : List ℕ) (net : Net) (clones : List Clone) : Ending → Type 0 where
   bad_watches : (fault : WatchFault) → watches text ≡ Err fault
       → MayWatch text net clones (early_stop (BadWatches fault))
@@ -120,8 +120,8 @@ pub data MayWatch (text : List ℕ) (net : Net) (clones : List Clone) : Ending �
 
 -- ---- one clone alone
 
--- how a run of the clone of this name alone may end: this part of the clone is run, and this is written of the clone,
--- unless it exceeds a limit
+-- how a run of the named clone alone may end: this part of the clone is run, and `written` is its text, unless it
+-- exceeds a limit
 pub data MayRunAlone (net : Net) (clones : List Clone) (name : List ℕ) (part : Clone → Clone)
     (written : Clone → Result (List ℕ) Excess) : Ending → Type 0 where
   no_clone : place_of name clones ≡ None → MayRunAlone net clones name part written (early_stop (NoClone name))
@@ -140,21 +140,21 @@ pub data MayRunAlone (net : Net) (clones : List Clone) (name : List ℕ) (part :
 abbrev pub whole : Clone → Clone
 whole c = c
 
--- and writes its trace text
+-- the text that `solo` writes: the clone's trace
 abbrev pub solo_text : Net → Clone → Result (List ℕ) Excess
 solo_text net c = Ok (clone_text net c)
 
 -- ---- the modes
 
--- how the simulation of decided clones may end
+-- how the simulation of a plan may end
 abbrev pub MaySimulate : Mode → Net → List Clone → Ending → Type 0
 MaySimulate (Solo name) net clones end = MayRunAlone net clones name whole (solo_text net) end
 MaySimulate Links net clones end = MayRunLinked net clones end
 MaySimulate mode net clones end = MayRun net clones (mode_meets mode net clones) (mode_texts mode net clones) end
 
--- how a live study of a script may end: some journal of its analysts, and what they saw, are the first text; then comes
--- what a run of the clones that the journal leaves writes; or the limit is met at the journal's last front, and the
--- journal is told
+-- how a live study of a script may end: it writes the text of some journal of its analysts, with what they saw, and
+-- then what `run` writes for that journal's clones; or the limit is met at the journal's last front, and the journal is
+-- put before the error line
 pub data MayLive (net : Net) (s : ScriptView) : Ending → Type 0 where
   finished : (book : BookView) (looks : List Looked) → IsJournalOf net s book
       → (after net book.events).front ≡ net.horizon → AreLooks net s book.events looks
@@ -169,8 +169,7 @@ pub data MayLive (net : Net) (s : ScriptView) : Ending → Type 0 where
       (limit_met_at net station (clone_at (after net book.events).clones who).name)
       (most_handled net (length (after net book.events).clones)))
 
--- how a script's study of a model may end, if its decisions are all made first: one is refused, or the clones that
--- they leave are simulated
+-- how a study of a script may end if its decisions are all made first: one is refused, or their clones are simulated
 pub data MayDecide (simulates : List Clone → Ending → Type 0) (net : Net) (s : ScriptView) : Ending → Type 0 where
   refused_decision : (reply : Reply) (line : ℕ) → first_refused net s ≡ Some (reply, line)
       → MayDecide simulates net s (early_stop (BadDecision reply line))
@@ -181,31 +180,31 @@ pub data MayDecide (simulates : List Clone → Ending → Type 0) (net : Net) (s
 abbrev pub MayEnd : Mode → Net → ScriptView → Ending → Type 0
 MayEnd mode net s end = MayDecide (MaySimulate mode net) net s end
 
--- how a study may end whose script has this text
+-- how a study with a script of this text may end
 pub data MayStudy (ends : ScriptView → Ending → Type 0) (s : List ℕ) : Ending → Type 0 where
   bad_script : (fault : ScriptFault) → script s ≡ Err fault → MayStudy ends s (early_stop (BadScript fault))
   study : (stated : ScriptView) (end : Ending) → script s ≡ Ok stated → ends stated end → MayStudy ends s end
 
--- how an assignment over a model may end, by its other texts
+-- how an assignment over a model may end, from its other texts
 abbrev pub MayFollow : AssignmentView → (Text → List ℕ) → Net → Ending → Type 0
 MayFollow (Study source mode) t net end = MayStudy (MayEnd mode net) (t Script) end
 MayFollow (Live m s) t net end = MayStudy (MayLive net) (t Script) end
 MayFollow (asked.Watch m s w) t net end = MayStudy (MayDecide (MayWatch (t Watches) net) net) (t Script) end
 
--- how an assignment of these texts may end
+-- how an assignment with these texts may end
 pub data MayEndByTexts (a : AssignmentView) (t : Text → List ℕ) : Ending → Type 0 where
   bad_model : (fault : ModelFault) → model (t Model) ≡ Err fault → MayEndByTexts a t (early_stop (BadModel fault))
   read : (net : Net) (end : Ending) → model (t Model) ≡ Ok net → MayFollow a t net end → MayEndByTexts a t end
 
--- ---- what was written, and why it stopped
+-- ---- what was written, or why nothing was
 
--- what was written for an ending for which this holds; the steps are the messages handled
+-- what was written for an ending with property `P`; the steps are the messages handled
 pub record HasWritten (P : Ending → Type 0) (old_steps new_steps : ℕ) (texts : List (List ℕ)) : Type 0 where
   pub work : ℕ
   pub may : P (whole_output texts work)
   pub steps : new_steps ≡ old_steps + work
 
--- an excess of an ending for which this holds, with what is told before its line
+-- the excess of an ending with property `P`, and what is put before its error line
 pub record IsExcessOf (P : Ending → Type 0) (old_steps new_steps : ℕ) (told : List (List ℕ)) (excess : Excess) :
     Type 0 where
   pub most : ℕ

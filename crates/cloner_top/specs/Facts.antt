@@ -1,4 +1,4 @@
--- What an answer of the program says, one fact at a time.
+-- What each status means, one fact at a time.
 use Rattle.std.specs.Prelude.{◌≡◌, ◌⊎◌, ℕ, ◌+◌, ◌/◌, ◌≤◌, List, [], ◌∷◌, ◌++◌, length, Option, Some, None, Result, Ok}
 use Rattle.sim_base.specs.Clones.{Clone, clone_at, place_of}
 use Rattle.sim_outer.specs.Counts.{AreCounted, HasRisen}
@@ -45,13 +45,13 @@ pub record IsReadStudy (files : Option Files) (a : AssignmentView) (net : Net) (
   pub is_model : model (t Model) ≡ Ok net
   pub is_script : script (t Script) ≡ Ok stated
 
--- and the decisions of the script are all accepted
+-- and all decisions of the script are accepted
 pub record IsStudy (files : Option Files) (a : AssignmentView) (net : Net) (stated : ScriptView) : Type 0 where
   pub read : IsReadStudy files a net stated
   pub accepted : first_refused net stated ≡ None
 
--- all clones were run, no log of any is beyond the limit, and these texts were put, each in one call; a step for each
--- message that the clones do not share
+-- all clones were run, none of their logs is beyond the limit, and these texts were put, each in one call; the steps
+-- count each message that clones share once
 pub record WritesAll (texts : Net → List Clone → List (List ℕ)) (before after : Outside) (a : AssignmentView) :
     Type 0 where
   pub net : Net
@@ -61,8 +61,7 @@ pub record WritesAll (texts : Net → List Clone → List (List ℕ)) (before af
   pub put : ArePut (texts net (clones_of net stated)) before.output after.output
   pub steps : after.steps ≡ before.steps + total_handled net (clones_of net stated) net.horizon
 
--- this part of the clone of this name was run alone, none of its logs is beyond the limit, and the text of the clone
--- was put
+-- this part of the named clone was run alone, none of its logs is beyond the limit, and its text was put
 pub record WritesOne (name : List ℕ) (part : Net → Clone → Clone) (written : Net → Clone → Result (List ℕ) Excess)
     (before after : Outside) (a : AssignmentView) : Type 0 where
   pub net : Net
@@ -76,9 +75,9 @@ pub record WritesOne (name : List ℕ) (part : Net → Clone → Clone) (written
   pub put : ArePut (text ∷ []) before.output after.output
   pub steps : after.steps ≡ before.steps + length (trace_of net (part net (clone_at (clones_of net stated) place)))
 
--- analysts decided and looked while all clones were run: the journal is legal, each analyst's decisions stand in it in
--- order and no others, it comes to the horizon, and what was seen at each look of the script is true; its text was put,
--- and then what a run of the clones that it leaves writes
+-- analysts decided and looked while all clones were run up to the horizon; the journal is legal, has exactly the
+-- decisions of each analyst in order, and what was seen at each look is true; its text was put, and then what `run`
+-- writes for the journal's clones
 pub record WritesLive (before after : Outside) (a : AssignmentView) : Type 0 where
   pub net : Net
   pub stated : ScriptView
@@ -94,8 +93,8 @@ pub record WritesLive (before after : Outside) (a : AssignmentView) : Type 0 whe
       before.output after.output
   pub steps : after.steps ≡ before.steps + total_handled net (after_events net book.events).clones net.horizon
 
--- all clones were run, kept in step by the clocks of links, no log of any is beyond the limit, and what a run writes
--- was put, and then the line of the rounds
+-- all clones were run in rounds, and none of their logs is beyond the limit; what `run` writes was put, followed by the
+-- line with the number of rounds
 pub record WritesLinked (before after : Outside) (a : AssignmentView) : Type 0 where
   pub net : Net
   pub stated : ScriptView
@@ -107,8 +106,8 @@ pub record WritesLinked (before after : Outside) (a : AssignmentView) : Type 0 w
   pub put : ArePut (run_texts net (clones_of net stated) ++ rounds_line rounds ∷ []) before.output after.output
   pub steps : after.steps ≡ before.steps + total_handled net (clones_of net stated) net.horizon
 
--- all clones of the script and the branches of the watches were run, no log of any is beyond the limit, and what a run
--- of them writes was put, in the order of the watches
+-- all clones of the script and the branches of the watches were run, and none of their logs is beyond the limit; what
+-- `run` writes was put, in the order of the watches
 pub record WritesWatched (before after : Outside) (a : AssignmentView) : Type 0 where
   pub net : Net
   pub stated : ScriptView
@@ -121,21 +120,20 @@ pub record WritesWatched (before after : Outside) (a : AssignmentView) : Type 0 
   pub steps : after.steps
       ≡ before.steps + total_handled net (clones_with_branches net (clones_of net stated) ws) net.horizon
 
--- what a mode writes: of all clones the texts of its row, by the clocks of links also the rounds, of one clone its
--- trace text
+-- what a mode writes: the trace of one clone, the texts of a run and the rounds, or the texts of its row
 abbrev pub WritesIn : Mode → Outside → Outside → AssignmentView → Type 0
 WritesIn (Solo name) before after a = WritesOne name (λ net. whole) solo_text before after a
 WritesIn Links before after a = WritesLinked before after a
 WritesIn mode before after a = WritesAll (mode_texts mode) before after a
 
--- what is written: what the mode writes, of a live study the journal and then the texts of a run, or with watches the
--- texts of a run with their branches
+-- what is written: the texts of a study's mode; the journal of a live study and the texts of a run; or, with watches,
+-- the texts of a run with their branches
 abbrev pub Writes : AssignmentView → Outside → Outside → Type 0
 Writes (Study source mode) before after = WritesIn mode before after (Study source mode)
 Writes (Live m s) before after = WritesLive before after (Live m s)
 Writes (Watch m s w) before after = WritesWatched before after (Watch m s w)
 
--- status 0: the whole output is written, and nothing told
+-- status 0: the whole output is written, and the error sink is unchanged
 pub record IsWritten (words : Option AssignmentView) (before after : Outside) : Type 0 where
   pub a : AssignmentView
   pub asks : words ≡ Some a
@@ -143,7 +141,7 @@ pub record IsWritten (words : Option AssignmentView) (before after : Outside) : 
   pub fetches : AreCounted (all_fetches a) before.inputs.calls after.inputs.calls
   pub quiet : after.errors ≡ before.errors
 
--- status 3: a text that was due was not read
+-- status 3: a required text was not read
 pub record IsUnreadFor (words : Option AssignmentView) (before after : Outside) : Type 0 where
   pub a : AssignmentView
   pub asks : words ≡ Some a
@@ -151,8 +149,8 @@ pub record IsUnreadFor (words : Option AssignmentView) (before after : Outside) 
   pub due : IsDue a before.inputs.files text
   pub unread : IsUnread (InputsFailed before after) a before.inputs.files text
 
--- the cause of a status, with what is told: a stop before any message is handled, or an excess, where at most as many
--- messages were handled as the limit allows
+-- the cause of a status, with what is put before its error line: the study is not run, or a limit is exceeded after at
+-- most as many messages as it allows
 pub data IsCause (words : Option AssignmentView) (before after : Outside) : ℕ → List (List ℕ) → List ℕ → Type 0 where
   at_once : (a : AssignmentView) (stop : Stop) → words ≡ Some a
       → IsLawfulEnding before.inputs.files a (early_stop stop) → after.steps ≡ before.steps
@@ -161,15 +159,15 @@ pub data IsCause (words : Option AssignmentView) (before after : Outside) : ℕ 
       → IsExcessOf (IsLawfulEnding before.inputs.files a) before.steps after.steps told excess
       → IsCause words before after (excess_status excess) told (excess_line excess)
 
--- every status from 4 on but 8: a stop or an excess; a line is told, and before it the journal of a live study that met
--- the limit
+-- statuses from 4 except 8: the study is not run, or a limit is exceeded; an error line is put, and before it the
+-- journal of a live study that met the limit
 pub record IsStoppedFor (words : Option AssignmentView) (before after : Outside) (status : ℕ) : Type 0 where
   pub told : List (List ℕ)
   pub line : List ℕ
   pub cause : IsCause words before after status told line
   pub told_is : ArePutOrCut (told ++ line ∷ []) before.errors after.errors
 
--- status 8: a prefix of the output was written, and the output had a fault
+-- status 8: a prefix of the output was written, and a write failed
 pub record IsCutFor (words : Option AssignmentView) (before after : Outside) : Type 0 where
   pub a : AssignmentView
   pub asks : words ≡ Some a
@@ -181,12 +179,12 @@ IsLive (Study source mode) = ⊥
 IsLive (Live m s) = Unit {0}
 IsLive (Watch m s w) = ⊥
 
--- what is told before the line: nothing, or, at the limit of a live study, one text
+-- what is put before the error line: nothing, or one text at the limit of a live study
 abbrev pub ArePreceded : Option AssignmentView → ℕ → List (List ℕ) → Type 0
 ArePreceded words status told = (told ≡ [])
     ⊎ ((status ≡ 7) × ((length told ≡ 1) × ((a : AssignmentView) × ((words ≡ Some a) × IsLive a))))
 
--- after any status but 0 a line tells why
+-- after any status except 0 an error line is put
 pub record IsToldFor (words : Option AssignmentView) (before after : Outside) (status : ℕ) : Type 0 where
   pub told : List (List ℕ)
   pub refusal : Refusal
@@ -194,14 +192,14 @@ pub record IsToldFor (words : Option AssignmentView) (before after : Outside) (s
   pub preceded : ArePreceded words status told
   pub told_is : ArePutOrCut (told ++ error_line refusal ∷ []) before.errors after.errors
 
--- the status of an ending: of one that writes 0, or 8 with a fault of the output
+-- the status of an ending: if it writes texts 0, or 8 if a write failed
 abbrev pub IsStatusOf : Ending → Type 0 → ℕ → Type 0
 IsStatusOf (whole_output texts work) output_failed status = (status ≡ 0) ⊎ ((status ≡ 8) × output_failed)
 IsStatusOf (early_stop stop) output_failed status = status ≡ stop_status stop
 IsStatusOf (overrun told excess most) output_failed status = status ≡ excess_status excess
 
--- if the inputs have no fault, a lawful ending comes, or out of memory; or the files are known, and one that is due is
--- not there
+-- if no input operation fails, the program runs out of memory, or reaches an allowed ending, or a required file is
+-- known to be missing
 abbrev pub Completes : Option AssignmentView → Outside → Outside → ℕ → Type 0
 Completes None before after status = (status ≡ 1) ⊎ (status ≡ 2)
 Completes (Some a) before after status = ¬ (InputsFailed before after)
@@ -210,12 +208,12 @@ Completes (Some a) before after status = ¬ (InputsFailed before after)
     ⊎ ((end : Ending) × (IsLawfulEnding before.inputs.files a end
     × IsStatusOf end (HasRisen before.output.faults after.output.faults) status)))
 
--- how many fetches the words ask for
+-- the number of fetches for the words
 abbrev pub fetches_for : Option AssignmentView → ℕ
 fetches_for None = 0
 fetches_for (Some a) = all_fetches a
 
--- there were at most so many fetches
+-- at most this number of fetches was made
 pub record AreFewFetches (words : Option AssignmentView) (before after : Outside) : Type 0 where
   pub fetches : ℕ
   pub few : fetches ≤ fetches_for words

@@ -1,4 +1,4 @@
--- The journal of a live study makes `run` write what the study wrote.
+-- `run` with the journal of a live study writes what the study wrote.
 use Rattle.std.specs.Prelude.{◌≡◌, Ok}
 use Rattle.net_model.specs.Net.{Net}
 use Rattle.net_model.specs.Rules.{IsNet}
@@ -14,8 +14,8 @@ use Rattle.live_study.specs.Scripts.{IsJournalOf}
 use Rattle.command_words.specs.declared.request.Mode.TheVariants.{Run}
 use Rattle.cloner_top.specs.Endings.{MayEnd, run_texts, whole_output}
 
--- the lines of a journal's calls and fronts, without comments, are read as a script, with which `run` may end by
--- writing the texts of the clones that the journal leaves
+-- the lines of a journal's calls and fronts, without comments, are read as a script; `run` with it may end by writing
+-- the texts of the journal's clones
 pub record IsRunAgain (net : Net) (s : ScriptView) (book : BookView) : Type 0 where
   pub again : ScriptView
   pub read : script (without_comments (events_text s.analysts book.events)) ≡ Ok again
@@ -23,7 +23,7 @@ pub record IsRunAgain (net : Net) (s : ScriptView) (book : BookView) : Type 0 wh
       (whole_output (run_texts net (after net book.events).clones)
       (total_handled net (after net book.events).clones net.horizon))
 
--- so it is of each journal of a script over a network, of which no log is beyond the limit
+-- this holds for each journal of a script over a network, if no log is beyond the limit
 abbrev pub JournalRunsTheSame : Type 0
 JournalRunsTheSame = (net : Net) (s : ScriptView) (book : BookView) → IsNet net → IsScript s
     → IsJournalOf net s book → AreWithin net (after net book.events).clones → IsRunAgain net s book

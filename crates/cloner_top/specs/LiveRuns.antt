@@ -1,4 +1,4 @@
--- What a live study leaves, for its texts.
+-- The result of a live study, from which its texts are made.
 use Rattle.std.specs.Prelude.{◌≡◌, ℕ, ◌+◌, ◌<◌, List, [], ◌∷◌, length, IfOk, IfErr}
 use Rattle.sim_base.specs.Clones.{clone_at}
 use Rattle.net_model.specs.Net.{Net, HasStation}
@@ -25,18 +25,18 @@ pub record IsJournaledRun (net : Net) (s : ScriptView) (old_steps new_steps : �
   pub idle : IfErr live.run (λ e. new_steps ≡ old_steps)
   pub text_is : text ≡ journal_text s.analysts live.book.events (all_looks live.looks.items)
 
--- the station and the clone of a limit are there
+-- the station and the clone of a limit exist
 abbrev pub NamesStationAndClone : Net → List Event → StudyFault → Type 0
 NamesStationAndClone net events NoMemory = Unit {0}
 NamesStationAndClone net events (LimitMet station who) =
     HasStation net station × (who < length (after net events).clones)
 
--- it halts with this text and this excess
+-- the halt has this text and this excess
 abbrev pub IsOverrun : List ℕ → Excess → Halt → Type 0
 IsOverrun text excess (Refused refusal) = ⊥
 IsOverrun text excess (Overrun journal is) = (journal.items ≡ text) × (is ≡ excess)
 
--- how it halts where the run did
+-- the halt for an error of the run
 abbrev pub HaltsFor : Net → List Event → List ℕ → StudyFault → Halt → Type 0
 HaltsFor net events text NoMemory halt = halt ≡ Refused OutOfMemory
 HaltsFor net events text (LimitMet station who) halt =
@@ -50,7 +50,7 @@ pub record IsLiveWorld (net : Net) (s : ScriptView) (old_steps new_steps : ℕ) 
       (total_handled net world.clones net.horizon))
   pub steps : new_steps ≡ old_steps + total_handled net world.clones net.horizon
 
--- why there is none: out of memory needs no cause; else the limit is met, and the journal is told
+-- why there is no world: out of memory, or a limit is exceeded and the journal is put before the error line
 abbrev pub StopsLive : Net → ScriptView → ℕ → ℕ → Halt → Type 0
 StopsLive net s old_steps new_steps (Refused OutOfMemory) = Unit {0}
 StopsLive net s old_steps new_steps (Refused refusal) = ⊥

@@ -1,4 +1,4 @@
--- What is ready to be run: all that is asked was read and decided, and no message is handled yet.
+-- Studies that are ready to run: all texts are read, and no message is handled yet.
 use Rattle.std.specs.Prelude.{◌≡◌, Option, Ok}
 use Rattle.sim_outer.specs.Files.{Files}
 use Rattle.command_words.specs.Requests.{AssignmentView}
@@ -13,25 +13,25 @@ use Rattle.cloner_top.specs.Deciding.{clones_of_book}
 use Rattle.cloner_top.specs.Endings.{Ending, MayLive, MayRunWatched, MaySimulate, early_stop}
 use Rattle.cloner_top.specs.Texts.{IsDue, IsUnread}
 
--- how it may end
+-- how a prepared study may end
 abbrev pub MayEndFrom : Prepared → Ending → Type 0
 MayEndFrom (Decided decided) end =
     MaySimulate decided.mode decided.plan.model.value (clones_of_book decided.plan.book) end
 MayEndFrom (Undecided study) end = MayLive study.model.value study.script end
 MayEndFrom (Watching w) end = MayRunWatched w.plan.model.value (clones_of_book w.plan.book) w.watches end
 
--- the decisions that are made were all accepted, and the watches fit
+-- all decisions in the plan were accepted, and the watches fit
 abbrev pub IsReady : Prepared → Type 0
 IsReady (Decided decided) = IsAcceptedJournal decided.plan.book.net decided.plan.book.events
 IsReady (Undecided study) = Unit {0}
 IsReady (Watching w) = IsAcceptedJournal w.plan.book.net w.plan.book.events
     × (fit w.plan.model.value (clones_of_book w.plan.book) w.watches ≡ Ok tt)
 
--- it is what is asked: however it ends, that is a lawful ending
+-- each ending of the prepared study is one that the assignment allows
 abbrev pub IsPrepared : Option Files → AssignmentView → Prepared → Type 0
 IsPrepared files a p = (end : Ending) → MayEndFrom p end → IsLawfulEnding files a end
 
--- why nothing is ready: out of memory, a text that was due was not read, or it stops
+-- why nothing is ready: out of memory, a required text was not read, or the study is not run
 abbrev pub IsNotPrepared : Type 0 → Option Files → AssignmentView → Refusal → Type 0
 IsNotPrepared rose files a OutOfMemory = Unit {0}
 IsNotPrepared rose files a (NotRead text) = IsDue a files text × IsUnread rose a files text

@@ -1,4 +1,4 @@
--- Texts that are fetched and read, and why not.
+-- Texts that are fetched and read, and the errors in them.
 use Rattle.std.specs.Prelude.{◌≡◌, ℕ, List, [], Option, Ok, Err}
 use Rattle.sim_base.specs.Clones.{Clone}
 use Rattle.sim_outer.specs.Files.{Files}
@@ -23,13 +23,13 @@ use Rattle.cloner_top.specs.declared.stop.Stop.{Stop}
 use Rattle.cloner_top.specs.declared.stop.Stop.TheVariants.{BadModel, BadScript, BadWatch, BadWatches}
 use Rattle.cloner_top.specs.Texts.{IsTextOf, IsUnread, Origin, in_file, made, not_asked}
 
--- the text that is made of a number: a model or a script
+-- the text that is generated from a number: a model or a script
 abbrev pub made_text : Text → ℕ → List ℕ
 made_text Model n = model_text n
 made_text Script n = canonical_text made_script
 made_text Watches n = []
 
--- where a text comes from, as plain data
+-- the source of a text, as plain data
 abbrev pub origin_view : code.Origin → Text → Origin
 origin_view (from.InFile name) text = in_file name.now
 origin_view (from.Made number) text = made (made_text text number)
@@ -41,12 +41,12 @@ IsNotFetched rose a files text OutOfMemory = Unit {0}
 IsNotFetched rose a files text (NotRead which) = (which ≡ text) × IsUnread rose a files text
 IsNotFetched rose a files text refusal = ⊥
 
--- the rule of models that a text breaks
+-- the model rule that a text breaks
 abbrev pub IsBadModel : List ℕ → Stop → Type 0
 IsBadModel text (BadModel fault) = model text ≡ Err fault
 IsBadModel text stop = ⊥
 
--- and the rule of scripts
+-- the script rule that a text breaks
 abbrev pub IsBadScript : List ℕ → Stop → Type 0
 IsBadScript text (BadScript fault) = script text ≡ Err fault
 IsBadScript text stop = ⊥
@@ -73,7 +73,7 @@ pub record IsScriptOf (a : AssignmentView) (files : Option Files) (stated : Scri
   pub text : IsTextOf a files Script s
   pub is_script : script s ≡ Ok stated
 
--- the script's text is none, for which it stops
+-- the script's text is not a script, which this stop reports
 pub record IsNoScriptOf (a : AssignmentView) (files : Option Files) (stop : Stop) : Type 0 where
   pub s : List ℕ
   pub text : IsTextOf a files Script s

@@ -1,4 +1,4 @@
--- The statuses of the program, and the lines that tell why.
+-- The exit statuses and the error lines.
 use Rattle.std.specs.Prelude.{ℕ, List, codes}
 use Rattle.command_words.specs.declared.request.WordsFault.{WordsFault}
 use Rattle.command_words.specs.declared.request.WordsFault.TheVariants as fault
@@ -35,13 +35,13 @@ error_line (Stopped stop) = stop_line stop
 error_line (Exceeded excess) = excess_line excess
 error_line CannotWrite = codes "cloner: cannot write\n"
 
--- out of memory, or a stop for which this holds
+-- out of memory, or a stop with this property
 abbrev pub IsMemoryOrStop : (Stop → Type 0) → Refusal → Type 0
 IsMemoryOrStop P OutOfMemory = Unit {0}
 IsMemoryOrStop P (Stopped stop) = P stop
 IsMemoryOrStop P refusal = ⊥
 
--- why words are not read
+-- the refusal for each error in the command line
 abbrev pub words_refusal : WordsFault → Refusal
 words_refusal fault.NoMemory = OutOfMemory
 words_refusal fault.Usage = Usage

@@ -1,4 +1,4 @@
--- When the texts of a run may be put, and what they are once all memory was taken.
+-- When the texts of a run may be put, and what they are once all memory is allocated.
 use Rattle.std.specs.Prelude.{◌≡◌, List}
 use Rattle.sim_base.specs.Clones.{Clone}
 use Rattle.net_model.specs.Net.{Net}
@@ -14,7 +14,7 @@ pub record MayPutRun (net : Net) (world : WorldView) : Type 0 where
   pub may_report : MayReport net world
   pub short : AreShort world.clones
 
--- what is prepared are the texts of these clones, and their report
+-- the prepared texts are those of these clones, and their report
 pub record IsReadyRun (net : Net) (clones : List Clone) (run : RunTexts) : Type 0 where
   pub net_is : run.traces.net ≡ net
   pub clones_are : run.traces.clones ≡ clones

@@ -1,4 +1,4 @@
--- Why a study is not written, before any message is handled or after some were: its status, and the line that tells it.
+-- Exit statuses and error lines of studies that are not run, or that exceed a limit.
 use Rattle.std.specs.Prelude.{ℕ, ◌++◌, List, [], Option, Some, None, codes, decimal}
 use Rattle.net_model.specs.declared.fault.ModelFault.{ModelFault}
 use Rattle.net_model.specs.Faults.{fault_key, fault_number, fault_place}
@@ -23,35 +23,35 @@ stop_status (NoClone name) = 6
 stop_status (BadWatches fault) = 9
 stop_status (BadWatch reply line) = 9
 
--- and for each excess
+-- the status for each excess
 abbrev pub excess_status : Excess → ℕ
 excess_status (LimitMet limit station clone) = 7
 
--- what a line says of a key, nothing where there is none
+-- how a line names a key; empty if there is none
 abbrev pub key_part : Option (List ℕ) → List ℕ
 key_part None = []
 key_part (Some key) = codes " key " ++ key
 
--- the first rule of a model that is broken: its number, the station, and the key if it has one
+-- the first broken rule of a model: its number, the station, and the key if it has one
 abbrev pub model_line : ModelFault → List ℕ
 model_line fault =
     codes "cloner: model: refusal " ++ decimal (fault_number fault) ++ codes " at station "
     ++ decimal (fault_place fault)
     ++ key_part (fault_key fault) ++ codes "\n"
 
--- the first rule of a script that is broken
+-- the first broken rule of a script
 abbrev pub script_line : ScriptFault → List ℕ
 script_line fault =
     codes "cloner: script: refusal " ++ decimal (script.fault_number fault) ++ codes " at line "
     ++ decimal (script.fault_line fault) ++ codes "\n"
 
--- the first decision that is refused
+-- the first refused decision
 abbrev pub decision_line : Reply → ℕ → List ℕ
 decision_line reply line =
     codes "cloner: decision: refusal " ++ decimal (reply_number reply) ++ codes " at line " ++ decimal line
     ++ codes "\n"
 
--- the first rule of watches that is broken
+-- the first broken rule of watches
 abbrev pub watches_line : WatchFault → List ℕ
 watches_line fault =
     codes "cloner: watches: refusal " ++ decimal (watch.fault_number fault) ++ codes " at line "
@@ -82,6 +82,6 @@ stop_line (NoClone name) = no_clone_line name
 stop_line (BadWatches fault) = watches_line fault
 stop_line (BadWatch reply line) = watch_line reply line
 
--- and for each excess
+-- the line for each excess
 abbrev pub excess_line : Excess → List ℕ
 excess_line (LimitMet limit station clone) = limit_line limit station clone

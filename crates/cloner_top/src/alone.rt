@@ -1,4 +1,4 @@
-//! Runs one clone of a plan alone, and puts its text.
+//! Runs one clone of a plan alone, and writes its trace.
 ghost use Rattle.cloner_top.specs.Deciding.{clones_of_book};
 ghost use Rattle.cloner_top.specs.Endings.{MayRunAlone, solo_text, whole};
 ghost use Rattle.cloner_top.specs.Outsides.{IsDone};
@@ -14,7 +14,7 @@ use std::alloc::Global;
 use std::sync::ledger::Ledger;
 use study_run::{StudyFault, run_alone};
 
-/// Runs the clone of a name alone, and writes its trace.
+/// Runs the named clone alone, and writes its trace.
 pub(crate) fn write_alone<O: Sink, L: Ledger>(
     alloc: Global,
     name: &Name,

@@ -1,4 +1,4 @@
-//! Decides what a script asks for.
+//! Makes the decisions of a script.
 ghost use Rattle.std.specs.Prelude.{◌≡◌, IfErr, IfOk, OnOk};
 ghost use Rattle.decision_book.specs.Journal.{after};
 ghost use Rattle.cloner_top.specs.Deciding.{AcceptsAct, IsDecided, IsRefusal, RefusesAct, journal_after};
@@ -13,7 +13,7 @@ use net_model::Model;
 use std::alloc::Global;
 use std::sync::Arc;
 
-// Makes the decision of an item, or passes over a look. A decision that is refused stops the study.
+// Makes the decision of an item, or skips a look. A refused decision stops the study.
 fn decide_item(book: &mut Book, item: &Item) -> Result<(), Stop>
     ensures events { book.new.events ≡ journal_after book.old.net book.old.events item.now.analyst item.now.act }
     ensures ok { OnOk result (AcceptsAct (after book.old.net book.old.events) item.now.act) }
@@ -35,8 +35,8 @@ fn decide_item(book: &mut Book, item: &Item) -> Result<(), Stop>
     }
 }
 
-/// The book of a model in which the decisions of a script were made, in its order at front 0 and each by its analyst,
-/// where all were accepted, and else the first refusal. Looks are passed over.
+/// Returns the book after all decisions of a script, or the first refusal. The decisions are made at front 0 in script
+/// order, each by its analyst. Looks are skipped.
 pub(crate) fn decide_script(
     alloc: Global,
     model: Arc<Model>,

@@ -1,4 +1,4 @@
-//! The one line that tells why there is no output.
+//! Text lines of bounded length: the error message, and the rounds of `links`.
 ghost use Rattle.std.specs.Prelude.{◌≡◌, ◌+◌, ◌≤◌, ◌++◌, [], decimal, length};
 ghost use Rattle.cloner_top.specs.declared.error_line.TheConstants.{LONGEST_LINE};
 ghost use Rattle.sim_base.specs.declared.name.TheConstants.{LONGEST_NAME};
@@ -9,11 +9,10 @@ use itoa::Buffer;
 use sim_base::Name;
 use std::marker::Model;
 
-/// The most bytes of a line: more than the longest usage line has.
+/// The maximum number of bytes in a line. The longest usage line is shorter.
 pub const LONGEST_LINE: usize = 320;
 
-/// A line of at most [`LONGEST_LINE`] bytes, in a buffer of its own: of the error sink, or the rounds of `links`. It
-/// takes no memory.
+/// A text line of at most [`LONGEST_LINE`] bytes: an error message, or the rounds of `links`. It needs no allocation.
 #[derive(Drop)]
 pub struct ErrorLine {
     text: ArrayString<LONGEST_LINE>,
@@ -28,7 +27,7 @@ impl Model for ErrorLine {
 }
 
 impl ErrorLine {
-    /// A line that has nothing yet.
+    /// Returns an empty line.
     pub fn new() -> ErrorLine
         ensures { result ≡ [] }
     {
@@ -67,7 +66,7 @@ impl ErrorLine {
         self.push(name.text());
     }
 
-    /// Its text.
+    /// Returns its text.
     pub fn text(&self) -> &str
         ensures { result.now ≡ self.now }
     {

@@ -1,14 +1,14 @@
-//! What exceeds a limit, which is found while messages are handled.
+//! Limits that a run exceeds while it handles messages.
 ghost use Rattle.std.specs.Prelude.{◌≡◌};
 ghost use Rattle.cloner_top.specs.Stops.{excess_line, excess_status, limit_line};
 
 use crate::error_line::ErrorLine;
 use sim_base::Name;
 
-/// What exceeds a limit.
+/// The limit that a run exceeded.
 #[derive(Clone, Copy, Debug, PartialEq, Eq)]
 pub enum Excess {
-    /// The log of this station in this clone.
+    /// The log of this station in this clone got longer than the limit.
     LimitMet {
         limit: u64,
         station: Name,
@@ -16,7 +16,7 @@ pub enum Excess {
     },
 }
 
-// The line of a limit that is met.
+// The error line for an exceeded limit.
 fn line_of_limit(limit: u64, station: &Name, clone: &Name) -> ErrorLine
     ensures { result ≡ limit_line limit station.now clone.now }
 {
@@ -32,7 +32,7 @@ fn line_of_limit(limit: u64, station: &Name, clone: &Name) -> ErrorLine
 }
 
 impl Excess {
-    /// The status of the program.
+    /// Returns the exit status.
     pub fn status(&self) -> u8
         ensures { result ≡ excess_status self.now }
     {
@@ -41,7 +41,7 @@ impl Excess {
         }
     }
 
-    /// The line that tells it.
+    /// Returns the error line.
     pub fn line(&self) -> ErrorLine
         ensures { result ≡ excess_line self.now }
     {

@@ -1,12 +1,12 @@
-//! Why the program stops, and what is told before the line that says so.
+//! Why the program stops, and what it prints before the error line.
 use crate::excess::Excess;
 use crate::refusal::Refusal;
 
-/// Why nothing is written, or not all.
+/// Why the output is missing or incomplete.
 #[derive(Drop)]
 pub enum Halt {
-    /// Nothing is told but the line.
+    /// Only the error line is printed.
     Refused(Refusal),
-    /// The limit is met in a live study: its journal is told before the line.
+    /// A live study exceeded the limit: its journal is printed before the error line.
     Overrun { journal: Vec<u8>, excess: Excess },
 }

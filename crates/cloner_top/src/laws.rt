@@ -1,25 +1,25 @@
-//! Laws of what the program answers: a branch's own script, and a live study's journal, write the same; and what a
-//! fetch gives of a file states what the file states.
+//! Laws on the program's results: a clone's own script and a live study's journal reproduce the output. The part of a
+//! file that a fetch returns is read as the whole file is.
 ghost use Rattle.cloner_top.specs.Journals.{JournalRunsTheSame};
 ghost use Rattle.cloner_top.specs.OwnScripts.{OwnScriptWritesTheSame};
 ghost use Rattle.cloner_top.specs.Prefixes.{PrefixesStateTheSame};
 
-/// Where all decisions of a script are accepted, `solo` of a clone may end with the clone's own script exactly as with
+/// If all decisions of a script are accepted, `solo` has the same possible endings with the clone's own script as with
 /// the whole script.
 #[tactic(auto, using(crate::proofs::OwnScriptLaws::own_script))]
 pub fn own_script_writes_the_same()
     ensures { OwnScriptWritesTheSame }
 {}
 
-/// The lines of a live study's journal, without comments, are a script, with which `run` may end by writing the traces
-/// and the report that the study wrote behind its journal.
+/// The lines of a live study's journal, without comments, are a script. `run` with that script may end by writing the
+/// same traces and report as the study.
 #[tactic(auto, using(crate::proofs::JournalLaws::journal_runs))]
 pub fn journal_runs_the_same()
     ensures { JournalRunsTheSame }
 {}
 
-/// Of each file, the bytes that a fetch gives state the same model and the same script as the whole file, also where it
-/// has more: then both are refused as too long.
+/// The bytes that a fetch returns are read as the same model and script as the whole file. This includes files that are
+/// longer than a fetch: both texts are then refused as too long.
 pub fn prefixes_state_the_same()
     ensures { PrefixesStateTheSame }
 {}

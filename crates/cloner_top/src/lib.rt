@@ -1,8 +1,8 @@
-//! The program as one call: the words of the command line, files and sinks in, a status out.
+//! The program as one call: it takes the command line, files and sinks, and returns an exit status.
 //!
-//! A planner asks by a model and a script of decisions; `cloner` reads both, decides, runs all branches in one world,
-//! which computes once what they have in common, and writes each one's trace and a report of what was shared. The
-//! steps, each with a definition of its own in `specs/`:
+//! The input is a model and a script of decisions. `cloner` reads both, makes the decisions, and runs all branches in
+//! one world that computes shared work once. It writes a trace for each branch, and a report of what was shared. Each
+//! step has its own definition in `specs/`:
 //!
 //! ```text
 //! words -command_words-> request -prepare-> what is read and decided -writing-> output
@@ -15,10 +15,10 @@
 //! let status = cloner(&rt, alloc, &words, &mut inputs, &mut output, &mut errors, &NoGate, &mut steps);
 //! ```
 //!
-//! A run costs a step for each message that differs, and a line, merged from the logs of the stations, for each message
-//! of each branch that it does not share with the branch before; the memory is that of the world, and of what a text
-//! has in common with the next one. The promises of the README stand on the contract of `cloner`: right traces, the
-//! first refusal, all or nothing, bounded work, each text in one call, each file fetched once.
+//! A run costs one step for each message that differs. Writing costs one merge of station logs for each line that a
+//! branch does not share with the branch before. Memory holds the world, and the lines that a text shares with the next
+//! one. The promises of the README rest on the contract of `cloner`: right traces, the first refusal, all or nothing,
+//! bounded work, each text in one call, each file fetched once.
 #![tactic(auto)]
 
 mod alone;

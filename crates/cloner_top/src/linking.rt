@@ -1,4 +1,5 @@
-//! Runs all clones of a plan in one world, kept in step by the clocks of links, and puts their texts and the rounds.
+//! Runs all clones of a plan in one world, in rounds with a clock for each link. Writes their texts and the number of
+//! rounds.
 ghost use Rattle.std.specs.Prelude.{◌++◌, ◌∷◌, [], IfErr, IfOk};
 ghost use Rattle.study_run.specs.Accepted.{IsAcceptedJournal};
 ghost use Rattle.linked_run.specs.Linking.{IsLinkedRun};
@@ -22,7 +23,7 @@ use std::sync::ledger::Ledger;
 use std::thread::Threads;
 use study_run::StudyFault;
 
-// Runs all clones by the clocks of links, to the horizon: in this thread, or with several workers.
+// Runs all clones in rounds up to the horizon, in this thread or with several workers.
 fn run_clones<G: Gate, L: Ledger, R: Threads + Wait + Sync>(
     rt: &R,
     alloc: Global,
@@ -41,7 +42,7 @@ fn run_clones<G: Gate, L: Ledger, R: Threads + Wait + Sync>(
     run_linked(rt, alloc, workers, gate, &plan.model, calls, steps)
 }
 
-// The world of all clones at the horizon, with the rounds.
+// Returns the world of all clones at the horizon, and the number of rounds.
 fn run_world<G: Gate, L: Ledger, R: Threads + Wait + Sync>(
     rt: &R,
     alloc: Global,
@@ -69,7 +70,7 @@ fn run_world<G: Gate, L: Ledger, R: Threads + Wait + Sync>(
     }
 }
 
-/// Runs all clones by the clocks of links, and writes their traces, the report and the rounds.
+/// Runs all clones in rounds, and writes their traces, the report and the number of rounds.
 pub(crate) fn write_links<O: Sink, G: Gate, L: Ledger, R: Threads + Wait + Sync>(
     rt: &R,
     alloc: Global,

@@ -1,4 +1,4 @@
-//! Runs a study while its analysts decide and look, and puts its texts.
+//! Runs a study while its analysts decide and look, and writes its texts.
 ghost use Rattle.std.specs.Prelude.{◌≡◌, Ok, Err, IfErr, IfOk, OnOk};
 ghost use Rattle.decision_book.specs.Plans.{ArePlanned};
 ghost use Rattle.world_core.specs.Overs.{NoneBeyond};
@@ -24,16 +24,16 @@ use std::thread::Threads;
 use study_run::StudyFault;
 use world_core::World;
 
-// The world at the horizon with the text of the journal, or why there is none.
+// Returns the world at the horizon with the text of the journal, or why there is none.
 fn world_or_halt(model: &Model, live: LiveRun, journal: Vec<u8>) -> Result<(World, Vec<u8>), Halt>
     requires net { live.book.net ≡ model.now }
     requires there { IfErr live.run (λ e. NamesStationAndClone model.now live.book.events e) }
     // the world at the horizon, with the text of the journal
     ensures ok { IfOk result (λ r. (live.run ≡ Ok r.0) × (r.1.items ≡ journal.items)) }
-    // what holds of the clones then
+    // its clones are within the limit
     ensures within { IfOk result (λ r. NoneBeyond r.0.net r.0.clones r.0.front) }
     ensures planned { IfOk result (λ r. ArePlanned live.book.net (clones_of_book live.book)) }
-    // or why there is none, for the fault of the run
+    // or the cause, from the error of the run
     ensures err { IfErr result (λ h. (e : _) × ((live.run ≡ Err e)
         × HaltsFor model.now live.book.events journal.items e h)) }
 {
@@ -72,7 +72,7 @@ fn run_and_journal<G: Gate, L: Ledger, R: Threads + Wait + Sync>(
     Ok((live, journal))
 }
 
-// The study to its end: the world at the horizon, and the text of its journal.
+// Runs the study to its end. Returns the world at the horizon and the text of its journal.
 fn run_live<G: Gate, L: Ledger, R: Threads + Wait + Sync>(
     rt: &R,
     alloc: Global,

@@ -1,4 +1,4 @@
-//! Reads what is asked and decides it: all that comes before the first message.
+//! Reads all texts and makes all decisions before the first message is handled.
 ghost use Rattle.std.specs.Prelude.{◌≡◌, ◌≤◌, ◌+◌, ℕ, List, IfErr, IfOk, Ok, OnOk};
 ghost use Rattle.sim_outer.specs.Counts.{AreCounted, HasRisen};
 ghost use Rattle.command_words.specs.Requests as requests;
@@ -23,8 +23,7 @@ use std::alloc::Global;
 use std::sync::Arc;
 use watch_points::{Watches, check};
 
-// The plan of a model and a script: all decisions are made at front 0, before the simulation begins. Nothing is
-// simulated.
+// Returns the plan of a model and a script: all decisions are made at front 0, before the simulation begins.
 fn plan_study(alloc: Global, model: Arc<Model>, script: &Script) -> Result<Plan, Refusal>
     ensures model { IfOk result (λ plan. plan.model.value ≡ model.value) }
     ensures book { IfOk result (λ plan. IsDecided model.value script.now plan.book) }
@@ -39,7 +38,7 @@ fn plan_study(alloc: Global, model: Arc<Model>, script: &Script) -> Result<Plan,
     }
 }
 
-// Fetches the model, and reads it.
+// Fetches and reads the model.
 fn fetch_model<I: Inputs>(
     alloc: Global,
     inputs: &mut I,
@@ -63,7 +62,7 @@ fn fetch_model<I: Inputs>(
     }
 }
 
-// Fetches the script, and reads it.
+// Fetches and reads the script.
 fn fetch_script<I: Inputs>(
     alloc: Global,
     inputs: &mut I,
@@ -87,7 +86,7 @@ fn fetch_script<I: Inputs>(
     }
 }
 
-// A study of a model and a script whose decisions are all made first; the model was read.
+// Prepares a study in which all decisions are made first. The model has been read.
 fn prepare_study<I: Inputs>(
     alloc: Global,
     inputs: &mut I,
@@ -118,7 +117,7 @@ fn prepare_study<I: Inputs>(
     }
 }
 
-// A live study; the model was read.
+// Prepares a live study. The model has been read.
 fn prepare_live<I: Inputs>(
     alloc: Global,
     inputs: &mut I,
@@ -144,7 +143,7 @@ fn prepare_live<I: Inputs>(
     }
 }
 
-// Whether watches fit the clones of a plan, or the first watch that does not.
+// Checks that the watches fit the clones of a plan. Returns the first watch that does not.
 fn check_watches(plan: &Plan, watches: &Watches) -> Result<(), Refusal>
     ensures ok { OnOk result (fit plan.now.model.value (clones_of_book plan.now.book) watches.now ≡ Ok tt) }
     ensures err { IfErr result (λ r.
@@ -159,7 +158,7 @@ fn check_watches(plan: &Plan, watches: &Watches) -> Result<(), Refusal>
     }
 }
 
-// A study with watches; the model was read.
+// Prepares a study with watches. The model has been read.
 fn prepare_watch<I: Inputs>(
     alloc: Global,
     inputs: &mut I,
@@ -202,7 +201,7 @@ fn prepare_watch<I: Inputs>(
     }
 }
 
-/// What is asked, read and decided, or why not. No message is handled.
+/// Reads all texts of an assignment and makes its decisions. Returns the first error. No message is handled.
 pub(crate) fn prepare<I: Inputs>(
     alloc: Global,
     inputs: &mut I,

@@ -1,4 +1,4 @@
-//! What is ready to be run.
+//! Studies that are ready to run.
 ghost use Rattle.std.specs.Prelude.{◌≡◌};
 
 use command_words::Mode;
@@ -8,14 +8,14 @@ use net_model::Model;
 use std::sync::Arc;
 use watch_points::Watches;
 
-/// A model and a script whose analysts decide while it runs.
+/// A model and a script whose analysts decide while the study runs.
 #[derive(Drop)]
 pub(crate) struct Study {
     pub(crate) model: Arc<Model>,
     pub(crate) script: Script,
 }
 
-/// A model, and a book over it with the decisions that were accepted.
+/// A model, and a book over it with the accepted decisions.
 #[derive(Drop)]
 pub(crate) struct Plan {
     pub(crate) model: Arc<Model>,
@@ -23,27 +23,27 @@ pub(crate) struct Plan {
     ghost net_is: { book.net ≡ model.value },
 }
 
-/// Decided clones, and what is asked of them.
+/// A plan, and the mode in which to run it.
 #[derive(Drop)]
 pub(crate) struct Decided {
     pub(crate) mode: Mode,
     pub(crate) plan: Plan,
 }
 
-/// Decided clones, and watches that fit them.
+/// A plan, and watches that fit its clones.
 #[derive(Drop)]
 pub(crate) struct Watching {
     pub(crate) plan: Plan,
     pub(crate) watches: Watches,
 }
 
-/// All that is asked was read and decided, and no message is handled yet.
+/// A study that is ready to run: its texts are read, and no message is handled yet.
 #[derive(Drop)]
 pub(crate) enum Prepared {
     /// All decisions are made.
     Decided(Decided),
-    /// Analysts decide while it runs.
+    /// Analysts decide while the study runs.
     Undecided(Study),
-    /// All decisions are made, and watches make branches while it runs.
+    /// All decisions are made; watches create branches while the study runs.
     Watching(Watching),
 }

@@ -1,4 +1,4 @@
-//! From the words of a command line to a status: reads a study, simulates its branches, and writes their texts.
+//! From a command line to an exit status: reads a study, simulates its branches, and writes their texts.
 ghost use Rattle.std.specs.Prelude.{◌≡◌, ◌≢◌, ◌⊎◌, ◌≤◌, ◌∷◌, [], ℕ, IfErr, None, OnOk};
 ghost use Rattle.sim_outer.specs.Counts.{AreCounted, HasRisen};
 ghost use Rattle.command_words.specs.Requests.{request_view};
@@ -25,7 +25,7 @@ use std::sync::Wait;
 use std::sync::ledger::Ledger;
 use std::thread::Threads;
 
-// Reads and decides what is asked, runs it and writes it.
+// Prepares a study, runs it and writes its texts.
 fn prepare_and_write<I: Inputs, O: Sink, G: Gate, L: Ledger, R: Threads + Wait + Sync>(
     rt: &R,
     alloc: Global,
@@ -57,7 +57,7 @@ fn prepare_and_write<I: Inputs, O: Sink, G: Gate, L: Ledger, R: Threads + Wait +
     }
 }
 
-// Tells the error sink why. Its faults change nothing else.
+// Writes the error line. A failed write changes nothing else.
 fn complain<E: Sink>(err: &mut E, refusal: &Refusal) -> u8
     ensures status { result ≡ status_of refusal.now }
     ensures told { ArePutOrCut (error_line refusal.now ∷ []) (E.view err.old) (E.view err.new) }
@@ -67,8 +67,8 @@ fn complain<E: Sink>(err: &mut E, refusal: &Refusal) -> u8
     refusal.status()
 }
 
-// Tells the error sink the journal of a live study that met the limit, and then why it stopped. Where the journal is
-// cut off, nothing follows it.
+// Writes the journal of a live study that exceeded the limit, and then the error line. If the journal is cut off, the
+// line is not written.
 fn complain_of_limit<E: Sink>(err: &mut E, journal: &[u8], excess: &Excess) -> u8
     ensures status { result ≡ excess_status excess.now }
     ensures told { ArePutOrCut (journal.now ∷ excess_line excess.now ∷ []) (E.view err.old) (E.view err.new) }
@@ -81,7 +81,7 @@ fn complain_of_limit<E: Sink>(err: &mut E, journal: &[u8], excess: &Excess) -> u
     excess.status()
 }
 
-// Why words are not read.
+// Maps an error in the command line to a refusal.
 fn words_refused(fault: WordsFault) -> Refusal
     ensures { result ≡ words_refusal fault }
 {
@@ -91,7 +91,7 @@ fn words_refused(fault: WordsFault) -> Refusal
     }
 }
 
-// The status, with the output or the line that tells why there is none.
+// Runs the command line, and writes the error line if there is no output. Returns the exit status.
 fn obey_or_complain<I: Inputs, O: Sink, E: Sink, G: Gate, L: Ledger, R: Threads + Wait + Sync>(
     rt: &R,
     alloc: Global,
@@ -127,34 +127,35 @@ fn obey_or_complain<I: Inputs, O: Sink, E: Sink, G: Gate, L: Ledger, R: Threads 
     }
 }
 
-/// All that the program does: the words of the command line to its status.
+/// Runs the whole program: from the words of the command line to its exit status.
 ///
-/// - `run MODEL SCRIPT` runs all clones that the script makes in one world, which they share. It writes the trace text
-///   of each, and then the report.
-/// - `solo MODEL SCRIPT --clone NAME` runs one clone alone, and writes its trace text.
-/// - `live MODEL SCRIPT` has the analysts of the script decide and look while that world runs. It writes their journal,
-///   and then what a run writes.
-/// - `gen NUMBER` runs the model and the script that are made of the number, and writes the report alone.
-/// - `watch MODEL SCRIPT WATCHES` makes a branch whenever a watched line gets long. It writes what a run writes, in the
-///   order of the watches.
+/// - `run MODEL SCRIPT` runs all clones of the script in one shared world. It writes the trace of each, and then the
+///   report.
+/// - `solo MODEL SCRIPT --clone NAME` runs one clone alone, and writes its trace.
+/// - `live MODEL SCRIPT` runs that world while the analysts of the script decide and look. It writes their journal, and
+///   then what `run` writes.
+/// - `gen NUMBER` generates a model and a script from the number, runs them, and writes the report only.
+/// - `watch MODEL SCRIPT WATCHES` creates a branch when a watched line gets long. It writes what `run` writes, in
+///   the order of the watches.
 /// - `stats MODEL SCRIPT` runs as `run` does, and writes the statistics of each clone's servers.
-/// - `links MODEL SCRIPT` keeps the stations in step by the clocks of their links. It writes what a run writes, and
-///   then the number of rounds.
+/// - `links MODEL SCRIPT` runs in rounds with a clock for each link. It writes what `run` writes, and then the number
+///   of rounds.
 ///
-/// Each text is put in one call, and all memory is taken before the first. The status is 0 if all is written. If not,
-/// the error sink is told why in one line. If the limit is met in a live study, its journal is told before the line:
+/// Each text is put in one call, and all memory is allocated before the first put. The status is 0 if everything is
+/// written. Otherwise one line to the error sink says why. If a live study exceeds the limit, its journal precedes that
+/// line. The other statuses:
 ///
 /// 1. out of memory, at any place before the first put;
 /// 2. the command line has no known form;
-/// 3. a file that was due was not read: the inputs had a fault or have no such file;
-/// 4. the model's text is no model;
-/// 5. the script's text is no script;
-/// 6. a decision is refused, or there is no clone of the name; in a live study the journal shows what is refused;
+/// 3. a required file was not read: an input operation failed, or there is no such file;
+/// 4. the model's text is not a model;
+/// 5. the script's text is not a script;
+/// 6. a decision is refused, or no clone has the name; the journal of a live study shows refusals instead;
 /// 7. a log would grow longer than the model's limit before the horizon;
-/// 8. the output was cut off, which comes only if it had a fault;
-/// 9. the text of the watches states none, or a watch does not fit.
+/// 8. the output was cut off, only because a write failed;
+/// 9. the text of the watches is invalid, or a watch does not fit.
 ///
-/// After every status but 0 and 8 the output is as before.
+/// After every status except 0 and 8 the output is unchanged.
 pub fn cloner<R: Threads + Wait + Sync, I: Inputs, O: Sink, E: Sink, G: Gate, L: Ledger>(
     rt: &R,
     alloc: Global,
@@ -165,7 +166,7 @@ pub fn cloner<R: Threads + Wait + Sync, I: Inputs, O: Sink, E: Sink, G: Gate, L:
     gate: &G,
     steps: &mut Steps<L>,
 ) -> u8
-    // What each status says.
+    // what each status means
     ensures finished { result ≡ 0 → IsWritten (assignment_of words.now)
         (outside_of (I.view inputs.old) (O.view out.old) (E.view err.old) steps.old)
         (outside_of (I.view inputs.new) (O.view out.new) (E.view err.new) steps.new) }
@@ -182,7 +183,7 @@ pub fn cloner<R: Threads + Wait + Sync, I: Inputs, O: Sink, E: Sink, G: Gate, L:
         (outside_of (I.view inputs.old) (O.view out.old) (E.view err.old) steps.old)
         (outside_of (I.view inputs.new) (O.view out.new) (E.view err.new) steps.new) }
 
-    // What stays as it was, what is told, and how much is done.
+    // what stays unchanged, what is printed, and how much work is done
     ensures output_same { result ≢ 0 → result ≢ 8 →
         ((O.view out.new).bytes ≡ (O.view out.old).bytes) × ((O.view out.new).calls ≡ (O.view out.old).calls) }
     ensures told { result ≢ 0 → IsToldFor (assignment_of words.now)
@@ -196,7 +197,7 @@ pub fn cloner<R: Threads + Wait + Sync, I: Inputs, O: Sink, E: Sink, G: Gate, L:
     ensures same { (I.view inputs.new).files ≡ (I.view inputs.old).files }
     ensures later { (I.view inputs.old).faults ≤ (I.view inputs.new).faults }
 
-    // That a lawful ending comes, and all of this at once.
+    // an allowed ending is reached; and all of the above in one statement
     ensures complete { Completes (assignment_of words.now)
         (outside_of (I.view inputs.old) (O.view out.old) (E.view err.old) steps.old)
         (outside_of (I.view inputs.new) (O.view out.new) (E.view err.new) steps.new)

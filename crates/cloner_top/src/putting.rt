@@ -1,4 +1,5 @@
-//! Puts the texts of a study, each in one call whose parts are put as they are made, once all memory was taken.
+//! Puts the texts of a study. All memory is allocated first. Each text is one call, which passes on the parts as they
+//! are made.
 ghost use Rattle.std.specs.Prelude.{◌≡◌, ◌≤◌, ◌∷◌, ◌++◌, [], IfErr, IfOk, OnErr, OnOk, length, map};
 ghost use Rattle.sim_outer.specs.Bytes.{IsAppended};
 ghost use Rattle.sim_outer.specs.Counts.{AreCounted};
@@ -42,7 +43,7 @@ pub(crate) fn put_text<O: Sink>(out: &mut O, text: &[u8]) -> Result<(), Refusal>
     }
 }
 
-/// Puts the text of a clone of this name that ran by itself, and handled what a log has.
+/// Puts the trace text of a clone of this name that ran alone, from its log.
 pub(crate) fn put_trace<O: Sink>(
     model: &Model,
     name: &Name,
@@ -89,7 +90,7 @@ pub(crate) fn put_stats<O: Sink>(
     }
 }
 
-// All that the texts of a run need, once all memory was taken.
+// The texts of a run, with all memory that they need.
 #[derive(Drop)]
 struct RunTexts<'a> {
     traces: WorldTraces<'a>,
@@ -97,7 +98,7 @@ struct RunTexts<'a> {
     report: Vec<u8>,
 }
 
-// Takes all memory that these texts of a world at the horizon, and its report, need.
+// Allocates all memory that the traces of a world at the horizon and its report need.
 fn prepare_run<'a>(
     alloc: Global,
     model: &Model,
@@ -118,7 +119,7 @@ fn prepare_run<'a>(
     })
 }
 
-// Puts the trace text of each clone: in this thread, or with several workers.
+// Puts the trace text of each clone, in this thread or with several workers.
 fn put_traces<'a, O: Sink, R: Threads + Wait + Sync>(
     rt: &R,
     alloc: Global,
@@ -206,7 +207,7 @@ pub(crate) fn put_watched<O: Sink, R: Threads + Wait + Sync>(
     }
 }
 
-// The line of the rounds.
+// The line with the number of rounds.
 fn line_of_rounds(rounds: u64) -> ErrorLine
     ensures { result ≡ rounds_line rounds }
 {
@@ -217,7 +218,7 @@ fn line_of_rounds(rounds: u64) -> ErrorLine
     line
 }
 
-/// Puts what a run writes, and then the line of the rounds.
+/// Puts what `run` writes, and then the line with the number of rounds.
 pub(crate) fn put_linked<O: Sink, R: Threads + Wait + Sync>(
     rt: &R,
     alloc: Global,
@@ -242,7 +243,7 @@ pub(crate) fn put_linked<O: Sink, R: Threads + Wait + Sync>(
     }
 }
 
-/// Puts this text, and then those of a run.
+/// Puts this text, and then the texts of a run.
 pub(crate) fn put_live<O: Sink, R: Threads + Wait + Sync>(
     rt: &R,
     alloc: Global,

@@ -21,7 +21,7 @@ use sim_outer::{FetchFault, Inputs};
 use std::alloc::Global;
 use watch_points::{WatchFault, Watches, read_watches};
 
-/// Reads the model that a text is.
+/// Reads a text as a model.
 pub(crate) fn read_model_text(alloc: Global, text: &[u8]) -> Result<Model, Refusal>
     ensures ok { IfOk result (λ m. model text.now ≡ Ok m) }
     ensures err { IfErr result (λ r. IsMemoryOrStop (IsBadModel text.now) r) }
@@ -33,7 +33,7 @@ pub(crate) fn read_model_text(alloc: Global, text: &[u8]) -> Result<Model, Refus
     }
 }
 
-/// Reads the script that a text is.
+/// Reads a text as a script.
 pub(crate) fn read_script_text(alloc: Global, text: &[u8]) -> Result<Script, Refusal>
     ensures ok { IfOk result (λ s. script text.now ≡ Ok s) }
     ensures err { IfErr result (λ r. IsMemoryOrStop (IsBadScript text.now) r) }
@@ -45,7 +45,7 @@ pub(crate) fn read_script_text(alloc: Global, text: &[u8]) -> Result<Script, Ref
     }
 }
 
-/// Reads the watches that a text states.
+/// Reads a text as watches.
 pub(crate) fn read_watches_text(alloc: Global, text: &[u8]) -> Result<Watches, Refusal>
     ensures ok { IfOk result (λ ws. watches text.now ≡ Ok ws) }
     ensures err { IfErr result (λ r. IsMemoryOrStop (IsBadWatches text.now) r) }
@@ -57,7 +57,7 @@ pub(crate) fn read_watches_text(alloc: Global, text: &[u8]) -> Result<Watches, R
     }
 }
 
-// Makes a text of a number: the model or the script.
+// Generates a text from a number: the model or the script.
 fn make_text(alloc: Global, text: Text, number: u32) -> Result<Vec<u8>, NoMemory>
     ensures { IfOk result (λ v. v.items ≡ made_text text number) }
 {
@@ -68,18 +68,18 @@ fn make_text(alloc: Global, text: Text, number: u32) -> Result<Vec<u8>, NoMemory
     }
 }
 
-/// Where a text comes from.
+/// The source of a text.
 #[derive(Clone, Copy, Debug)]
 pub enum Origin<'a> {
     /// A file of this name.
     InFile(&'a str),
-    /// It is made of this number.
+    /// Generated from this number.
     Made(u32),
-    /// It is not asked for.
+    /// The assignment has no such text.
     NotAsked,
 }
 
-// Where a text of two files comes from.
+// The source of a text of a study in two files.
 fn origin_of_files<'a>(model: &'a str, script: &'a str, text: Text) -> Origin<'a>
     ensures value { origin_view result text ≡ study_origin (FileNames model.entry.now script.entry.now) text }
 {
@@ -90,7 +90,7 @@ fn origin_of_files<'a>(model: &'a str, script: &'a str, text: Text) -> Origin<'a
     }
 }
 
-// Where a text that is made of a number comes from.
+// The source of a text that is generated from a number.
 fn origin_of_number<'a>(number: u32, text: Text) -> Origin<'a>
     ensures value { origin_view result text ≡ study_origin (Number number) text }
 {
@@ -100,7 +100,7 @@ fn origin_of_number<'a>(number: u32, text: Text) -> Origin<'a>
     }
 }
 
-// Where a text of a study comes from.
+// The source of a text of a study.
 fn origin_of_study<'a>(source: Source<'a>, text: Text) -> Origin<'a>
     ensures value { origin_view result text ≡ study_origin (source_view source.entry) text }
 {
@@ -110,7 +110,7 @@ fn origin_of_study<'a>(source: Source<'a>, text: Text) -> Origin<'a>
     }
 }
 
-// Where a text of three files comes from.
+// The source of a text of a study with watches.
 fn origin_of_watch<'a>(model: &'a str, script: &'a str, watches: &'a str, text: Text) -> Origin<'a>
     ensures value { origin_view result text
         ≡ origin_in (Watch model.entry.now script.entry.now watches.entry.now) text }
@@ -122,7 +122,7 @@ fn origin_of_watch<'a>(model: &'a str, script: &'a str, watches: &'a str, text: 
     }
 }
 
-// Where a text of an assignment comes from.
+// The source of a text of an assignment.
 fn origin_of<'a>(assignment: &Assignment<'a>, text: Text) -> Origin<'a>
     ensures value { origin_view result text ≡ origin_in (assignment_view assignment.now) text }
 {
@@ -137,7 +137,7 @@ fn origin_of<'a>(assignment: &Assignment<'a>, text: Text) -> Origin<'a>
     }
 }
 
-/// A text of an assignment, from its file or made of the number.
+/// Fetches a text of an assignment from its file, or generates it.
 pub(crate) fn fetch_text<I: Inputs>(
     alloc: Global,
     inputs: &mut I,

@@ -1,4 +1,4 @@
-//! Why the program writes nothing, or not the whole of its output.
+//! Why the output is missing or incomplete.
 ghost use Rattle.std.specs.Prelude.{◌≡◌, ◌≤◌, length};
 ghost use Rattle.cloner_top.specs.Refusals.{error_line, status_of, unread_line};
 ghost use Rattle.cloner_top.specs.declared.error_line.TheConstants.{LONGEST_LINE};
@@ -8,7 +8,7 @@ use crate::excess::Excess;
 use crate::stop::Stop;
 use command_words::usage_line;
 
-/// Which of the texts of an assignment.
+/// A text of an assignment.
 #[derive(Clone, Copy, Debug, PartialEq, Eq)]
 pub enum Text {
     /// The model.
@@ -19,7 +19,7 @@ pub enum Text {
     Watches,
 }
 
-/// The first cause, in the order of the statuses.
+/// The error that ends the program: the first one, in the order of the statuses.
 #[derive(Clone, Copy, Debug, PartialEq, Eq)]
 pub enum Refusal {
     /// Out of memory.
@@ -28,15 +28,15 @@ pub enum Refusal {
     Usage,
     /// This text was not read.
     NotRead(Text),
-    /// Nothing is run.
+    /// The study is not run.
     Stopped(Stop),
     /// A limit is exceeded.
     Exceeded(Excess),
-    /// The output took less than all.
+    /// The output was cut off.
     CannotWrite,
 }
 
-// The line of a text that needs no numbers.
+// An error line without numbers.
 fn line_of_text(text: &str) -> ErrorLine
     requires { length text.now ≤ LONGEST_LINE }
     ensures { result ≡ text.now }
@@ -46,7 +46,7 @@ fn line_of_text(text: &str) -> ErrorLine
     line
 }
 
-// The line for a text that was not read.
+// The error line for a text that was not read.
 fn line_of_unread(text: Text) -> ErrorLine
     ensures { result ≡ unread_line text }
 {
@@ -58,7 +58,7 @@ fn line_of_unread(text: Text) -> ErrorLine
 }
 
 impl Refusal {
-    /// The status of the program, from 1 to 9.
+    /// Returns the exit status, from 1 to 9.
     pub fn status(&self) -> u8
         ensures { result ≡ status_of self.now }
     {
@@ -72,7 +72,7 @@ impl Refusal {
         }
     }
 
-    /// The line that tells it.
+    /// Returns the error line.
     pub fn line(&self) -> ErrorLine
         ensures { result ≡ error_line self.now }
     {

@@ -1,4 +1,4 @@
-//! Runs all clones of a plan in one world, and puts their texts.
+//! Runs all clones of a plan in one world, and writes their texts.
 ghost use Rattle.std.specs.Prelude.{◌≡◌, ◌+◌, ℕ, List, [], ◌∷◌, IfErr, IfOk};
 ghost use Rattle.net_model.specs.Net.{HasStation};
 ghost use Rattle.rolling_text.specs.WorldTraces.{AreShort};
@@ -27,7 +27,7 @@ use std::thread::Threads;
 use study_run::{StudyFault, run_study, run_study_sequentially};
 use world_core::World;
 
-/// The excess where a log would get longer than the limit: at this station, in the clone of this name.
+/// The excess of a log that would get longer than the limit, at this station in the clone of this name.
 pub(crate) fn limit_at(model: &Model, station: u32, clone: Name) -> Excess
     requires is_station { HasStation model.now station }
     ensures { result ≡ limit_met_at model.now station clone }
@@ -39,7 +39,7 @@ pub(crate) fn limit_at(model: &Model, station: u32, clone: Name) -> Excess
     }
 }
 
-// Runs all clones in one world, to the horizon: in this thread, or with several workers.
+// Runs all clones in one world up to the horizon, in this thread or with several workers.
 fn run_clones<G: Gate, L: Ledger, R: Threads + Wait + Sync>(
     rt: &R,
     alloc: Global,
@@ -58,7 +58,7 @@ fn run_clones<G: Gate, L: Ledger, R: Threads + Wait + Sync>(
     run_study(rt, alloc, workers, gate, &plan.model, calls, steps)
 }
 
-// Runs all clones in one world, to the horizon.
+// Runs all clones in one world up to the horizon.
 fn run_world<G: Gate, L: Ledger, R: Threads + Wait + Sync>(
     rt: &R,
     alloc: Global,
@@ -110,7 +110,7 @@ pub(crate) fn write_run<O: Sink, G: Gate, L: Ledger, R: Threads + Wait + Sync>(
     }
 }
 
-/// Runs all clones, and writes the report alone.
+/// Runs all clones, and writes the report only.
 pub(crate) fn write_report<O: Sink, G: Gate, L: Ledger, R: Threads + Wait + Sync>(
     rt: &R,
     alloc: Global,

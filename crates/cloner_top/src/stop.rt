@@ -1,4 +1,4 @@
-//! Why a study is not written, before any message is handled.
+//! Why a study is not run.
 ghost use Rattle.std.specs.Prelude.{◌≡◌, ◌+◌, ◌++◌, ◌≤◌, length};
 ghost use Rattle.cloner_top.specs.Stops.{key_part, stop_line, stop_status, model_line};
 ghost use Rattle.cloner_top.specs.Stops.{script_line, decision_line, no_clone_line, watch_line, watches_line};
@@ -13,24 +13,24 @@ use net_model::ModelFault;
 use sim_base::Name;
 use watch_points::WatchFault;
 
-/// The first cause, in the order of the statuses, for which nothing is run: no message is handled.
+/// The error for which a study is not run: the first one, in the order of the statuses.
 #[derive(Clone, Copy, Debug, PartialEq, Eq)]
 pub enum Stop {
-    /// The model's text is no model.
+    /// The model's text is not a model.
     BadModel(ModelFault),
-    /// The script's text is no script.
+    /// The script's text is not a script.
     BadScript(ScriptFault),
-    /// The first decision that is refused, with its line.
+    /// A decision is refused: the first one, with its line.
     BadDecision { reply: Reply, line: u32 },
-    /// The decisions make no clone of this name.
+    /// The decisions create no clone of this name.
     NoClone(Name),
-    /// The text of the watches is none.
+    /// The text of the watches is invalid.
     BadWatches(WatchFault),
-    /// The first watch that does not fit the model and the script's clones, with its line.
+    /// A watch does not fit the model and the script's clones: the first one, with its line.
     BadWatch { reply: Reply, line: u32 },
 }
 
-// The line of a model that is refused.
+// The error line for a refused model.
 fn line_of_model(fault: &ModelFault) -> ErrorLine
     ensures { result ≡ model_line fault.now }
 {
@@ -44,7 +44,7 @@ fn line_of_model(fault: &ModelFault) -> ErrorLine
     line
 }
 
-// Appends the key that a refusal names, where it names one.
+// Appends the key that a refusal names, if any.
 fn push_key(line: &mut ErrorLine, fault: &ModelFault)
     requires free { length line.old + 5 + LONGEST_KEY_TEXT ≤ LONGEST_LINE }
     ensures value { line.new ≡ line.old ++ key_part (fault_key fault.now) }
@@ -56,7 +56,7 @@ fn push_key(line: &mut ErrorLine, fault: &ModelFault)
     }
 }
 
-// The line of a script that is refused.
+// The error line for a refused script.
 fn line_of_script(fault: &ScriptFault) -> ErrorLine
     ensures { result ≡ script_line fault.now }
 {
@@ -69,7 +69,7 @@ fn line_of_script(fault: &ScriptFault) -> ErrorLine
     line
 }
 
-// The line of a decision that is refused, with the number of its line in the script.
+// The error line for a refused decision, with its line number in the script.
 fn line_of_decision(reply: &Reply, number: u32) -> ErrorLine
     ensures { result ≡ decision_line reply.now number }
 {
@@ -82,7 +82,7 @@ fn line_of_decision(reply: &Reply, number: u32) -> ErrorLine
     line
 }
 
-// The line of a text of watches that is refused.
+// The error line for a refused text of watches.
 fn line_of_watches(fault: &WatchFault) -> ErrorLine
     ensures { result ≡ watches_line fault.now }
 {
@@ -95,7 +95,7 @@ fn line_of_watches(fault: &WatchFault) -> ErrorLine
     line
 }
 
-// The line of a watch that does not fit, with the number of its line in the file of watches.
+// The error line for a watch that does not fit, with its line number in the file of watches.
 fn line_of_watch(reply: &Reply, number: u32) -> ErrorLine
     ensures { result ≡ watch_line reply.now number }
 {
@@ -108,7 +108,7 @@ fn line_of_watch(reply: &Reply, number: u32) -> ErrorLine
     line
 }
 
-// The line of a name that no clone has.
+// The error line for a name that no clone has.
 fn line_of_no_clone(name: &Name) -> ErrorLine
     ensures { result ≡ no_clone_line name.now }
 {
@@ -120,7 +120,7 @@ fn line_of_no_clone(name: &Name) -> ErrorLine
 }
 
 impl Stop {
-    /// The status of the program: 4 to 6, or 9.
+    /// Returns the exit status: 4 to 6, or 9.
     pub fn status(&self) -> u8
         ensures { result ≡ stop_status self.now }
     {
@@ -132,7 +132,7 @@ impl Stop {
         }
     }
 
-    /// The line that tells it.
+    /// Returns the error line.
     pub fn line(&self) -> ErrorLine
         ensures { result ≡ stop_line self.now }
     {

@@ -1,4 +1,4 @@
-//! Runs all clones of a plan with its watches in one world, and puts their texts.
+//! Runs all clones of a plan with its watches in one world, and writes their texts.
 ghost use Rattle.std.specs.Prelude.{◌≡◌, length, IfErr, IfOk, Ok};
 ghost use Rattle.study_run.specs.Accepted.{IsAcceptedJournal};
 ghost use Rattle.watch_laws.specs.Orders.{IsPlaceOrder, in_order};
@@ -24,7 +24,7 @@ use study_run::StudyFault;
 use watch_points::numbered_name;
 use watched_run::{WatchedWorld, run_watched, run_watched_sequentially};
 
-// Runs all clones with their watches, to the horizon: in this thread, or with several workers.
+// Runs all clones with their watches up to the horizon, in this thread or with several workers.
 fn run_clones<G: Gate, L: Ledger, R: Threads + Wait + Sync>(
     rt: &R,
     alloc: Global,
@@ -56,7 +56,7 @@ fn run_clones<G: Gate, L: Ledger, R: Threads + Wait + Sync>(
     )
 }
 
-// The world of all clones with their branches at the horizon.
+// Returns the world of all clones and their branches at the horizon.
 fn run_world<G: Gate, L: Ledger, R: Threads + Wait + Sync>(
     rt: &R,
     alloc: Global,
@@ -88,7 +88,7 @@ fn run_world<G: Gate, L: Ledger, R: Threads + Wait + Sync>(
     }
 }
 
-/// Runs all clones with their watches, and writes their traces, in the order of the watches, and the report.
+/// Runs all clones with their watches. Writes their traces, in the order of the watches, and the report.
 pub(crate) fn write_watched<O: Sink, G: Gate, L: Ledger, R: Threads + Wait + Sync>(
     rt: &R,
     alloc: Global,

@@ -1,4 +1,4 @@
-//! Runs what is prepared, and writes its texts.
+//! Runs a prepared study, and writes its texts.
 ghost use Rattle.std.specs.Prelude.{IfErr, OnOk};
 ghost use Rattle.cloner_top.specs.Deciding.{clones_of_book};
 ghost use Rattle.cloner_top.specs.Endings.{MaySimulate};
@@ -23,7 +23,7 @@ use std::sync::Wait;
 use std::sync::ledger::Ledger;
 use std::thread::Threads;
 
-// Runs decided clones as their mode asks, and writes its texts.
+// Runs a plan in its mode, and writes its texts.
 fn write_decided<O: Sink, G: Gate, L: Ledger, R: Threads + Wait + Sync>(
     rt: &R,
     alloc: Global,
@@ -47,7 +47,7 @@ fn write_decided<O: Sink, G: Gate, L: Ledger, R: Threads + Wait + Sync>(
     }
 }
 
-/// Runs what is prepared, and writes its texts.
+/// Runs a prepared study, and writes its texts.
 pub(crate) fn write_prepared<O: Sink, G: Gate, L: Ledger, R: Threads + Wait + Sync>(
     rt: &R,
     alloc: Global,

@@ -1,4 +1,4 @@
--- One step for each answer.
+-- One step for each result.
 use Rattle.std.proofs.Common.{◌≡◌, ℕ, List, [], ◌∷◌, refl, arith, length, sum_by}
 use Rattle.std.proofs.lemmas.List.Sums.{sum_by-cons}
 

@@ -1,4 +1,4 @@
--- A decision that a book accepts is one that a world of the same clones takes, and both go on side by side.
+-- A world of the same clones takes a decision that a book accepts, and both stay in step.
 use Rattle.std.proofs.Common.{◌≡◌, ◌+◌, sym, ap, ◌∙◌, subst}
 use Rattle.sim_base.specs.declared.decision.Decision.{Decision}
 use Rattle.net_model.specs.Net.{Net}
@@ -13,7 +13,7 @@ use Rattle.world_core.proofs.Accepted.{accepted_at}
 use Rattle.world_core.specs.Worlds.{WorldView}
 use Rattle.engine_tests.specs.Abreast.{AreAbreast}
 
--- what a book's events leave is of the book's network
+-- the result of a book's events is of the book's network
 net_of_events : (book : BookView) → (after book.net book.events).net ≡ book.net
 net_of_events book = ap (λ (s : Situation). s.net) (situation_of_journal book.net book.events)
 
@@ -26,7 +26,7 @@ world_accepts book world d h is =
     (subst (λ cs. IsAccepted world.net cs s.front d) h.clones
     (subst (λ (n : Net). IsAccepted n s.clones s.front d) (net_of_events book ∙ h.net) (accepted_at s d is)))
 
--- and is abreast of it then
+-- the world is then in step with the book
 pub abreast_after : (book more : BookView) (world then : WorldView) (d : Decision) → AreAbreast book world
     → reply (after book.net book.events) d ≡ Accepted → more.net ≡ book.net
     → after book.net more.events ≡ after_decision (after book.net book.events) d

@@ -1,4 +1,4 @@
--- One rack to open with.
+-- The racks of an opening run: one.
 use Rattle.std.proofs.Common.{◌≡◌, ◌==◌, ℕ, zero, suc, ◌+◌, Bool, true, [], ◌∷◌, Some, None, refl, sym}
 use Rattle.std.proofs.Common.{◌∙◌, subst, arith, slice_get}
 use Rattle.std.proofs.lemmas.Bool.Decides.{nat_tests}
@@ -8,14 +8,14 @@ use Rattle.shelf.specs.Racks.{HasRack, MayOpen, or_this}
 use Rattle.engine_tests.specs.Seen.{AreSeenUpTo}
 
 -- ---- slice_get
--- what holds of one rack at its place
+-- a property of one rack at its place
 at_one : (P : ℕ → RackView → Type 0) (a : RackView) → P 0 a
     → (i : ℕ) (r : RackView) → slice_get (a ∷ []) i ≡ Some r → P i r
 at_one P a x zero r e = let h : a ≡ r = cc in subst (P 0) h x
 at_one P a x (suc i) r e = absurd (cc)
 
 -- ---- MayOpen, AreSeenUpTo, HasRack
--- a rack as a world opens with it: of the station and of the network, at its front
+-- the rack of a station in a world that opens: of the network, at its front
 pub record IsOpeningRack (n : Net) (f s : ℕ) (r : RackView) : Type 0 where
   pub station : r.station ≡ s
   pub net : r.net ≡ n
@@ -32,11 +32,11 @@ module _ (net : Net) (front : ℕ) (a : RackView) (x : IsOpeningRack net front 1
       all : (i : ℕ) (r : RackView) → slice_get (a ∷ []) i ≡ Some r → r.net ≡ net
       all = at_one (λ _ r. r.net ≡ net) a x.net
 
-  -- and is seen up to the front
+  -- the rack is seen up to the front
   pub one_seen : AreSeenUpTo net front (a ∷ [])
   one_seen = ((x.net, omega (arith, x.front)), tt)
 
-  -- the first station has it
+  -- the rack is the first station's
   pub one_has : HasRack 1 (a ∷ [])
   one_has = (a, by_test (a.station == 1) (grind (arith, nat_tests, x.station)))
     where

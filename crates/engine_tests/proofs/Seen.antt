@@ -1,4 +1,4 @@
--- Racks that were seen up to a front, and one rack more.
+-- Racks that were seen up to a front, and one more rack.
 use Rattle.std.proofs.Common.{◌≡◌, ℕ, ◌<◌, ◌≤◌, List, [], ◌∷◌, ◌++◌, sym, ◌∙◌, arith}
 use Rattle.sim_base.proofs.ListLaws.{all_push}
 use Rattle.net_model.specs.Net.{Net}
@@ -15,7 +15,7 @@ seen_follows net front (q ∷ racks) r seen e l w =
     let f : q.front < r.front = let h = seen.0.1 in omega (arith, h, l) in
     (record { net = same; later = λ s. f; within = λ s. w }, seen_follows net front racks r seen.1 e l w)
 
--- and with it they are seen up to its front
+-- with it the racks are seen up to its front
 pub seen_with : (net : Net) (front : ℕ) (racks : List RackView) (r : RackView) → AreSeenUpTo net front racks
     → r.net ≡ net → front ≤ r.front
     → AreSeenUpTo net r.front (racks ++ r ∷ [])

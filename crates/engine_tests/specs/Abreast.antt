@@ -4,7 +4,7 @@ use Rattle.decision_book.specs.Books.{BookView}
 use Rattle.decision_book.specs.Journal.{after}
 use Rattle.world_core.specs.Worlds.{WorldView}
 
--- they are of one network, have the same clones, and stand at one front
+-- they have the same network, clones and front
 pub record AreAbreast (book : BookView) (world : WorldView) : Type 0 where
   pub net : book.net ≡ world.net
   pub clones : (after book.net book.events).clones ≡ world.clones

@@ -59,7 +59,7 @@ fn clones_from(first: u32, end: u32) -> CloneSet
     all
 }
 
-/// The desk for so many clones, which are alike.
+/// The desk for this number of identical clones.
 fn clones_alike(alloc: Global, model: &Model, clones: u32) -> Option<Proc>
     requires desk { 2 ≤ length model.now.sites }
     requires clones { clones ≤ MOST_CLONES }
@@ -76,7 +76,7 @@ fn clones_alike(alloc: Global, model: &Model, clones: u32) -> Option<Proc>
     Some(proc)
 }
 
-/// The desk with these messages besides.
+/// The desk with these further messages.
 fn deliver_all(proc: Proc, model: &Model, msgs: &[(Msg, CloneSet)]) -> Option<Proc>
     requires proc { IsProc model.now proc }
     ensures proc { IfSome result (λ p. IsProc model.now p) }
@@ -92,7 +92,7 @@ fn deliver_all(proc: Proc, model: &Model, msgs: &[(Msg, CloneSet)]) -> Option<Pr
     Some(proc)
 }
 
-/// The desk for so many clones, with these messages besides.
+/// The desk for this number of clones, with these further messages.
 fn open_desk(alloc: Global, model: &Model, clones: u32, msgs: &[(Msg, CloneSet)]) -> Option<Proc>
     requires clones { clones ≤ MOST_CLONES }
     ensures proc { IfSome result (λ p. IsProc model.now p) }
@@ -104,7 +104,7 @@ fn open_desk(alloc: Global, model: &Model, clones: u32, msgs: &[(Msg, CloneSet)]
     deliver_all(proc, model, msgs)
 }
 
-/// A desk that was stepped, and what that gave.
+/// The result of stepping a desk, and the desk.
 #[derive(Drop)]
 struct Flow {
     done: Proc,
@@ -113,7 +113,7 @@ struct Flow {
     handled: u64,
 }
 
-/// Steps a desk to the bound, on the counter that the blank makes.
+/// Steps a desk to the bound, with the step counter of a blank.
 fn step_counted<L: Ledger>(
     alloc: Global,
     proc: Proc,
@@ -143,7 +143,7 @@ fn step_counted<L: Ledger>(
     })
 }
 
-/// The same, on a counter of its own.
+/// The same with a new step counter.
 fn step_to(alloc: Global, proc: Proc, model: &Model, ends: &CloneEnds, bound: u64) -> Option<Flow>
     requires proc { IsProc model.now proc }
     requires early { bound ≤ model.now.horizon }
@@ -152,7 +152,7 @@ fn step_to(alloc: Global, proc: Proc, model: &Model, ends: &CloneEnds, bound: u6
     step_counted::<Brand>(alloc, proc, model, ends, bound, Blank::new(1))
 }
 
-/// The flow of a desk with these messages at the horizon, for so many clones.
+/// The result of stepping a desk with these messages to the horizon, for this number of clones.
 fn step_desk(
     alloc: Global,
     text: &str,
@@ -167,7 +167,7 @@ fn step_desk(
     step_to(alloc, proc, &model, ends, model.horizon())
 }
 
-/// The ends of clones, where this one alone has one.
+/// The ends of clones if only this one has an end.
 fn end_of(alloc: Global, clone: u32, at: u64) -> Option<CloneEnds>
     requires clone { clone < MOST_CLONES }
 {
@@ -176,7 +176,7 @@ fn end_of(alloc: Global, clone: u32, at: u64) -> Option<CloneEnds>
     Some(ends)
 }
 
-/// The flow where no clone has an end.
+/// The result if no clone has an end.
 fn step_desk_to_end(alloc: Global, clones: u32, msgs: &[(Msg, CloneSet)]) -> Option<Flow>
     requires clones { clones ≤ MOST_CLONES }
 {
@@ -184,10 +184,10 @@ fn step_desk_to_end(alloc: Global, clones: u32, msgs: &[(Msg, CloneSet)]) -> Opt
     step_desk(alloc, ONE_DESK, clones, msgs, &ends)
 }
 
-/// A clone, how long its log is, and how many clones share it.
+/// A clone, the length of its log, and the number of clones that share it.
 type Share = (u32, u64, u32);
 
-/// Whether the clone's log is as long, and shared by as many.
+/// Whether the clone's log has this length, and is shared by this number of clones.
 fn has_log(proc: &Proc, share: Share) -> bool {
     let (clone, len, clones) = share;
     for copy in proc.copies() {
@@ -198,7 +198,7 @@ fn has_log(proc: &Proc, share: Share) -> bool {
     false
 }
 
-/// Whether so many messages were handled by so many copies, and two clones have these logs.
+/// Whether this number of copies handled this number of messages, and two clones have these logs.
 fn comes_to(flow: &Flow, handled: u64, copies: usize, one: Share, other: Share) -> bool {
     flow.handled == handled
         && flow.done.copies().len() == copies
@@ -215,21 +215,21 @@ fn jobs() -> [(Msg, CloneSet); 3] {
     ]
 }
 
-/// A set for one of the clones parts them: 4 messages and 5, of which the first is handled once.
+/// A set for one of the clones separates them: they handle 4 messages and 5, and share the first.
 fn desks_part(alloc: Global) -> Option<bool> {
     let flow = step_desk_to_end(alloc, 2, &jobs())?;
     let parts = comes_to(&flow, 8, 2, (0, 4, 1), (1, 5, 1));
     Some(parts && flow.over.is_empty() && flow.sent.len() == 4)
 }
 
-/// The messages of a clone are passed over from its end on.
+/// An ended clone takes no messages from its end on.
 fn ended_clone_is_passed_over(alloc: Global) -> Option<bool> {
     let ends = end_of(alloc, 1, 8)?;
     let flow = step_desk(alloc, ONE_DESK, 2, &jobs(), &ends)?;
     Some(comes_to(&flow, 4, 2, (0, 4, 1), (1, 1, 1)))
 }
 
-/// The flow where a station may handle three messages, and clone 0 ends at 8.
+/// The result if a station may handle three messages, and clone 0 ends at 8.
 fn limited_flow(alloc: Global) -> Option<Flow> {
     let text = ONE_DESK
         .replacen(alloc, "horizon = 20", "horizon = 20\nlimit = 3", 1)
@@ -238,7 +238,7 @@ fn limited_flow(alloc: Global) -> Option<Flow> {
     step_desk(alloc, text.as_str(), 2, &jobs(), &ends)
 }
 
-/// Clone 1 goes over then, and clone 0 does not.
+/// Clone 1 exceeds that limit, and clone 0 does not.
 fn one_copy_meets_the_limit(alloc: Global) -> Option<bool> {
     let flow = limited_flow(alloc)?;
     Some(flow.over.first() == Some(1) && flow.over.len() == 1 && flow.handled == 3)
@@ -280,7 +280,7 @@ fn at_eight(alloc: Global, model: &Model, ends: &CloneEnds) -> Option<Proc>
     }
 }
 
-/// From there to the end one of them goes by itself.
+/// From there to the end one of them is alone in its copy.
 fn split_from_eight(alloc: Global, model: &Model) -> Option<bool>
     requires early { 20 ≤ model.now.horizon }
 {
@@ -290,7 +290,7 @@ fn split_from_eight(alloc: Global, model: &Model) -> Option<bool>
     Some(comes_to(&flow, 7, 2, (0, 4, 2), (1, 5, 1)))
 }
 
-/// A set for one of three clones is pending up to 8, and all share a copy; then that clone goes by itself.
+/// A set for one of three clones is pending up to 8, and all share a copy; then that clone gets its own copy.
 fn splits_when_it_is_handled(alloc: Global) -> Option<bool> {
     let model = read_model(alloc, ONE_DESK.as_bytes()).ok()?;
     if model.horizon() < 20 {

@@ -1,4 +1,4 @@
-//! The crew: calls that find memory, tasks that members steal, and calls that end when nobody helps.
+//! Tests of the crew: calls that find memory, tasks that members steal, and calls that end although no member helps.
 ghost use Rattle.std.specs.Prelude.{◌≡◌, ◌+◌, ◌<◌, ◌≤◌, length, IfOk};
 ghost use Rattle.crew_pool.specs.declared.crew.TheConstants.{MOST_TASKS};
 
@@ -12,10 +12,10 @@ use std::sync::{Arc, Wait};
 use std::thread;
 use std::thread::Threads;
 
-/// How often a thread looks whether another one has come so far, before it gives up.
+/// The number of times that a thread checks whether another one has come to a point, before it gives up.
 const TURNS: u32 = 1_000_000;
 
-/// Waits until a count is at least `least`. `false`: it gave up.
+/// Waits until a count is at least `least`. Returns `false` if it gave up.
 fn comes(count: &AtomicU64, least: u64) -> bool {
     for _ in 0..TURNS {
         if count.load(Ordering::SeqCst) >= least {
@@ -26,7 +26,7 @@ fn comes(count: &AtomicU64, least: u64) -> bool {
     false
 }
 
-/// Gives the others time to end what they do.
+/// Lets other threads finish their work.
 fn pause() -> bool {
     for _ in 0..1_000u32 {
         thread::yield_now();
@@ -77,20 +77,20 @@ impl Work for Products {
     }
 }
 
-/// Which tasks a gate holds.
+/// The tasks that a gate holds.
 #[derive(Clone, Copy)]
 pub(crate) enum Held {
     /// None.
     Nothing,
     /// The task of this number, until five tasks have begun.
     Task(u32),
-    /// The caller's tasks, except the first ones of all workers together, until a member has begun a task.
+    /// The caller's tasks, except the first `except` tasks of all workers together, until a member has begun a task.
     Caller { except: u64 },
     /// The caller's tasks, until a member has begun one, and the member's, until five tasks have begun.
     Both,
 }
 
-/// A gate that counts the tasks, and notes which workers began one and whether a held task gave up.
+/// A gate that counts the tasks. It records which workers began one, and whether a held task gave up.
 #[derive(Drop)]
 pub(crate) struct Notes {
     held: Held,
@@ -112,7 +112,7 @@ impl Notes {
         }
     }
 
-    /// How many tasks have begun.
+    /// The number of tasks that have begun.
     pub(crate) fn begun(&self) -> u64 {
         self.begun.load(Ordering::SeqCst)
     }
@@ -174,7 +174,7 @@ fn call<L: Ledger, R: Wait>(
     crew.all(rt, alloc, work, items, steps)
 }
 
-/// The same call by the workers of one call.
+/// The same call with workers that are started for this call.
 fn call_forked<L: Ledger, R: Threads + Wait + Sync>(
     rt: &R,
     alloc: Global,
@@ -202,7 +202,7 @@ fn are_squares(outs: &[u64], tasks: u32) -> bool {
     outs.len() == tasks as usize
 }
 
-/// Whether this many tasks have their answers, by the crew and by the workers of one call.
+/// Whether this number of tasks have the right results, by the crew and by workers of one call.
 fn have_answers<L: Ledger, R: Threads + Wait + Sync>(
     rt: &R,
     alloc: Global,
@@ -223,7 +223,7 @@ fn have_answers<L: Ledger, R: Threads + Wait + Sync>(
     are_squares(outs.as_slice(), tasks) && are_squares(forked.as_slice(), tasks)
 }
 
-/// Whether no task, one, five and 64 have their answers, one call after the other, and each task began once.
+/// Whether no task, one, five and 64 have the right results, one call after the other, and each task began once.
 fn all_sizes<L: Ledger, R: Threads + Wait + Sync>(
     rt: &R,
     alloc: Global,
@@ -238,7 +238,7 @@ fn all_sizes<L: Ledger, R: Threads + Wait + Sync>(
         && crew.gate().begun() == 140
 }
 
-/// Whether five tasks, the third of which is out of memory, have no answers, and the crew runs nothing after them.
+/// Whether five tasks, the third of which is out of memory, have no results, and the crew runs nothing after them.
 fn is_refused<L: Ledger, R: Threads + Wait + Sync>(
     rt: &R,
     alloc: Global,
@@ -281,7 +281,7 @@ enum Plan {
     FiveLater,
 }
 
-/// Whether the plan's calls have their answers.
+/// Whether the calls of the plan have the right results.
 fn follow<L: Ledger, R: Threads + Wait + Sync>(
     rt: &R,
     alloc: Global,
@@ -303,7 +303,7 @@ fn follow<L: Ledger, R: Threads + Wait + Sync>(
     }
 }
 
-/// The same on the counter that the blank makes. Then the bell ends the members, whatever the result.
+/// The same with the step counter of a blank. Then the bell dismisses the members, whatever the result.
 fn lead_counted<L: Ledger, R: Threads + Wait + Sync>(
     rt: &R,
     alloc: Global,
@@ -322,7 +322,7 @@ fn lead_counted<L: Ledger, R: Threads + Wait + Sync>(
     right
 }
 
-/// The same on a counter of its own.
+/// The same with a new step counter.
 fn lead<R: Threads + Wait + Sync>(
     rt: &R,
     alloc: Global,
@@ -333,7 +333,7 @@ fn lead<R: Threads + Wait + Sync>(
     lead_counted::<Brand, R>(rt, alloc, crew, plan, bell, Blank::new(1))
 }
 
-/// The same while these members serve.
+/// The same, while these members serve concurrently.
 fn lead_beside<R: Threads + Wait + Sync>(
     rt: &R,
     alloc: Global,
@@ -363,21 +363,21 @@ fn lead_crew<R: Threads + Wait + Sync>(
     Some(lead_beside(rt, alloc, crew, members, plan, &bell))
 }
 
-/// Whether five tasks by two workers come to their end under a gate that holds these.
+/// Whether five tasks by two workers finish under a gate that holds these.
 fn five_held<R: Threads + Wait + Sync>(rt: &R, alloc: Global, held: Held) -> bool {
     let gate = Notes::new(held, false);
     let right = lead_crew(rt, alloc, &gate, Workers { count: 2 }, Plan::Five);
     right == Some(true) && gate.begun() == 5 && gate.have_begun(0b11)
 }
 
-/// All sizes by a crew of this number of workers.
+/// Calls of all sizes by a crew of this number of workers.
 fn all_sizes_by<R: Threads + Wait + Sync>(rt: &R, alloc: Global, count: u32) -> Option<bool> {
     let workers = Workers::new(count)?;
     let gate = Notes::new(Held::Nothing, false);
     lead_crew(rt, alloc, &gate, workers, Plan::AllSizes(workers))
 }
 
-/// All sizes by a crew whose members nobody starts: the caller takes back what it has given them.
+/// Calls of all sizes by a crew whose members are never started: the caller takes back their tasks.
 fn all_sizes_alone<R: Threads + Wait + Sync>(rt: &R, alloc: Global) -> Option<bool> {
     let workers = Workers { count: 4 };
     let gate = Notes::new(Held::Nothing, false);
@@ -403,21 +403,21 @@ fn alone_the_caller_runs_all(rt: HostRuntime) {
     assert!(rt; all_sizes_alone(&rt, rt.alloc()) == Some(true));
 }
 
-/// If the tasks were dealt to the workers beforehand, one of the two calls would give up.
+/// If the tasks were assigned to the workers beforehand, one of the two calls would give up.
 #[test]
 fn tasks_stolen(rt: HostRuntime) {
     assert!(rt; five_held(&rt, rt.alloc(), Held::Task(0)));
     assert!(rt; five_held(&rt, rt.alloc(), Held::Task(1)));
 }
 
-/// The caller is held until the member has begun a task, and the member until the caller has begun the others: so the
-/// caller is at its end first, and waits for the member.
+/// The caller is held until the member has begun a task, and the member until the caller has begun the others. So the
+/// caller finishes first, and waits for the member.
 #[test]
 fn workers_meet(rt: HostRuntime) {
     assert!(rt; five_held(&rt, rt.alloc(), Held::Both));
 }
 
-/// A member runs what the caller has started while the caller does something else.
+/// A member runs what the caller has started while the caller does other work.
 #[test]
 fn a_call_is_finished_later(rt: HostRuntime) {
     let gate = Notes::new(Held::Nothing, false);

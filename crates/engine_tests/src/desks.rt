@@ -1,4 +1,4 @@
-//! Callers side by side, and the order of turns.
+//! Tests of the desk: concurrent callers, and the order of turns.
 ghost use Rattle.std.specs.Prelude.{◌≡◌, ◌<◌, ◌≤◌, ◌+◌, [], All, IfOk, length};
 ghost use Rattle.sim_base.specs.Clones.{base};
 ghost use Rattle.run_laws.specs.Fronts.{least_of};
@@ -53,7 +53,7 @@ fn set<R: Abort>(rt: &R, at: u64) -> Decision {
     set_of(rt, b"base", at)
 }
 
-/// The first time that is due in a network, where its horizon is not 0.
+/// The first time that is due in a network, unless its horizon is 0.
 fn first_due(alloc: Global, model: Arc<Model>) -> Result<Option<u64>, NoMemory>
     ensures least { IfOk result (λ l. l ≡ least_of (simulation model.value) base 0) }
     ensures horizon { IfOk result (λ l. 0 < model.value.horizon) }
@@ -65,7 +65,7 @@ fn first_due(alloc: Global, model: Arc<Model>) -> Result<Option<u64>, NoMemory>
     Ok(world.least_of(0))
 }
 
-/// A desk of so many analysts over the model of this text, with the first time that is due in its network.
+/// A desk of this number of analysts over the model of this text, with the first time that is due in its network.
 fn begin_desk(
     alloc: Global,
     text: &str,
@@ -101,7 +101,7 @@ fn begin_desk_alone(alloc: Global) -> Result<(Desk, Pass, Helm, Option<u64>), No
     Ok((desk, pass, helm, least))
 }
 
-/// The results of calls: how many were accepted, whether their entries rise, and the sum of these.
+/// The results of calls: the number accepted, whether their entries rise, and the sum of the entries.
 #[derive(Clone, Copy)]
 struct Outcome {
     accepted: u32,
@@ -109,7 +109,7 @@ struct Outcome {
     sum: u64,
 }
 
-/// Asks for this so many times.
+/// Submits this decision this number of times.
 fn ask<R: Wait>(rt: &R, desk: &Desk, pass: &mut Pass, d: &Decision, many: u32) -> Outcome
     requires desk { pass.old.desk ≡ desk_id desk.now }
     ensures desk { pass.new.desk ≡ pass.old.desk }
@@ -135,7 +135,7 @@ fn ask<R: Wait>(rt: &R, desk: &Desk, pass: &mut Pass, d: &Decision, many: u32) -
     }
 }
 
-/// The helm's first turn; the front that it raised.
+/// The helm's first turn. Returns the front that it raised.
 fn first_turn<R: Wait>(
     rt: &R,
     alloc: Global,
@@ -152,7 +152,7 @@ fn first_turn<R: Wait>(
     Some(turn.front)
 }
 
-/// Whether the desk takes 4,096 calls of this pass, of which it accepts one, and answers Full to the next.
+/// Whether the desk takes 4,096 calls of this pass, accepts one of them, and replies Full to the next.
 fn fills<R: Wait + Abort>(rt: &R, desk: &Desk, pass: &mut Pass) -> bool
     requires desk { pass.old.desk ≡ desk_id desk.now }
 {
@@ -167,13 +167,13 @@ fn fills<R: Wait + Abort>(rt: &R, desk: &Desk, pass: &mut Pass) -> bool
         && desk.decide(rt, pass, set(rt, 0)) == full
 }
 
-/// The same of a desk that begins.
+/// The same with a new desk.
 fn fills_at_last<R: Wait + Abort>(rt: &R, alloc: Global) -> Result<bool, NoMemory> {
     let (desk, mut pass, _helm, _least) = begin_desk_alone(alloc)?;
     Ok(fills(rt, &desk, &mut pass))
 }
 
-/// The helm's first turn, and calls of this pass beside it.
+/// The helm's first turn, concurrent with calls of this pass.
 fn turn_beside<R: Threads + Wait + Sync>(
     rt: &R,
     alloc: Global,
@@ -208,7 +208,7 @@ fn turn_beside<R: Threads + Wait + Sync>(
     )
 }
 
-/// Whether the pass sees front 5: a set at the front is in time, and one right before it is not.
+/// Whether the pass sees front 5: a set at the front is on time, and one just before it is late.
 fn is_late_by_a_hair<R: Wait + Abort>(rt: &R, desk: &Desk, pass: &mut Pass) -> bool
     requires desk { pass.old.desk ≡ desk_id desk.now }
 {
@@ -224,7 +224,7 @@ fn is_late_by_a_hair<R: Wait + Abort>(rt: &R, desk: &Desk, pass: &mut Pass) -> b
         && timely.reply == Reply::Accepted
 }
 
-/// Whether a front that another thread raised is seen.
+/// Whether a pass sees a front that another thread raised.
 fn is_late_by_another<R: Threads + Wait + Abort + Sync>(
     rt: &R,
     alloc: Global,
@@ -257,7 +257,7 @@ fn asks_at_ten<R: Wait + Abort>(rt: &R, desk: &Desk, pass: &mut Pass) -> bool
         && desk.is_late(pass, 10).is_none()
 }
 
-/// Whether the pass at a place does so, or where it is asked nothing before, sees front 10.
+/// Whether the first pass has those receipts, or another pass sees front 10.
 fn sees_ten<R: Wait + Abort>(rt: &R, desk: &Desk, pass: &mut Pass, place: usize) -> bool
     requires desk { pass.old.desk ≡ desk_id desk.now }
 {
@@ -268,7 +268,7 @@ fn sees_ten<R: Wait + Abort>(rt: &R, desk: &Desk, pass: &mut Pass, place: usize)
     }
 }
 
-/// How many of the passes do so.
+/// The number of passes for which this holds.
 fn count_who_see_ten<R: Threads + Wait + Abort + Sync>(
     rt: &R,
     desk: &Desk,
@@ -312,7 +312,7 @@ fn begin_world_with_desk(
     Ok((desk, passes, helm, world))
 }
 
-/// The least time that is due, if there is one clone.
+/// The least time that is due in a world of one clone.
 fn least_alone(alloc: Global, world: &World) -> Result<Vec<Option<u64>>, NoMemory>
     ensures value { IfOk result (λ v. v.items ≡ leasts_of world.now.net world.now.clones world.now.front) }
 {
@@ -323,7 +323,7 @@ fn least_alone(alloc: Global, world: &World) -> Result<Vec<Option<u64>>, NoMemor
     Ok(Vec::from_array(alloc, [least])?)
 }
 
-/// A turn of the helm over the base clone alone: the world takes what was accepted, and the next window's bound.
+/// A turn of the helm over only the base clone. The world takes what was accepted. Returns the next window's bound.
 fn raise_front<R: Wait>(
     rt: &R,
     alloc: Global,
@@ -343,7 +343,7 @@ fn raise_front<R: Wait>(
     Ok((world, turn.front))
 }
 
-/// A turn of the helm, and its window, on the counter that the blank makes.
+/// A turn of the helm and its window, with the step counter of a blank.
 fn take_turn_counted<L: Ledger, R: Wait>(
     rt: &R,
     alloc: Global,
@@ -400,7 +400,7 @@ fn three_see_ten<R: Threads + Wait + Abort + Sync>(
     Ok(world.front() == 10 && count_who_see_ten(rt, &desk, &mut passes) == 3)
 }
 
-/// All passes ask for this, side by side, fifty times each.
+/// All passes submit this decision concurrently, fifty times each.
 fn ask_all<R: Threads + Wait + Sync>(rt: &R, desk: &Desk, passes: &mut Vec<Pass>, d: &Decision)
     requires desk { All (λ p. p.desk ≡ desk_id desk.now) passes.old.items }
     ensures count { length passes.new.items ≡ length passes.old.items }
@@ -419,7 +419,7 @@ fn ask_all<R: Threads + Wait + Sync>(rt: &R, desk: &Desk, passes: &mut Vec<Pass>
     );
 }
 
-/// How many of the calls were accepted.
+/// The number of calls that were accepted.
 fn accepted_of(calls: &[Call]) -> u32 {
     let mut accepted = 0u32;
     for call in calls {
@@ -430,7 +430,7 @@ fn accepted_of(calls: &[Call]) -> u32 {
     accepted
 }
 
-/// Whether sixteen callers who fork to one name make a journal of all their calls, and one of them is accepted.
+/// Whether sixteen callers who fork to one name produce a journal with all their calls, one of them accepted.
 #[tactic(auto, using(decision_desk::proofs::NewPasses::new_passes_count, decision_desk::proofs::NewPasses::new_passes_desks))]
 fn one_of_sixteen_forks<R: Threads + Wait + Abort + Sync>(
     rt: &R,

@@ -1,17 +1,17 @@
-//! The tests of the engine and of what runs beside it. The library is empty.
+//! The tests of the engine and of the crates that run with it. The library is empty.
 //!
-//! A crate's tests are proved together with the crate, so a crate with tests is proved twice. Those of these crates
-//! are here, where they are proved once, and so are their crates. Each module tests one crate by its public items:
+//! A crate's tests are proved together with the crate, so a crate with tests is proved twice. The tests of these crates
+//! are here, so both the tests and the crates are proved once. Each module tests one crate by its public items:
 //!
 //! ```text
 //! crews     crew_pool         desks           decision_desk
 //! copies    phys_proc         shelves         shelf
 //! worlds    world_core        live_studies    live_study
-//! statistics    study_stats, and of queue_stats what it calls
+//! statistics    study_stats, and the parts of queue_stats that it calls
 //! ```
 //!
-//! They show what is not proved: that calls find memory, and that clauses mean what they should, by values from
-//! outside. If threads run side by side, the answer must be the same under every schedule.
+//! They show what is not proved: that calls find memory, and that contracts mean what they should, against values
+//! computed by hand. If threads run concurrently, a test must pass under every schedule.
 #![tactic(auto)]
 
 #[cfg(test)]

@@ -1,4 +1,4 @@
-//! Two analysts beside the engine, whatever the schedule: what the journal and the looks of a run with looks alone are.
+//! Tests of a run with two analysts who only look: its journal and its looks, under every schedule.
 ghost use Rattle.std.specs.Prelude.{◌≡◌, ◌<◌};
 
 use crew_pool::{NoGate, Workers};
@@ -13,7 +13,7 @@ use std::sync::ledger::{Blank, Ledger};
 use std::sync::{Arc, Wait};
 use std::thread::Threads;
 
-/// Looks at a clone that is there, at one that isn't, and at no station.
+/// Looks at an existing clone, at a missing one, and at a missing station.
 const LOOKS: &str = "look base gate
 look base till
 analyst ben
@@ -39,7 +39,7 @@ fn run_counted<L: Ledger, R: Threads + Wait + Sync>(
     live_study(rt, alloc, workers, &NoGate, &model, &script, &mut steps).ok()
 }
 
-/// The place behind an analyst's looks, which begin at this place, where each saw a station or none, as it should.
+/// The index after an analyst's looks, which begin at this index, if each saw a station or none as expected.
 fn behind_looks(live: &LiveRun, analyst: usize, stations: &[bool], first: usize) -> Option<usize> {
     let own = live.looks.as_slice().get(analyst)?;
     let mut next = first;
@@ -52,7 +52,7 @@ fn behind_looks(live: &LiveRun, analyst: usize, stations: &[bool], first: usize)
     Some(next)
 }
 
-/// Whether so many looks were made, and each of them saw a station or none, as it should.
+/// Whether the run has this number of looks, and each saw a station or none as expected.
 fn have_seen(live: &LiveRun, stations: &[bool]) -> bool {
     let mut next = 0usize;
     for analyst in 0..live.looks.len() {
@@ -64,7 +64,7 @@ fn have_seen(live: &LiveRun, stations: &[bool]) -> bool {
     next == stations.len()
 }
 
-/// Whether the run came to its end, how many fronts there are, and what each look saw.
+/// Whether the run came to its end, with the right number of fronts, and each look saw what it should.
 fn looks_are_right<R: Threads + Wait + Sync>(rt: &R, alloc: Global) -> Option<bool> {
     let live = run_counted::<Brand, R>(rt, alloc, Blank::new(1))?;
     Some(

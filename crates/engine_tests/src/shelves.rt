@@ -1,4 +1,4 @@
-//! A run that publishes the gate's rack after each window, and readers beside it.
+//! Tests of a run that publishes the gate's rack after each window, with concurrent readers.
 ghost use Rattle.std.specs.Prelude.{◌≡◌, ◌<◌, ◌≤◌, length, false, All, IfOk, IfSome};
 ghost use Rattle.net_model.specs.declared.limits.TheConstants.{MOST_STATIONS};
 ghost use Rattle.shelf.specs.Racks.{HasRack, MayOpen};
@@ -36,10 +36,10 @@ const HORIZON: u64 = 10010;
 
 const GATE: u32 = 1;
 
-/// A reader looks beside the run until it has seen the end, and no more often than this.
+/// The maximum number of looks of a reader that waits for the end of the run.
 const MOST_LOOKS: u32 = 2_000_000;
 
-/// The world before anything is handled.
+/// A world before anything is handled.
 fn first(alloc: Global) -> Result<World, NoMemory>
     ensures gate { IfOk result (λ w. 1 ≤ length w.net.sites) }
 {
@@ -53,7 +53,7 @@ fn first(alloc: Global) -> Result<World, NoMemory>
     Ok(world)
 }
 
-/// That world, and the gate's rack.
+/// The same world, and the gate's rack.
 fn opening(alloc: Global) -> Result<(World, Vec<Rack>), NoMemory>
     ensures opening { IfOk result (λ p. MayOpen p.1.items) }
     ensures few { IfOk result (λ p. length p.1.items ≤ MOST_STATIONS) }
@@ -66,7 +66,7 @@ fn opening(alloc: Global) -> Result<(World, Vec<Rack>), NoMemory>
     Ok((world, racks))
 }
 
-/// A shelf of a run that begins, with two seats.
+/// The shelf of a new run, with two seats.
 fn begin_shelf<J: Naming, W: Wait + Drop>(
     waits: W,
     alloc: Global,
@@ -95,7 +95,7 @@ fn take_seat<J: Naming>(seats: &mut Vec<Seat<J>>) -> Result<Seat<J>, NoMemory>
     Ok(seat)
 }
 
-/// Two seats, which are taken off the list.
+/// Two seats, removed from the list.
 fn two_of<J: Naming>(seats: Vec<Seat<J>>) -> Result<(Seat<J>, Seat<J>), NoMemory>
     requires there { All (λ s. HasRack 1 s) seats.items }
     ensures one { IfOk result (λ p. HasRack 1 p.0) }
@@ -127,7 +127,7 @@ fn step_window(alloc: Global, world: World) -> Option<(World, Rack)>
     }
 }
 
-/// A window, and the gate's rack after it is published.
+/// A window; the gate's rack is published after it.
 #[tactic(auto, using(crate::proofs::Seen::seen_follows, crate::proofs::Seen::seen_with))]
 fn publish_window<J: Naming, W: Wait + Drop>(
     alloc: Global,
@@ -165,7 +165,7 @@ fn publish_all<J: Naming, W: Wait + Drop>(
     Ok(())
 }
 
-/// Looks at the gate; the front.
+/// Looks at the gate. Returns the front.
 fn look_once<J: Naming>(seat: &mut Seat<J>, who: &Name) -> u64
     requires there { HasRack 1 seat.old }
     ensures there { HasRack 1 seat.new }
@@ -173,7 +173,7 @@ fn look_once<J: Naming>(seat: &mut Seat<J>, who: &Name) -> u64
     seat.look(GATE, who).front
 }
 
-/// Learns what it is told, and looks.
+/// Learns of a publish, and looks.
 fn look_told<J: Naming>(seat: &mut Seat<J>, told: Told<J>, who: &Name) -> u64
     requires there { HasRack 1 seat.old }
     ensures there { HasRack 1 seat.new }
@@ -209,7 +209,7 @@ fn look_often<J: Naming>(seat: Seat<J>, who: &Name) -> Reader<J>
     Reader { seat, rises }
 }
 
-/// Two readers side by side.
+/// Two concurrent readers.
 fn look_both<J: Naming + Send + Sync, R: Threads + Wait + Sync>(
     rt: &R,
     one: Seat<J>,
@@ -234,7 +234,7 @@ fn look_both<J: Naming + Send + Sync, R: Threads + Wait + Sync>(
     )
 }
 
-/// The run beside two readers.
+/// The run, concurrent with two readers.
 fn run_beside<J: Naming + Send + Sync, W: Wait + Drop + Send, R: Threads + Wait + Sync>(
     rt: &R,
     alloc: Global,
@@ -268,7 +268,7 @@ fn run_beside<J: Naming + Send + Sync, W: Wait + Drop + Send, R: Threads + Wait 
     )
 }
 
-/// Whether the reader can be told of the last publish, and sees its front then.
+/// Whether the reader can learn of the last publish, and then sees its front.
 fn sees_told<J: Naming, W: Wait + Drop>(
     stocker: &mut Stocker<J, W>,
     seat: &mut Seat<J>,
@@ -287,7 +287,7 @@ fn sees_told<J: Naming, W: Wait + Drop>(
     }
 }
 
-/// Whether each of the two readers can be told once, and no more. They are gone then.
+/// Whether each of the two readers can learn of one publish only. Both are dropped afterwards.
 fn tells_each<J: Naming, W: Wait + Drop>(
     stocker: &mut Stocker<J, W>,
     one: Seat<J>,
@@ -306,7 +306,7 @@ fn tells_each<J: Naming, W: Wait + Drop>(
     first && second && stocker.spares.is_empty()
 }
 
-/// Whether all windows were published, and two readers beside them saw what they should.
+/// Whether all windows were published, and the two concurrent readers saw what they should.
 fn saw_all<J: Naming, W: Wait + Drop>(
     stocker: Stocker<J, W>,
     one: Reader<J>,
@@ -322,7 +322,7 @@ fn saw_all<J: Naming, W: Wait + Drop>(
     rise && told && stocker.published.len() >= 10_000
 }
 
-/// Whether two readers beside a run saw what they should.
+/// Whether two readers concurrent with a run saw what they should.
 fn beside<J: Naming + Send + Sync, W: Wait + Drop + Send, R: Threads + Wait + Sync>(
     rt: &R,
     waits: W,
@@ -338,8 +338,9 @@ fn beside<J: Naming + Send + Sync, W: Wait + Drop + Send, R: Threads + Wait + Sy
     Ok(saw_all(stocker, one, two, who))
 }
 
-/// Whether nothing is told before any publish, a look then gives the opening rack, one after it the rack that was
-/// published, each seat can be told of it once, and the stocker goes on when its readers are gone.
+/// Whether nothing is announced before any publish, and a look then returns the opening rack. Then whether a look after
+/// a publish returns the published rack, and each seat can learn of it once. Last, whether the stocker continues when
+/// its readers are dropped.
 fn looks_are_right<J: Naming, W: Wait + Drop>(
     alloc: Global,
     world: World,
@@ -367,7 +368,7 @@ fn looks_are_right<J: Naming, W: Wait + Drop>(
     Ok(quiet && opens && 0 < front && shown && told && goes_on)
 }
 
-/// The same of a run that begins.
+/// The same for a new run.
 fn one_by_one<J: Naming, W: Wait + Drop>(
     waits: W,
     alloc: Global,
@@ -381,7 +382,7 @@ fn one_by_one<J: Naming, W: Wait + Drop>(
     looks_are_right(alloc, world, stocker, one, two, who)
 }
 
-/// The clone that every model has.
+/// The base clone's name, which every model has.
 fn base<R: Abort>(rt: &R) -> Name {
     Name::read(b"base").expect(rt, "a name")
 }

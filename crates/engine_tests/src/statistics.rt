@@ -1,4 +1,4 @@
-//! The statistics of small studies at the horizon, by values worked out by hand.
+//! Tests of the statistics of small studies at the horizon, against values computed by hand.
 use crate::worlds::{faster, fork, run_of};
 use sample_models::{CLASSES, FAN_BY_TURN, NO_ROOM, ONE_DESK};
 use sim_base::{Decision, Name};
@@ -6,7 +6,8 @@ use std::alloc::Global;
 use study_stats::make_statistics;
 use world_core::World;
 
-/// Clones of one desk that end, and their ends. At the desk two of them have the log of `eight`, two that of `ten`.
+/// Clones of one desk that end, and their ends. At the desk two of them share the log of `eight`, and two that of
+/// `ten`.
 const ENDS: [(&str, u64); 6] = [
     ("gone", 0),
     ("brief", 9),
@@ -80,7 +81,7 @@ fn one_desk_is_right(alloc: Global) -> Option<bool> {
     has_statistics(alloc, ONE_DESK, decisions.as_slice(), ONE_DESK_STATISTICS)
 }
 
-/// Whether the same jobs have theirs by class and by arrival.
+/// Whether the same jobs have the right statistics by class and by arrival.
 fn orders_are_right(alloc: Global) -> Option<bool> {
     let by_arrival = CLASSES.replacen(alloc, "\"class\"", "\"arrival\"", 1).ok()?;
     let by_class = has_statistics(alloc, CLASSES, &[], BY_CLASS_STATISTICS)?;

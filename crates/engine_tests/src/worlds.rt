@@ -1,5 +1,5 @@
-//! The two clones of the worked example, window by window, and the results of other cuttings, crews, forks, looks and
-//! ends.
+//! Tests of the world: the two clones of the worked example, window by window, and other windows, crews, forks, looks
+//! and ends.
 ghost use Rattle.std.specs.Prelude.{◌≡◌, ◌<◌, ◌≤◌, ◌∷◌, [], IfOk, IfSome};
 ghost use Rattle.sim_base.specs.Clones.{base};
 ghost use Rattle.decision_book.specs.Journal.{after};
@@ -20,10 +20,10 @@ use std::thread;
 use std::thread::Threads;
 use world_core::{Window, World, WorldFault};
 
-/// A front, and there the copies, the messages handled once and those alone, of the gate, the desk and the exit.
+/// A front, and the copies, the messages handled once and those handled alone, at the gate, the desk and the exit.
 type Row = (u64, [u64; 3], [u64; 3], [u64; 3]);
 
-/// What each window comes to.
+/// The figures after each window.
 const WINDOWS: [Row; 7] = [
     (5, [1, 1, 2], [1, 0, 0], [1, 0, 0]),
     (7, [1, 2, 4], [1, 1, 2], [1, 0, 0]),
@@ -58,7 +58,7 @@ const FAST: [(u64, u32, u32, u64); 9] = [
     (13, 3, 2, 3),
 ];
 
-/// The model of a text.
+/// Reads a model.
 fn model_of(alloc: Global, text: &str) -> Option<Arc<Model>> {
     let model = read_model(alloc, text.as_bytes()).ok()?;
     Arc::new(alloc, model).ok()
@@ -74,7 +74,7 @@ fn begin_world(alloc: Global, model: &Arc<Model>) -> Option<World>
     World::new(alloc, model).ok()
 }
 
-/// A book of a model, with no call.
+/// A new book of a model.
 fn begin_book(alloc: Global, model: &Arc<Model>) -> Option<Book>
     ensures net { IfSome result (λ b. b.net ≡ model.now.value) }
     ensures alone { IfSome result (λ b. (after b.net b.events).clones ≡ base ∷ []) }
@@ -84,7 +84,7 @@ fn begin_book(alloc: Global, model: &Arc<Model>) -> Option<Book>
     Book::begin(alloc, model).ok()
 }
 
-/// The world with a decision more, where the book accepts it.
+/// The world with one more decision, if the book accepts it.
 fn take_decision(alloc: Global, book: &mut Book, world: World, decision: &Decision) -> Option<World>
     requires abreast { AreAbreast book.old world }
     ensures abreast { IfSome result (λ w. AreAbreast book.new w) }
@@ -150,7 +150,7 @@ fn two_clones(alloc: Global, text: &str) -> Option<World> {
     begin_with(alloc, text, &[fork("fast")?, faster(8)?])
 }
 
-/// A window to the bound, or to the next front if that is less, on the counter that the blank makes.
+/// A window to the bound, or to the next front if that is less, with the step counter of a blank.
 fn window_counted<L: Ledger>(
     alloc: Global,
     world: World,
@@ -170,14 +170,14 @@ fn window_counted<L: Ledger>(
     world.window_in_place(alloc, bound, &mut steps)
 }
 
-/// The same, on a counter of its own.
+/// The same with a new step counter.
 pub(crate) fn window(alloc: Global, world: World, bound: u64) -> Result<World, WorldFault>
     ensures net { IfOk result (λ w. w.net ≡ world.net) }
 {
     window_counted::<Brand>(alloc, world, bound, Blank::new(1))
 }
 
-/// A window of a crew to the next front, on the counter that the blank makes.
+/// A window of a crew to the next front, with the step counter of a blank.
 fn crew_window_counted<L: Ledger, R: Wait>(
     rt: &R,
     alloc: Global,
@@ -197,7 +197,7 @@ fn crew_window_counted<L: Ledger, R: Wait>(
     world.window(rt, alloc, crew, bound, &mut steps)
 }
 
-/// The same, on a counter of its own.
+/// The same with a new step counter.
 fn crew_window<R: Wait>(
     rt: &R,
     alloc: Global,
@@ -284,7 +284,7 @@ fn has_glance(
             }
 }
 
-/// Whether the world stands at the row's front, with its figures.
+/// Whether the world is at the row's front, with its figures.
 fn has_row(world: &World, row: Row) -> bool {
     let (front, at_gate, at_desk, at_exit) = row;
     world.front() == front
@@ -293,7 +293,7 @@ fn has_row(world: &World, row: Row) -> bool {
         && has_figures(world, 3, at_exit)
 }
 
-/// The world after a window of a crew, if it comes to the row.
+/// The world after a window of a crew, if it has the row's figures.
 fn come_to_row<R: Wait>(
     rt: &R,
     alloc: Global,
@@ -309,7 +309,7 @@ fn come_to_row<R: Wait>(
     }
 }
 
-/// Whether a crew's windows of the two clones come to the rows of the table, and the run to the two traces.
+/// Whether the crew's windows of the two clones have the figures of the table, and the run has the two traces.
 fn has_rows<R: Wait>(rt: &R, alloc: Global, crew: &mut Crew<'_, Window, Notes>) -> Option<bool> {
     let mut world = two_clones(alloc, ONE_DESK)?;
     for i in 0..WINDOWS.len() {
@@ -325,7 +325,7 @@ fn busy(alloc: Global) -> Option<World> {
     begin_world(alloc, &model)
 }
 
-/// Whether three windows of a crew come to this. The first is small, since no window came before it.
+/// Whether three windows of a crew have these figures. The first is small, since no window came before it.
 fn has_busy_windows<R: Wait>(
     rt: &R,
     alloc: Global,
@@ -343,7 +343,7 @@ fn has_busy_windows<R: Wait>(
     )
 }
 
-/// What a crew steps.
+/// A study for a crew.
 #[derive(Clone, Copy)]
 enum Study {
     /// The two clones of the worked example.
@@ -352,7 +352,7 @@ enum Study {
     Busy,
 }
 
-/// Whether the study's windows are right. Then the bell ends the members, whatever the result.
+/// Whether the study's windows are right. Then the bell dismisses the members, whatever the result.
 fn lead<R: Wait>(
     rt: &R,
     alloc: Global,
@@ -369,7 +369,7 @@ fn lead<R: Wait>(
     right
 }
 
-/// The same while these members serve.
+/// The same, while these members serve concurrently.
 fn lead_beside<R: Threads + Wait + Sync>(
     rt: &R,
     alloc: Global,
@@ -409,14 +409,14 @@ fn run_all(alloc: Global, world: World, length: u64) -> Option<World> {
     Some(world)
 }
 
-/// The world of a model's text with these decisions, at its end.
+/// The world of a model's text with these decisions, at the horizon.
 pub(crate) fn run_of(alloc: Global, text: &str, decisions: &[Decision]) -> Option<World> {
     let world = begin_with(alloc, text, decisions)?;
     run_all(alloc, world, 20)
 }
 
-/// Whether `fast` has these at the desk: five entries, of which the last is at 11, in a copy of its own. At the gate
-/// both clones share the copy.
+/// Whether `fast` has its own copy at the desk, with five entries, the last at 11. At the gate both clones share the
+/// copy.
 fn has_own_desk(world: &World) -> bool {
     if world.lists().len() != 2 || world.model().len() != 3 || world.log_len(1, 2) != 5 {
         return false;
@@ -426,7 +426,7 @@ fn has_own_desk(world: &World) -> bool {
         && world.first_with(1, 1) == 0
 }
 
-/// Whether short windows come to the same traces and figures.
+/// Whether short windows lead to the same traces and figures.
 fn short_windows_are(alloc: Global) -> Option<bool> {
     let world = two_clones(alloc, ONE_DESK)?;
     let world = run_all(alloc, world, 1)?;
@@ -437,7 +437,7 @@ fn short_windows_are(alloc: Global) -> Option<bool> {
     )
 }
 
-/// Forks off the base clone, for so many clones in all.
+/// Forks from the base clone, up to this number of clones.
 fn forks(alloc: Global, clones: u32) -> Option<Vec<Decision>> {
     let old = Name::read(b"base")?;
     let mut forks = Vec::new(alloc);
@@ -454,7 +454,7 @@ fn forks(alloc: Global, clones: u32) -> Option<Vec<Decision>> {
     Some(forks)
 }
 
-/// Whether all is shared by 256 clones, and the last one has its trace.
+/// Whether 256 clones share everything, and the last one has its trace.
 fn share_all(alloc: Global, world: &World) -> bool {
     has_figures(world, 1, [1, 2, 512])
         && has_figures(world, 2, [1, 4, 1024])
@@ -462,7 +462,7 @@ fn share_all(alloc: Global, world: &World) -> bool {
         && has_trace(alloc, world, 255, &BASE)
 }
 
-/// Whether 256 clones that are alike share every message.
+/// Whether 256 identical clones share every message.
 fn all_is_shared(alloc: Global) -> Option<bool> {
     let forks = forks(alloc, 256)?;
     let world = run_of(alloc, ONE_DESK, forks.as_slice())?;
@@ -476,7 +476,7 @@ fn ended_clone_rests(alloc: Global) -> Option<bool> {
     Some(has_traces(alloc, &world, &BASE, &FAST[..8]) && has_figures(&world, 3, [2, 2, 3]))
 }
 
-/// Station, clone, and what a look at the station's rack finds of it, where two of three clones are alike.
+/// Station, clone, and what a look at the station's rack finds of it, when two of three clones have the same decisions.
 const LOOKED: [(u32, &str, Option<Found>); 5] = [
     (
         1,
@@ -542,7 +542,7 @@ const LOOKED_AT_TEN: [(u32, &str, Option<Found>); 4] = [
     ),
 ];
 
-/// Whether all looks find what stands in the table.
+/// Whether all looks find what the table has.
 fn has_glances(alloc: Global, world: &mut World, table: &[(u32, &str, Option<Found>)]) -> bool {
     for i in 0..table.len() {
         let (station, who, found) = table[i];
@@ -553,7 +553,8 @@ fn has_glances(alloc: Global, world: &mut World, table: &[(u32, &str, Option<Fou
     true
 }
 
-/// Whether looks find the three clones and no fourth, with what each has handled and how many share it.
+/// Whether looks find the three clones and no fourth, with the number of messages handled and of clones that share the
+/// log.
 fn looks_find_three(alloc: Global) -> Option<bool> {
     let decisions = [fork("fast")?, fork("like_base")?, faster(8)?];
     let mut world = run_of(alloc, ONE_DESK, &decisions)?;
@@ -605,7 +606,7 @@ fn forks_late(alloc: Global) -> Option<bool> {
     Some(at == 10 && world.front() == 12 && has_figures(&world, 2, [2, 4, 7]))
 }
 
-/// The two clones at 7, where a station may handle three messages.
+/// The two clones at 7, when a station may handle three messages.
 fn limited_clones(alloc: Global) -> Option<World> {
     let text = ONE_DESK
         .replacen(alloc, "horizon = 20", "horizon = 20\nlimit = 3", 1)
@@ -617,7 +618,7 @@ fn limited_clones(alloc: Global) -> Option<World> {
     Some(world)
 }
 
-/// Whether `fast` is over the limit at the desk then, in the window to 10.
+/// Whether `fast` then exceeds the limit at the desk, in the window to 10.
 fn limit_is_met(alloc: Global) -> Option<bool> {
     let world = limited_clones(alloc)?;
     match window(alloc, world, 20) {

@@ -1,4 +1,4 @@
-//! The program over files and sinks in memory.
+//! Tests of the program with files and sinks in memory.
 ghost use Rattle.std.specs.Prelude.{◌≡◌, ◌<◌};
 
 mod branches;
@@ -27,10 +27,10 @@ use std::sync::ledger::{Blank, Ledger};
 use std::thread;
 use std::thread::Threads;
 
-/// How often a gate looks whether the other side has come so far, before it gives up.
+/// The number of times that a gate checks whether the other side has come to a point, before it gives up.
 const TURNS: u32 = 1_000_000;
 
-/// Waits until a count is at least `least`. `false`: it gave up.
+/// Waits until a count is at least `least`. Returns `false` if it gave up.
 fn comes(count: &AtomicU64, least: u64) -> bool {
     for _turn in 0..TURNS {
         if count.load(Ordering::SeqCst) >= least {
@@ -41,7 +41,7 @@ fn comes(count: &AtomicU64, least: u64) -> bool {
     false
 }
 
-/// How the outside behaves: the calls that fail, with the bytes that they take, and how many bytes the output takes.
+/// The behaviour of inputs and sinks: the calls that fail, the bytes that they take, and the capacity of the output.
 #[derive(Clone, Copy)]
 struct Outside<'a> {
     fetch: &'a [u32],
@@ -79,8 +79,8 @@ impl Outcome {
     }
 }
 
-/// A command over a model in the file `m`, in which the first `old` becomes `new`, and a script in the file `s`, and
-/// how it ends.
+/// A command over a model in the file `m` and a script in the file `s`, with its result. In the model the first `old`
+/// is replaced by `new`.
 #[derive(Clone, Copy)]
 struct Row<'a> {
     shows: &'a str,
@@ -98,16 +98,16 @@ struct Row<'a> {
 /// `run` of the model in `m` and the script in `s`.
 const RUN: &[&str] = &["run", "m", "s"];
 
-/// `solo` of their base.
+/// `solo` of their base clone.
 const SOLO_BASE: &[&str] = &["solo", "m", "s", "--clone", "base"];
 
-/// `live` of the two.
+/// `live` of these files.
 const LIVE: &[&str] = &["live", "m", "s"];
 
-/// `watch` of the two and the watches in `w`.
+/// `watch` of these files and the watches in `w`.
 const WATCH: &[&str] = &["watch", "m", "s", "w"];
 
-/// The lines of error where a file is not read, and where the output is cut off.
+/// The error lines for a file that is not read, and for output that is cut off.
 const NO_MODEL: &str = "cloner: cannot read the model\n";
 
 const NO_SCRIPT: &str = "cloner: cannot read the script\n";
@@ -120,7 +120,7 @@ const CUT: &str = "cloner: cannot write\n";
 const FAST: &str = "fork fast from base
 set fast at 8 desk service 2 2";
 
-/// A run that is to be changed in one place or two.
+/// A run that rows change in one or two places.
 const PLAIN: Row<'static> = Row {
     shows: "a run of one desk",
     words: RUN,
@@ -141,7 +141,7 @@ const REFUSED: Row<'static> = Row {
     ..PLAIN
 };
 
-/// A run where a station may handle three messages, and the desk gets a fourth.
+/// A run in which a station may handle three messages, and the desk gets a fourth.
 const LIMIT_3: Row<'static> = Row {
     old: "lookahead",
     new: "limit = 3\nlookahead",
@@ -172,7 +172,7 @@ impl<'a> Row<'a> {
     }
 }
 
-/// Whether these are all bytes of some traces with a report behind them.
+/// Whether these are exactly the bytes of some traces and a report.
 fn is_both(output: &[u8], traces: &str, report: &str) -> bool {
     match (output.get(..traces.len()), output.get(traces.len()..)) {
         (Some(first), Some(rest)) => first == traces.as_bytes() && rest == report.as_bytes(),
@@ -180,7 +180,7 @@ fn is_both(output: &[u8], traces: &str, report: &str) -> bool {
     }
 }
 
-/// Whether these are the first bytes of some traces with a report behind them.
+/// Whether these are first bytes of some traces and a report.
 fn begins_both(output: &[u8], traces: &str, report: &str) -> bool {
     match output.get(traces.len()..) {
         Some(rest) => output.starts_with(traces.as_bytes()) && report.as_bytes().starts_with(rest),
@@ -203,7 +203,7 @@ fn file(alloc: Global, name: &str, text: &str) -> Result<(Word, Vec<u8>), NoMemo
     ))
 }
 
-/// A model in the file `m`, a script in the file `s` and watches in the file `w` if there are any, where these fetches
+/// A model in the file `m`, a script in the file `s` and watches in the file `w` if there are any. The given fetches
 /// fail.
 fn inputs_of(
     alloc: Global,
@@ -225,8 +225,7 @@ fn sink_of(alloc: Global, takes: usize, failing: &[(u32, usize)]) -> Result<MemS
     MemSink::new(alloc, takes, Vec::from_slice(alloc, failing)?)
 }
 
-/// The status with which the program ends on these words, over these inputs and sinks, on the counter that the blank
-/// makes.
+/// The exit status of the program for these words, inputs and sinks, with the step counter of a blank.
 fn cloner_counted<G: Gate, L: Ledger, R: Threads + Wait + Sync>(
     rt: &R,
     alloc: Global,
@@ -245,7 +244,7 @@ fn cloner_counted<G: Gate, L: Ledger, R: Threads + Wait + Sync>(
     cloner(rt, alloc, words, inputs, out, err, gate, &mut steps)
 }
 
-/// How the program ends on a model in the file `m`, a script in the file `s` and watches in the file `w`.
+/// The result of the program for a model in the file `m`, a script in the file `s` and watches in the file `w`.
 fn run_with_watches<G: Gate, R: Threads + Wait + Sync>(
     rt: &R,
     alloc: Global,
@@ -273,7 +272,7 @@ fn run_with_watches<G: Gate, R: Threads + Wait + Sync>(
     Ok(Outcome { status, out, err })
 }
 
-/// How the program ends on a model in the file `m` and a script in the file `s`.
+/// The result of the program for a model in the file `m` and a script in the file `s`.
 fn run_program<G: Gate, R: Threads + Wait + Sync>(
     rt: &R,
     alloc: Global,

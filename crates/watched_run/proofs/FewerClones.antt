@@ -1,4 +1,4 @@
--- A run has no more clones on the way than in the end.
+-- A run never has more clones than at its end.
 use Rattle.std.proofs.Common.{◌≡◌, ℕ, ◌≤◌, List, [], ◌∷◌, Option, Some, None, inl, inr, sym, ap}
 use Rattle.std.proofs.Common.{subst, arith, length, length-append, map, take}
 use Rattle.std.specs.List.{range_with_len}
@@ -26,7 +26,7 @@ use Rattle.watch_points.proofs.Found.{initial_branch-name}
 use Rattle.watch_points.proofs.Passing.{initial-for_stations}
 use Rattle.watch_points.proofs.PassingWatcher.{net_known}
 
--- what two triggers leave, if the second branch is the first one or a new one
+-- the branches after two triggers, if the second branch is the first one or a new one
 with_branch-longer : (Late : ℕ → Type 0) (olds news : List Branch) (o p : Option Branch) → SameOrLate Late o p →
     length olds ≤ length news → length (with_branch olds o) ≤ length (with_branch news p)
 with_branch-longer Late olds news o p (inl same) h =
@@ -44,11 +44,11 @@ with_branch-longer Late olds news o p (inr late) h =
     longer (Some b) = let y = length-append news (b ∷ []) in omega (arith, h, y)
 
 module _ {S M N : Type 0} (sim : Simulation S M N) (known : DueAtFront sim) (front bound : ℕ) (l : front ≤ bound) where
-  -- two fronts in their order
+  -- two fronts in order
   fronts : FrontPair sim front bound (λ c. Unit {0}) (λ t. Unit {0})
   fronts = record { order = l; later = λ s t h k. tt; due = λ w b t there k e f. tt }
 
-  -- there are no fewer branches at the later one
+  -- there are no fewer branches at the later front
   branches-longer : (names : List (List ℕ)) (olds news : List Branch) (ws : List (Trigger N)) →
       AgreeSoFar sim front bound (λ c. Unit {0}) (λ t. Unit {0}) names olds news → HaveNewNames names ws →
       TargetsAreStations sim.stations ws → length olds ≤ length news →
@@ -84,7 +84,7 @@ module _ (w : WatcherView) (net : Net) (cs : List Clone) (front : ℕ) (f : Foll
       (λ (b : Branch). b.clone) in
       omega (arith, all, range, ordered, same, made)
 
-  -- so there are no more than in the whole run
+  -- there are no more clones than in the whole run
   pub fewer_clones : front ≤ net.horizon → AllAreForStations (simulation net) cs →
       length cs ≤ length (clones_with_branches net script (watches_of w.active))
   fewer_clones l all =

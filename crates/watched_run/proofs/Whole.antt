@@ -49,7 +49,7 @@ HasWatched-first w world s first has =
 
 -- ---- the end
 
--- at the horizon
+-- the run at the horizon
 pub record IsWatchedEnd (net : Net) (script : List Clone) (ws : List Watch) (s t : ℕ) (world : WorldView)
     (order : List ℕ) : Type 0 where
   pub net_is : world.net ≡ net
@@ -67,7 +67,7 @@ module _ (first : WatcherView) (old : WorldView) (s : ℕ) (w : WatcherView) (no
   end-clones = followed_clones_are_in_order w now.net now.clones
       (subst (Follows w now.net now.clones) last gone.has_watches.follows)
 
-  -- and the whole run
+  -- the run at its end
   end-here : NoneBeyond now.net now.clones now.front →
       IsWatchedEnd now.net (take w.script_len now.clones) (watches_of w.active) s t now (watch_order w)
   end-here short =
@@ -96,7 +96,7 @@ module _ (first : WatcherView) (old : WorldView) (s : ℕ) (w : WatcherView) (no
 
 -- ---- IsWatchedRun
 
--- it stops
+-- the run if it stops
 pub IsWatchedRun-stopped : (first : WatcherView) (old : WorldView) (s t : ℕ) (e : StudyFault) →
     HasStopped first old s t e → IsWatchedRun old.net old.clones (watches_of first.active) s t (Err e)
 IsWatchedRun-stopped first old s t e h = record {
@@ -109,7 +109,7 @@ IsWatchedRun-stopped first old s t e h = record {
   fault = h;
 }
 
--- or its world at the horizon is put in order
+-- the run if its world at the horizon is put in order
 pub IsWatchedRun-ended : (first : WatcherView) (old : WorldView) (s : ℕ) (w : WatcherView) (now : WorldView) (t : ℕ)
     (run : Result WatchedWorld StudyFault) → HasWatched first old s w now t → now.front ≡ now.net.horizon →
     IfOk run (λ r. r.world ≡ now) → IfOk run (λ r. r.order.items ≡ watch_order w) →

@@ -1,4 +1,4 @@
--- A run with watches, one window on.
+-- One more window of a run with watches.
 use Rattle.std.proofs.Common.{◌≡◌, ℕ, ◌+◌, ◌*◌, ◌≤◌, List, Err, IfErr, IfOk, Ok, Result, arith, ap, length, subst}
 use Rattle.std.proofs.Common.{sym, take, ◌∙◌}
 use Rattle.std.proofs.lemmas.List.{length-map, length-take-le}
@@ -59,7 +59,7 @@ module _ (first : WatcherView) (old : WorldView) (s0 : ℕ) (w : WatcherView) (n
 
   -- ---- HasWatched
 
-  -- the run has gone on to this world with its branches
+  -- the run has reached this world with its branches
   pub HasWatched-window : (world n : WorldView) (v : WatcherView) → IsWindow now s (Ok world) t →
       HasBranches w v world n → HasWatched first old s0 v n t
   HasWatched-window world n v h made =
@@ -155,7 +155,7 @@ module _ (first : WatcherView) (old : WorldView) (s0 : ℕ) (w : WatcherView) (n
           few = few;
         }
 
-    -- the run stops with the clone's number
+    -- the run stops at the limit, with the clone's number
     HasStopped-limit : HasStopped first old s0 t (LimitMet station (clone_number w who))
     HasStopped-limit =
         let g = gone.has_watches in
@@ -169,7 +169,7 @@ module _ (first : WatcherView) (old : WorldView) (s0 : ℕ) (w : WatcherView) (n
   fault-place window.NoMemory h = tt
   fault-place (EventLimit station who kept) h = limit-place station who kept h
 
-  -- and the run stops with it
+  -- the run stops with it
   pub HasStopped-window : (e : WorldFault) → IsWindow now s (Err e) t → HasStopped first old s0 t (numbered_fault w e)
   HasStopped-window window.NoMemory h = tt
   HasStopped-window (EventLimit station who kept) h = HasStopped-limit station who kept h

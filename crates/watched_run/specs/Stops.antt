@@ -14,9 +14,8 @@ use Rattle.watch_points.specs.Triggers.{clones_with_branches}
 use Rattle.watch_points.specs.Watchers.{WatcherView}
 use Rattle.watch_points.specs.declared.watch.Watch.{Watch}
 
--- the limit is met in a run of these clones with these watches: this station of a clone of the whole run has a log
--- beyond the limit at the horizon, the number stands for the clone's name, and no more was handled than the limit
--- allows
+-- a run of these clones with these watches meets the limit: the clone with this number has a log beyond the limit at
+-- this station at the horizon; no more was handled than the limit allows
 pub record StopsWatched (net : Net) (script : List Clone) (ws : List Watch)
     (old_steps new_steps station number : ℕ) : Type 0 where
   pub clone : Clone
@@ -27,13 +26,13 @@ pub record StopsWatched (net : Net) (script : List Clone) (ws : List Watch)
   pub beyond : IsBeyond net station net.horizon clone
   pub few : IsFew net (length (clones_with_branches net script ws)) old_steps new_steps
 
--- out of memory needs no cause; the limit names a clone by its number
+-- the causes of a fault: out of memory has none; the limit names a clone by its number
 abbrev pub IsFaultOfWatched : Net → List Clone → List Watch → ℕ → ℕ → StudyFault → Type 0
 IsFaultOfWatched net script ws old_steps new_steps NoMemory = Unit {0}
 IsFaultOfWatched net script ws old_steps new_steps (LimitMet station number) =
     StopsWatched net script ws old_steps new_steps station number
 
--- a window's fault names a place of the world that the watcher follows
+-- a window's fault names a place in the world that the watcher follows
 abbrev pub HasPlace : WatcherView → WorldFault → Type 0
 HasPlace w window.NoMemory = Unit {0}
 HasPlace w (window.EventLimit station who kept) = IsPlaceOf w who

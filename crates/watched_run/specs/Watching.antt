@@ -1,4 +1,4 @@
--- Runs with watches: all clones go on from window to window, and the branches of the watches are made on the way.
+-- Runs with watches: all clones advance from window to window, and branches of watches are created between windows.
 use Rattle.std.specs.Prelude.{◌≡◌, ℕ, ◌+◌, List, Result, IfOk, IfErr, length, take}
 use Rattle.sim_base.specs.Clones.{Clone}
 use Rattle.net_model.specs.Net.{Net}
@@ -14,7 +14,7 @@ use Rattle.watch_points.specs.declared.watch.Watch.{Watch}
 use Rattle.watched_run.specs.Stops.{IsFaultOfWatched}
 use Rattle.watched_run.specs.declared.run.WatchedWorld.{WatchedWorld}
 
--- the watcher w follows a world of this network, in which the script's clones are the first, and has these watches
+-- the watcher w has these watches and follows a world of this network, whose first clones are the script's
 pub record HasWatches (net : Net) (script : List Clone) (ws : List Watch) (w : WatcherView) (world : WorldView) :
     Type 0 where
   pub same_net : world.net ≡ net
@@ -24,7 +24,7 @@ pub record HasWatches (net : Net) (script : List Clone) (ws : List Watch) (w : W
   pub script_is : take w.script_len world.clones ≡ script
   pub watches : watches_of w.active ≡ ws
 
--- after a window the world has the branches that are due, and else it is as it was: the watcher follows it on
+-- after a window the world has the branches that are due and is otherwise unchanged; the watcher follows the new world
 pub record HasBranches (old new : WatcherView) (before after : WorldView) : Type 0 where
   pub follows : Follows new after.net after.clones after.front
   pub world : after ≡ record before { clones = after.clones }
@@ -38,8 +38,7 @@ pub record HasBranches (old new : WatcherView) (before after : WorldView) : Type
 abbrev pub BeginsWithWatches : WatcherView → WorldView → Type 0
 BeginsWithWatches w world = HasWatches world.net world.clones (watches_of w.active) w world
 
--- a run that began with these watches over the first world has gone on to the second: each shared message was counted
--- once
+-- a run that began with these watches over the first world has reached the second; each shared message was counted once
 pub record HasWatched (first : WatcherView) (old : WorldView) (old_steps : ℕ) (w : WatcherView) (new : WorldView)
     (new_steps : ℕ) : Type 0 where
   pub has_watches : HasWatches old.net old.clones (watches_of first.active) w new
@@ -50,9 +49,9 @@ abbrev pub HasStopped : WatcherView → WorldView → ℕ → ℕ → StudyFault
 HasStopped first old old_steps new_steps e =
     IsFaultOfWatched old.net old.clones (watches_of first.active) old_steps new_steps e
 
--- the run of a script's clones with watches from front 0: a world of this network at the horizon, whose clones are, in
--- the order of the watches, those of the whole run; no log is too long, and what clones share was handled once; or out
--- of memory, or the limit is met
+-- the run of a script's clones with watches from front 0: a world of this network at the horizon, whose clones in the
+-- order of the watches are those of the whole run; no log is beyond the limit, and shared messages were handled once;
+-- or out of memory, or the limit is met
 pub record IsWatchedRun (net : Net) (script : List Clone) (ws : List Watch) (old_steps new_steps : ℕ)
     (run : Result WatchedWorld StudyFault) : Type 0 where
   pub net_is : IfOk run (λ r. r.world.net ≡ net)

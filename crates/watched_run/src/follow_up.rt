@@ -1,4 +1,4 @@
-//! What a run with watches does after each of its windows.
+//! The follow-up of a run with watches after each of its windows.
 ghost use Rattle.std.specs.Prelude.{◌≡◌, IfOk, IfErr};
 ghost use Rattle.run_laws.specs.Fronts.{IsWindow};
 ghost use Rattle.stations.specs.Runs.{simulation};
@@ -12,7 +12,7 @@ use study_run::{Onwards, StudyFault};
 use watch_points::Watcher;
 use world_core::{World, WorldFault};
 
-// The world with the branches of the watches that are due in its last window.
+// Returns the world with the branches of the watches that became due in its last window.
 fn make_branches(alloc: Global, watcher: &mut Watcher, world: World) -> Result<World, StudyFault>
     requires follows { Follows watcher.old world.net world.clones watcher.old.front }
     requires window { IsWindow (simulation world.net) world.clones watcher.old.front world.front }
@@ -21,7 +21,7 @@ fn make_branches(alloc: Global, watcher: &mut Watcher, world: World) -> Result<W
 {
     match watcher.after(alloc, world) {
         Ok(world) => {
-            // for its clauses: the clones' decisions are for stations
+            // recalls clauses: the clones' decisions are for stations
             let _lists = world.lists();
             Ok(world)
         }
@@ -29,7 +29,7 @@ fn make_branches(alloc: Global, watcher: &mut Watcher, world: World) -> Result<W
     }
 }
 
-// A window's fault as the run's, with the clone's number.
+// Maps a window's fault to the run's fault, with the clone's number.
 fn fault_of(watcher: &Watcher, fault: WorldFault) -> StudyFault
     requires place { HasPlace watcher.now fault }
     ensures value { result ≡ numbered_fault watcher.now fault }
@@ -43,8 +43,8 @@ fn fault_of(watcher: &Watcher, fault: WorldFault) -> StudyFault
     }
 }
 
-/// A run with watches: after each window the branches of the watches that are due are made. A fault has a clone's
-/// number in place of its place (`Watcher::clone_number`).
+/// The follow-up of a run with watches: after each window it creates the branches of the watches that are due. A fault
+/// names a clone by its number (`Watcher::clone_number`), not by its place.
 #[derive(Drop)]
 pub struct WatchedRun {
     /// The watches.

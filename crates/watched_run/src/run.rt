@@ -24,20 +24,20 @@ use world_core::World;
 /// The world of a run with watches at the horizon, and its clones' places in the order of the watches.
 #[derive(Drop)]
 pub struct WatchedWorld {
-    /// All clones, in the order in which they were made.
+    /// All clones, in creation order.
     pub world: World,
-    /// The places of the script's clones, then of the branches in the order of the watches.
+    /// The places of the script's clones, and then of the branches, in the order of the watches.
     pub order: Vec<u32>,
 }
 
-// The first world of a run with watches, and the watches.
+// The start of a run with watches: its first world and its watcher.
 #[derive(Drop)]
 struct Beginning {
     world: World,
     follow_up: WatchedRun,
 }
 
-// A second handle on the model.
+// Another shared handle on the model.
 fn share_model(model: &Arc<Model>) -> Result<Arc<Model>, NoMemory>
     ensures value { IfOk result (λ m. m.value ≡ model.now.value) }
 {
@@ -45,7 +45,7 @@ fn share_model(model: &Arc<Model>) -> Result<Arc<Model>, NoMemory>
     Ok(shared)
 }
 
-// The world of all clones that the calls make, before anything is handled.
+// Opens the world of all clones that the calls create, before anything is handled.
 fn open_world(alloc: Global, model: &Arc<Model>, calls: &[Call]) -> Result<World, NoMemory>
     requires accepted { AreAccepted model.now.value (base ∷ []) 0 calls.now }
     ensures net { IfOk result (λ w. w.net ≡ model.now.value) }
@@ -58,7 +58,7 @@ fn open_world(alloc: Global, model: &Arc<Model>, calls: &[Call]) -> Result<World
     Ok(world)
 }
 
-// The world of all clones that the calls make, with the watches, before anything is handled.
+// Opens the world of all clones that the calls create, with the watches, before anything is handled.
 fn begin(
     alloc: Global,
     model: &Arc<Model>,
@@ -82,7 +82,7 @@ fn begin(
     })
 }
 
-// The world at the horizon with its order.
+// Returns the world at the horizon with its order.
 fn put_in_order(
     alloc: Global,
     follow_up: &WatchedRun,
@@ -93,7 +93,7 @@ fn put_in_order(
     ensures within { IfOk result (λ r. NoneBeyond world.net world.clones world.front) }
     ensures memory { IfErr result (λ e. e ≡ StudyFault.NoMemory) }
 {
-    // for its clauses: no log is beyond the limit
+    // recalls clauses: no log is beyond the limit
     let _short = world.lists();
     match follow_up.watcher.order(alloc) {
         Ok(order) => Ok(WatchedWorld { world, order }),
@@ -101,7 +101,7 @@ fn put_in_order(
     }
 }
 
-// Goes on to the horizon in the caller's thread.
+// Runs the windows up to the horizon in the caller's thread.
 fn go_on_alone<L: Ledger>(
     alloc: Global,
     beginning: Beginning,
@@ -122,7 +122,7 @@ fn go_on_alone<L: Ledger>(
     }
 }
 
-// Goes on to the horizon with so many workers.
+// Runs the windows up to the horizon with this number of workers.
 fn go_on<G: Gate, L: Ledger, R: Threads + Wait + Sync>(
     rt: &R,
     alloc: Global,
@@ -146,9 +146,9 @@ fn go_on<G: Gate, L: Ledger, R: Threads + Wait + Sync>(
     }
 }
 
-/// Runs a study with watches in the caller's thread: the world of a model takes the calls at front 0, which were
-/// accepted, and goes to the horizon. After each window the branches of the watches that are due are made. It waits for
-/// nobody, so its clauses promise that it returns.
+/// Runs a study with watches in the caller's thread. The world of a model takes the calls, which were accepted, at
+/// front 0, and advances to the horizon. After each window the branches of the watches that are due are created. It
+/// never waits, so its contract promises that it returns.
 pub fn run_watched_sequentially<L: Ledger>(
     alloc: Global,
     model: &Arc<Model>,
@@ -167,11 +167,11 @@ pub fn run_watched_sequentially<L: Ledger>(
     }
 }
 
-/// Runs a study with watches and so many workers: the world of a model takes the calls at front 0, which were accepted,
-/// and goes to the horizon. After each window the branches of the watches that are due are made. With one worker it is
-/// `run_watched_sequentially`.
+/// Runs a study with watches with this number of workers. The world of a model takes the calls, which were accepted, at
+/// front 0, and advances to the horizon. After each window the branches of the watches that are due are created. With
+/// one worker it is `run_watched_sequentially`.
 ///
-/// No clause has a term for the workers or the gate.
+/// The contract does not depend on the number of workers or on the gate.
 pub fn run_watched<G: Gate, L: Ledger, R: Threads + Wait + Sync>(
     rt: &R,
     alloc: Global,

@@ -1,4 +1,4 @@
-//! Branches, and what they share.
+//! Tests of branches, and of what they share.
 use super::{FAST, PLAIN, Row, models, texts};
 use sample_models::{EQUAL_SCRIPT, OWN_SCRIPT_OF_B};
 use std::test::Fail;
@@ -14,7 +14,7 @@ set a at 8 desk service 2 2
 set b at 8 desk service 2 2
 ";
 
-/// A branch that splits from its base between two draws.
+/// A branch that splits from its base between two random draws.
 const ROOMY: &str = "fork b from base
 set b at 10 desk room 9
 ";

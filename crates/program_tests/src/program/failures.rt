@@ -1,4 +1,4 @@
-//! Inputs and sinks that fail.
+//! Tests of inputs and sinks that fail.
 use super::{
     CUT, FAST, GOOD, LIVE, NO_MODEL, NO_SCRIPT, Outside, RUN, SOLO_BASE, begins_both, run_program,
     texts,
@@ -10,7 +10,7 @@ use std::sync::Wait;
 use std::test::Fail;
 use std::thread::Threads;
 
-/// A run of two branches over an outside: its status, how many bytes of the output are written, and what is told.
+/// A run of two branches with failing calls: its status, the number of output bytes written, and the error line.
 #[derive(Clone, Copy)]
 struct Fault<'a> {
     shows: &'a str,
@@ -38,7 +38,7 @@ impl<'a> Fault<'a> {
     }
 }
 
-/// Whether the program ends with this line where a fetch fails.
+/// Whether the program ends with this line if a fetch fails.
 fn is_unread<R: Threads + Wait + Sync>(
     rt: &R,
     alloc: Global,
@@ -56,7 +56,7 @@ fn is_unread<R: Threads + Wait + Sync>(
     }
 }
 
-/// Each of the two fetches fails, in each mode that has them.
+/// Each of the two fetches fails, in each mode that makes it.
 #[test]
 fn fetches_fail(rt: HostRuntime) -> Result<(), Fail> {
     for (mode, words) in [("run", RUN), ("solo", SOLO_BASE), ("live", LIVE)] {
@@ -66,8 +66,8 @@ fn fetches_fail(rt: HostRuntime) -> Result<(), Fail> {
     Ok(())
 }
 
-/// Whether the run is cut off behind so many bytes where put `put` takes `taken` and fails, and just so with an error
-/// sink that fails too.
+/// Whether the run is cut off after this number of bytes if put number `put` takes `taken` bytes and fails; and the
+/// same with an error sink that also fails.
 fn is_cut<R: Threads + Wait + Sync>(
     rt: &R,
     alloc: Global,
@@ -98,7 +98,7 @@ fn is_cut<R: Threads + Wait + Sync>(
     cut.holds(rt, alloc) && untold.holds(rt, alloc)
 }
 
-/// Put `put` of the run, which begins after `before` bytes and has `length`, fails after some of them.
+/// Put number `put` of the run, which begins after `before` bytes and has `length`, fails after some of them.
 fn put_fails<R: Threads + Wait + Sync>(
     rt: &R,
     alloc: Global,
@@ -125,7 +125,7 @@ fn puts_fail(rt: HostRuntime) -> Result<(), Fail> {
     Ok(())
 }
 
-/// A sink that is full before the end cuts the output off, and one that holds just all of it does not.
+/// A sink that is full before the end cuts the output off, and one that holds exactly all of it does not.
 #[test]
 fn sinks_that_hold_so_much(rt: HostRuntime) -> Result<(), Fail> {
     let whole = texts::BASE_AND_FAST
@@ -159,7 +159,7 @@ fn sinks_that_hold_so_much(rt: HostRuntime) -> Result<(), Fail> {
     Ok(())
 }
 
-/// Calls that would fail and are not made: those after the last, and a second line of error.
+/// Failures of calls that are not made: those after the last, and a second error line.
 #[test]
 fn faults_of_no_call(rt: HostRuntime) -> Result<(), Fail> {
     let whole = texts::BASE_AND_FAST

@@ -1,4 +1,4 @@
-//! Stations of every kind.
+//! Tests of stations of every kind.
 use super::{PLAIN, Row, models, texts};
 use sample_models::{CLASSES, DRAWN_GATE, FAN_BY_TURN, NO_ROOM};
 use std::test::Fail;

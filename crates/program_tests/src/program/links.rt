@@ -1,4 +1,4 @@
-//! `links`: what `run` writes, and the line of the rounds.
+//! Tests of `links`: what `run` writes, and the line with the number of rounds.
 use super::{CUT, FAST, GOOD, Outside, RUN, models, run_program, texts};
 use crew_pool::NoGate;
 use sample_models::{CLINIC, ONE_DESK};
@@ -11,7 +11,7 @@ use std::thread::Threads;
 /// `links` of the model in `m` and the script in `s`.
 const LINKS: &[&str] = &["links", "m", "s"];
 
-/// The same by four workers.
+/// The same with four workers.
 const LINKS_BY_4: &[&str] = &["links", "m", "s", "--workers", "4"];
 
 /// A study whose `links` writes what `run` does, and then this line.
@@ -106,8 +106,8 @@ fn clinic_by_links(rt: HostRuntime) {
     assert!(rt; clinic.holds(&rt, rt.alloc()) == Ok(true));
 }
 
-/// Whether the limit is met at the desk in windows, which comes first in time, and at the gate by links, whose clock
-/// comes to the horizon first.
+/// Whether the limit is met at the desk in windows, and at the gate in rounds. The desk exceeds it first in time, but
+/// the gate's clock reaches the horizon first.
 fn limit_is_met<R: Threads + Wait + Sync>(rt: &R, alloc: Global) -> Result<bool, NoMemory> {
     let four = ONE_DESK.replacen(
         alloc,
@@ -137,7 +137,7 @@ fn links_meet_the_limit(rt: HostRuntime) {
     assert!(rt; limit_is_met(&rt, rt.alloc()) == Ok(true));
 }
 
-/// Whether the put of the rounds, which is the fourth, is cut off after this number of bytes.
+/// Whether the put of the rounds, the fourth, is cut off after this number of bytes.
 fn rounds_are_cut<R: Threads + Wait + Sync>(
     rt: &R,
     alloc: Global,

@@ -1,4 +1,4 @@
-//! Live studies: analysts who decide and look while the engine runs.
+//! Tests of live studies: analysts decide and look while the engine runs.
 use super::{
     CUT, GOOD, LIMIT_3, LIVE, Outcome, Outside, RUN, comes, is_both, models, run_program, texts,
 };
@@ -11,7 +11,7 @@ use std::sync::atomic::{AtomicU64, Ordering};
 use std::test::Fail;
 use std::thread::Threads;
 
-/// Where a piece stands in a text.
+/// The position of a piece in a text.
 fn place_of(text: &[u8], piece: &[u8]) -> Option<usize> {
     for at in 0..text.len() {
         if text[at..].starts_with(piece) {
@@ -21,7 +21,7 @@ fn place_of(text: &[u8], piece: &[u8]) -> Option<usize> {
     None
 }
 
-/// How often a piece stands in a text.
+/// The number of times that a piece occurs in a text.
 fn count_of(text: &[u8], piece: &[u8]) -> u32 {
     let mut count: u32 = 0;
     for at in 0..text.len() {
@@ -32,12 +32,12 @@ fn count_of(text: &[u8], piece: &[u8]) -> u32 {
     count
 }
 
-/// Whether a piece stands in a text.
+/// Whether a piece occurs in a text.
 fn has(text: &[u8], piece: &str) -> bool {
     place_of(text, piece.as_bytes()).is_some()
 }
 
-/// How `live` of one desk ends.
+/// The result of `live` for one desk.
 fn live<G: Gate, R: Threads + Wait + Sync>(
     rt: &R,
     alloc: Global,
@@ -60,7 +60,7 @@ fn is_whole(live: &Outcome, journal: &str, traces: &str, report: &str) -> bool {
         && is_both(rest, traces, report)
 }
 
-/// Without decisions and looks the journal can't vary, and what follows is the plain run.
+/// Without decisions and looks the journal cannot vary, and the rest is the output of `run`.
 #[test]
 fn nobody_decides(rt: HostRuntime) -> Result<(), Fail> {
     for workers in ["1", "4", "16"] {
@@ -88,7 +88,7 @@ look base out
 const FRONTS_TO_LIMIT: &str =
     "journal 0 5\n# front 5\n# front 7\n# front 10\n# front 13\n# front 15\nlooks 6\n";
 
-/// Whether six looks are told, two of them at what is not there.
+/// Whether six looks are reported, two of them at missing clones or stations.
 fn has_six_looks(errors: &[u8]) -> bool {
     count_of(errors, b"\nlook ") == 6
         && has(errors, "look main base till unknown\n")
@@ -96,7 +96,7 @@ fn has_six_looks(errors: &[u8]) -> bool {
         && has(errors, " absent\n")
 }
 
-/// How `live` of one desk ends where the desk meets its limit.
+/// The result of `live` for one desk that meets its limit.
 fn live_to_limit<R: Threads + Wait + Sync>(
     rt: &R,
     alloc: Global,
@@ -107,7 +107,7 @@ fn live_to_limit<R: Threads + Wait + Sync>(
     run_program(rt, alloc, &NoGate, LIVE, model.as_str(), script, outside)
 }
 
-/// Fronts up to the one at which the limit is met, six looks, and then the line.
+/// Fronts up to the one at which the limit is met, six looks, and then the error line.
 #[test]
 fn limit_met_beside_lookers(rt: HostRuntime) -> Result<(), Fail> {
     let ended = live_to_limit(&rt, rt.alloc(), SIX_LOOKS, &GOOD)?;
@@ -118,7 +118,7 @@ fn limit_met_beside_lookers(rt: HostRuntime) -> Result<(), Fail> {
     Ok(())
 }
 
-/// Where the error sink fails on the journal, the line does not follow; the status is the same.
+/// If the error sink fails on the journal, the error line does not follow; the status is the same.
 #[test]
 fn journal_is_cut_off(rt: HostRuntime) -> Result<(), Fail> {
     let outside = Outside {
@@ -130,7 +130,7 @@ fn journal_is_cut_off(rt: HostRuntime) -> Result<(), Fail> {
     Ok(())
 }
 
-/// Whether `live` of one desk is cut off where a put fails: these bytes are all that is written.
+/// Whether `live` of one desk is cut off if a put fails: exactly these bytes are written.
 fn is_cut<R: Threads + Wait + Sync>(
     rt: &R,
     alloc: Global,
@@ -144,8 +144,8 @@ fn is_cut<R: Threads + Wait + Sync>(
     }
 }
 
-/// Whether `live` of one desk is cut off in the put of this text, which begins after `before` bytes of the whole; once
-/// more with an error sink that fails too.
+/// Whether `live` of one desk is cut off in the put of this text, which begins after `before` bytes of the whole; and
+/// the same with an error sink that also fails.
 fn put_fails<R: Threads + Wait + Sync>(
     rt: &R,
     alloc: Global,
@@ -180,7 +180,7 @@ fn whole_output(alloc: Global) -> Result<Vec<u8>, NoMemory> {
     Ok(whole)
 }
 
-/// Each put of a live study fails in turn: the journal, the trace and the report.
+/// Each put of a live study fails, one after the other: the journal, the trace and the report.
 #[test]
 fn live_output_is_cut_off(rt: HostRuntime) -> Result<(), Fail> {
     let whole = whole_output(rt.alloc())?;
@@ -223,7 +223,7 @@ impl Gate for CallsBesideTasks {
     }
 }
 
-/// Whether a fork is accepted, and a set refused as late or closed behind the first front.
+/// Whether a fork is accepted, and a set after the first front is refused as late or closed.
 fn is_late(output: &[u8]) -> bool {
     let first = place_of(output, b"# front 5\n").unwrap_or(output.len());
     let late = place_of(output, b"# refused 11 front ").unwrap_or(0);
@@ -231,7 +231,7 @@ fn is_late(output: &[u8]) -> bool {
     has(output, "analyst main\nfork x from base\n") && (first < late || first < closed)
 }
 
-/// The fork is accepted, and the set, asked while the first window runs, is late or closed.
+/// The fork is accepted, and the set, submitted while the first window runs, is late or closed.
 #[test]
 fn calls_during_run(rt: HostRuntime) -> Result<(), Fail> {
     let script = "fork x from base\nset base at 0 desk room 5\n";
@@ -267,7 +267,7 @@ impl Gate for LooksBesideTasks {
     }
 }
 
-/// The fourth task is of the second window, so the racks of the first were published before the look.
+/// The fourth task belongs to the second window, so the racks of the first were published before the look.
 #[test]
 fn looks_during_run(rt: HostRuntime) -> Result<(), Fail> {
     let gate = LooksBesideTasks {
@@ -286,7 +286,7 @@ fn looks_during_run(rt: HostRuntime) -> Result<(), Fail> {
 /// Holds one task until a second worker has begun a task.
 #[derive(Drop)]
 struct WorkersMeet {
-    /// How many tasks begin before the one that is held.
+    /// The number of tasks that begin before the held one.
     before: u64,
     tasks: AtomicU64,
     missed: AtomicU64,
@@ -294,7 +294,7 @@ struct WorkersMeet {
 
 impl Gate for WorkersMeet {
     fn before<R: Wait>(&self, _rt: &R, _worker: u32, _task: u32) {
-        // while this task is held, only another worker begins one
+        // while this task is held, only another worker can begin one
         let task = self.tasks.fetch_add(1, Ordering::SeqCst);
         if task == self.before && !comes(&self.tasks, task.saturating_add(2)) {
             self.missed.store(1, Ordering::SeqCst);
@@ -322,8 +322,8 @@ fn meet<R: Threads + Wait + Sync>(rt: &R, alloc: Global, mode: &str, before: u64
     }
 }
 
-/// The first window of two stations is stepped by the caller, by `run` without the gate. It is so busy that the second
-/// one goes to the crew.
+/// The caller steps the first window of two stations; in `run` it does so without the gate. The window is so large that
+/// the second one goes to the crew.
 #[test]
 fn workers_meet(rt: HostRuntime) -> Result<(), Fail> {
     for (mode, before) in [("run", 0), ("live", 2)] {
@@ -332,7 +332,7 @@ fn workers_meet(rt: HostRuntime) -> Result<(), Fail> {
     Ok(())
 }
 
-/// Four analysts, whose decisions come as they come.
+/// Four analysts, whose decisions come in any order.
 const FOUR: &str = "fork a from base
 set a at 8 desk service 2 2
 analyst ben
@@ -346,7 +346,7 @@ fork d from b
 end d at 18
 ";
 
-/// The calls and fronts of a journal without looks, and what is written behind it.
+/// The calls and fronts of a journal without looks, and the output after it.
 fn split_journal(output: &[u8]) -> Option<(&[u8], &[u8])> {
     let head = place_of(output, b"\n")?;
     let looks = place_of(output, b"\nlooks 0\n")?;
@@ -355,7 +355,7 @@ fn split_journal(output: &[u8]) -> Option<(&[u8], &[u8])> {
     Some((events, behind))
 }
 
-/// The lines of a journal that are no comments.
+/// The lines of a journal that are not comments.
 fn without_comments(alloc: Global, events: &[u8]) -> Result<Vec<u8>, NoMemory> {
     let mut script = Vec::new(alloc);
     let mut begins = true;
@@ -372,7 +372,7 @@ fn without_comments(alloc: Global, events: &[u8]) -> Result<Vec<u8>, NoMemory> {
     Ok(script)
 }
 
-/// Whether `run` of the model writes this, with the lines of a journal that are no comments as its script.
+/// Whether `run` of the model writes this, with a journal without comments as its script.
 fn repeats<R: Threads + Wait + Sync>(
     rt: &R,
     alloc: Global,
@@ -405,7 +405,7 @@ fn is_repeated<R: Threads + Wait + Sync>(rt: &R, alloc: Global, workers: &str) -
     }
 }
 
-/// Whether that is so of 25 studies, one after the other.
+/// Whether this holds for 25 studies, one after the other.
 fn are_repeated<R: Threads + Wait + Sync>(rt: &R, alloc: Global, workers: &str) -> bool {
     for _time in 0..25u32 {
         if !is_repeated(rt, alloc, workers) {
@@ -423,7 +423,7 @@ fn journals_are_repeated(rt: HostRuntime) -> Result<(), Fail> {
     Ok(())
 }
 
-/// A journal that is longer than a script may be: all of it is comments.
+/// A journal that is longer than a script may be, and has only comments.
 #[test]
 fn a_long_journal_is_repeated(rt: HostRuntime) -> Result<(), Fail> {
     let ended = run_program(
@@ -442,7 +442,7 @@ fn a_long_journal_is_repeated(rt: HostRuntime) -> Result<(), Fail> {
     Ok(())
 }
 
-/// Pushes the section of an analyst of so many lines; the first is the one before any name.
+/// Pushes an analyst's section with this number of lines; the first analyst's has no name line.
 fn push_section(
     alloc: Global,
     text: &mut String,
@@ -459,7 +459,7 @@ fn push_section(
     Ok(())
 }
 
-/// Sixteen analysts of so many lines each.
+/// Sixteen analysts with this number of lines each.
 fn sixteen(alloc: Global, lines: u32) -> Result<String, NoMemory> {
     let mut text = String::new(alloc);
     for analyst in 1..=16u32 {
@@ -480,7 +480,7 @@ fn is_full<R: Threads + Wait + Sync>(rt: &R, alloc: Global, workers: &str, scrip
     }
 }
 
-/// As many decisions as a journal holds: none is missing.
+/// The maximum number of decisions in a journal: none is missing.
 #[test]
 fn full_journal(rt: HostRuntime) -> Result<(), Fail> {
     let script = sixteen(rt.alloc(), 256)?;
@@ -494,7 +494,7 @@ fn full_journal(rt: HostRuntime) -> Result<(), Fail> {
     Ok(())
 }
 
-/// Whether the clinic's three analysts, of whom one looks, have every fork and set in the journal.
+/// Whether the journal has every fork and set of the clinic's three analysts, one of whom looks.
 fn clinic_is_whole<R: Threads + Wait + Sync>(rt: &R, alloc: Global, workers: &str) -> bool {
     let words = ["live", "m", "s", "--workers", workers];
     let script = texts::CLINIC_SCRIPT;

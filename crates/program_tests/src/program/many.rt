@@ -1,4 +1,4 @@
-//! Many branches and many lines, and many workers.
+//! Tests with many branches, many lines, and many workers.
 use super::{FAST, GOOD, PLAIN, REFUSED, RUN, Row, comes, is_both, models, run_program, texts};
 use crew_pool::{Gate, NoGate};
 use sample_models::{BUSY, CLINIC, ONE_DESK};
@@ -9,7 +9,7 @@ use std::sync::atomic::{AtomicU64, Ordering};
 use std::test::Fail;
 use std::thread::Threads;
 
-/// A line so many times.
+/// This number of copies of a line.
 fn lines(alloc: Global, count: u32, line: &str) -> Result<String, NoMemory> {
     let mut text = String::new(alloc);
     for _ in 0..count {
@@ -18,7 +18,7 @@ fn lines(alloc: Global, count: u32, line: &str) -> Result<String, NoMemory> {
     Ok(text)
 }
 
-/// So many forks of the base.
+/// This number of forks of the base.
 fn forks(alloc: Global, count: u32) -> Result<String, NoMemory> {
     let mut text = String::new(alloc);
     for k in 1..=count {
@@ -28,7 +28,7 @@ fn forks(alloc: Global, count: u32) -> Result<String, NoMemory> {
     Ok(text)
 }
 
-/// So many branches, each with a set of its own.
+/// This number of branches, each with a different set.
 fn set_apart(alloc: Global, count: u32) -> Result<String, NoMemory> {
     let mut text = String::new(alloc);
     for k in 1..=count {
@@ -38,7 +38,7 @@ fn set_apart(alloc: Global, count: u32) -> Result<String, NoMemory> {
     Ok(text)
 }
 
-/// Whether `run` with so many workers ends with this report behind some traces.
+/// Whether `run` with this number of workers ends with some traces and this report.
 fn reports<R: Threads + Wait + Sync>(
     rt: &R,
     alloc: Global,
@@ -137,7 +137,7 @@ spin copies=1 handled=16384 alone=16384
 total handled=16385 alone=16385
 ";
 
-/// A router that spins until it has handled as many messages as the limit, and no more.
+/// A router that loops until it has handled exactly as many messages as the limit.
 #[test]
 fn a_limit_just_kept_by_a_router(rt: HostRuntime) -> Result<(), Fail> {
     let row = Row {
@@ -183,7 +183,7 @@ fn any_number_of_workers(rt: HostRuntime) -> Result<(), Fail> {
     Ok(())
 }
 
-/// Windows and a text by several workers.
+/// Windows and a text made by several workers.
 #[test]
 fn busy_by_four_workers(rt: HostRuntime) -> Result<(), Fail> {
     assert!(rt; same_for_all(&rt, rt.alloc(), "4", BUSY, ""));
@@ -196,7 +196,7 @@ fn clinic_by_four_workers(rt: HostRuntime) -> Result<(), Fail> {
     Ok(())
 }
 
-/// Notes which tasks the windows of three stations have. The first call is held until there is a second one, which only
+/// Records the tasks of the windows of three stations. The first call is held until there is a second one, which only
 /// another worker can make.
 #[derive(Drop)]
 struct TaskNumbers {
@@ -226,8 +226,7 @@ impl Gate for TaskNumbers {
     }
 }
 
-/// Of each three calls in a row one is of task 0, one of task 1 and one of task 2: the three stations in each of seven
-/// windows.
+/// Each three consecutive calls have one each of tasks 0, 1 and 2: the three stations in each of seven windows.
 #[test]
 fn windows_counted(rt: HostRuntime) -> Result<(), Fail> {
     let gate = TaskNumbers {

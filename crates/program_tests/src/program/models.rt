@@ -1,4 +1,4 @@
-//! The models that these tests alone read.
+//! Models that only these tests read.
 
 /// Messages of a station to itself that are closer than the lookahead.
 pub const CLOSE_MESSAGES: &str = r#"lookahead = 5
@@ -21,7 +21,7 @@ name = "out"
 kind = "sink"
 "#;
 
-/// A router that sends each job to itself.
+/// A router that sends each job back to itself.
 pub const SPINNING: &str = r#"lookahead = 1
 horizon = 100000
 [[station]]
@@ -62,7 +62,7 @@ service = [1, 1]
 link = [{ to = "a", delay = 5 }]
 "#;
 
-/// A sink alone.
+/// A sink without other stations.
 pub const ONE_SINK: &str = r#"lookahead = 2
 horizon = 20
 [[station]]
@@ -70,7 +70,7 @@ name = "out"
 kind = "sink"
 "#;
 
-/// A source whose jobs raise more fronts than the text of a script has room for.
+/// A source whose jobs raise more fronts than the text of a script can hold.
 pub const MANY_FRONTS: &str = r#"lookahead = 1
 horizon = 130000
 limit = 65536
@@ -85,7 +85,7 @@ name = "out"
 kind = "sink"
 "#;
 
-/// A desk that draws its service times.
+/// A desk with random service times.
 pub const DRAWN_DESK: &str = r#"lookahead = 2
 horizon = 30
 seed = 42
@@ -139,7 +139,7 @@ name = "out"
 kind = "sink"
 "#;
 
-/// A sink that nothing reaches.
+/// A sink that no link leads to.
 pub const ONLY_OUT: &str = r#"lookahead = 1
 horizon = 1
 [[station]]
@@ -147,7 +147,7 @@ name = "out"
 kind = "sink"
 "#;
 
-/// A desk to which each other job returns.
+/// A desk to which every second job returns.
 pub const FEEDBACK: &str = r#"lookahead = 2
 horizon = 30
 [[station]]

@@ -1,4 +1,4 @@
-//! What is refused, and the limit.
+//! Tests of what is refused, and of the limit.
 use super::{FAST, LIMIT_3, PLAIN, REFUSED, Row, SOLO_BASE, models, texts};
 use std::test::Fail;
 
@@ -122,7 +122,7 @@ const REFUSALS: &[Row] = &[
     },
 ];
 
-/// A run where a station may handle four messages, as many as the desk gets.
+/// A run in which a station may handle four messages, exactly as many as the desk gets.
 const LIMIT_4: Row<'static> = Row {
     old: "lookahead",
     new: "limit = 4\nlookahead",

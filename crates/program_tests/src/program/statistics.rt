@@ -1,4 +1,4 @@
-//! The statistics of servers, clone by clone.
+//! Tests of the statistics of servers, clone by clone.
 use super::{CUT, FAST, GOOD, LIMIT_3, Outside, PLAIN, Row, models, run_program};
 use crew_pool::NoGate;
 use sample_models::{CLASSES, CLINIC, NO_ROOM, ONE_DESK};
@@ -10,7 +10,7 @@ use std::thread::Threads;
 /// `stats` of the model in `m` and the script in `s`.
 const STATS: &[&str] = &["stats", "m", "s"];
 
-/// The same by four workers.
+/// The same with four workers.
 const STATS_BY_4: &[&str] = &["stats", "m", "s", "--workers", "4"];
 
 /// The statistics of the worked example and its branch.
@@ -115,7 +115,7 @@ fn statistics_are_written(rt: HostRuntime) -> Result<(), Fail> {
     Ok(())
 }
 
-/// Whether the statistics are cut off behind so many bytes where their put takes so many and fails.
+/// Whether the statistics are cut off after this number of bytes if their put takes that number and fails.
 fn is_cut<R: Threads + Wait + Sync>(rt: &R, alloc: Global, taken: usize) -> bool {
     let outside = Outside {
         put: &[(1, taken)],
@@ -141,7 +141,7 @@ fn the_put_fails(rt: HostRuntime) -> Result<(), Fail> {
     Ok(())
 }
 
-/// The clinic has statistics of three servers, the same by one and by four workers.
+/// The clinic has statistics of three servers, the same with one and with four workers.
 #[test]
 fn clinic_by_workers(rt: HostRuntime) -> Result<(), Fail> {
     let one = run_program(&rt, rt.alloc(), &NoGate, STATS, CLINIC, "", &GOOD)?;

@@ -1,4 +1,4 @@
-//! What runs write, byte for byte, and the script of the clinic.
+//! Output of runs, byte for byte, and the script of the clinic.
 
 /// One job at a time.
 pub const BASE: &str = r#"clone base
@@ -34,7 +34,7 @@ clone fast
 13 out desk 3 job gate.1 got=2 stay=15
 "#;
 
-/// A fork after an accepted set that is not due yet.
+/// A fork after an accepted set whose time is still to come.
 pub const FAST_TWINS: &str = r#"clone base
 3 gate gate 0 tick sent=1
 5 desk gate 1 job gate.0 busy=1 wait=0 done=0 lost=0
@@ -89,7 +89,7 @@ clone b
 13 out desk 3 job gate.1 got=2 stay=15
 "#;
 
-/// One of them has another decision before that one.
+/// The same, but one of them has another decision before that one.
 pub const BRANCHES_APART: &str = r#"clone base
 3 gate gate 0 tick sent=1
 5 desk gate 1 job gate.0 busy=1 wait=0 done=0 lost=0
@@ -122,7 +122,7 @@ clone b
 13 out desk 3 job gate.1 got=2 stay=15
 "#;
 
-/// One branch by itself.
+/// One branch alone.
 pub const ONE_BRANCH: &str = r#"clone b
 3 gate gate 0 tick sent=1
 5 desk gate 1 job gate.0 busy=1 wait=0 done=0 lost=0
@@ -135,7 +135,7 @@ pub const ONE_BRANCH: &str = r#"clone b
 13 out desk 3 job gate.1 got=2 stay=15
 "#;
 
-/// A set at the very start.
+/// A set at time 0.
 pub const SET_AT_START: &str = r#"clone base
 0 desk analyst 0 set service 4 4 busy=0 wait=0 done=0 lost=0
 3 gate gate 0 tick sent=1
@@ -177,7 +177,7 @@ pub const CLOSE_MESSAGES: &str = r#"clone base
 14 out desk 5 job gate.2 got=3 stay=33
 "#;
 
-/// Times between jobs that are drawn.
+/// Random times between jobs.
 pub const DRAWN_GATE: &str = r#"clone base
 4 gate gate 0 tick sent=1
 6 out gate 1 job gate.0 got=1 stay=2
@@ -187,7 +187,7 @@ pub const DRAWN_GATE: &str = r#"clone base
 19 out gate 5 job gate.2 got=3 stay=6
 "#;
 
-/// Two jobs are lost where there is no room.
+/// Two jobs are lost because there is no waiting room.
 pub const NO_ROOM: &str = r#"clone base
 3 s1 s1 0 tick sent=1
 3 s2 s2 0 tick sent=1
@@ -199,7 +199,7 @@ pub const NO_ROOM: &str = r#"clone base
 11 out desk 1 job s1.0 got=1 stay=8
 "#;
 
-/// More servers serve those who wait.
+/// More servers serve the waiting jobs.
 pub const MORE_SERVERS: &str = r#"clone base
 3 s1 s1 0 tick sent=1
 3 s2 s2 0 tick sent=1
@@ -274,7 +274,7 @@ pub const FAN_OF_TWO: &str = r#"clone base
 11 out fan 1 job gate.1 got=2 stay=12
 "#;
 
-/// A job of the lesser class goes before one that has waited longer.
+/// A job of the lesser class is served before one that has waited longer.
 pub const LATE_HIGH: &str = r#"clone base
 3 low low 0 tick sent=1
 5 desk low 1 job low.0:2 busy=1 wait=0 done=0 lost=0
@@ -306,7 +306,7 @@ pub const LATE_HIGH_BY_ARRIVAL: &str = r#"clone base
 19 out desk 5 job high.0:1 got=3 stay=29
 "#;
 
-/// The service times drawn are 4, 8 and 5, in both halves of the desk that splits at 10.
+/// The random service times are 4, 8 and 5, in both copies of the desk that splits at 10.
 pub const DRAWN_BRANCHES: &str = r#"clone base
 3 gate gate 0 tick sent=1
 5 desk gate 1 job gate.0 busy=1 wait=0 done=0 lost=0
@@ -357,7 +357,7 @@ clone brief
 pub const NOTHING: &str = r#"clone base
 "#;
 
-/// The report behind `BASE`.
+/// The report after `BASE`.
 pub const BASE_REPORT: &str = r#"report
 gate copies=1 handled=2 alone=2
 desk copies=1 handled=4 alone=4
@@ -365,7 +365,7 @@ out copies=1 handled=2 alone=2
 total handled=8 alone=8
 "#;
 
-/// The report behind `BASE_AND_FAST`.
+/// The report after `BASE_AND_FAST`.
 pub const BASE_AND_FAST_REPORT: &str = r#"report
 gate copies=1 handled=2 alone=4
 desk copies=2 handled=8 alone=9
@@ -373,7 +373,7 @@ out copies=2 handled=3 alone=4
 total handled=13 alone=17
 "#;
 
-/// The report behind `FAST_TWINS`.
+/// The report after `FAST_TWINS`.
 pub const FAST_TWINS_REPORT: &str = r#"report
 gate copies=1 handled=2 alone=4
 desk copies=1 handled=5 alone=10
@@ -381,7 +381,7 @@ out copies=1 handled=2 alone=4
 total handled=9 alone=18
 "#;
 
-/// The report behind `EQUAL_BRANCHES`.
+/// The report after `EQUAL_BRANCHES`.
 pub const EQUAL_BRANCHES_REPORT: &str = r#"report
 gate copies=1 handled=2 alone=6
 desk copies=2 handled=8 alone=14
@@ -389,7 +389,7 @@ out copies=2 handled=3 alone=6
 total handled=13 alone=26
 "#;
 
-/// The report behind `BRANCHES_APART`.
+/// The report after `BRANCHES_APART`.
 pub const BRANCHES_APART_REPORT: &str = r#"report
 gate copies=1 handled=2 alone=6
 desk copies=3 handled=13 alone=15
@@ -397,7 +397,7 @@ out copies=2 handled=3 alone=6
 total handled=18 alone=27
 "#;
 
-/// The report behind `BRIEF`.
+/// The report after `BRIEF`.
 pub const BRIEF_REPORT: &str = r#"report
 gate copies=1 handled=2 alone=4
 desk copies=2 handled=4 alone=6
@@ -405,7 +405,7 @@ out copies=2 handled=2 alone=2
 total handled=8 alone=12
 "#;
 
-/// The report behind `NOTHING`.
+/// The report after `NOTHING`.
 pub const NOTHING_REPORT: &str = r#"report
 gate copies=1 handled=0 alone=0
 desk copies=1 handled=0 alone=0
@@ -413,7 +413,7 @@ out copies=1 handled=0 alone=0
 total handled=0 alone=0
 "#;
 
-/// The report behind `SET_AT_START`.
+/// The report after `SET_AT_START`.
 pub const SET_AT_START_REPORT: &str = r#"report
 gate copies=1 handled=2 alone=2
 desk copies=1 handled=5 alone=5
@@ -421,7 +421,7 @@ out copies=1 handled=2 alone=2
 total handled=9 alone=9
 "#;
 
-/// The report behind `SET_AT_LAST`.
+/// The report after `SET_AT_LAST`.
 pub const SET_AT_LAST_REPORT: &str = r#"report
 gate copies=1 handled=2 alone=2
 desk copies=1 handled=5 alone=5
@@ -429,7 +429,7 @@ out copies=1 handled=2 alone=2
 total handled=9 alone=9
 "#;
 
-/// The report behind `CLOSE_MESSAGES`.
+/// The report after `CLOSE_MESSAGES`.
 pub const CLOSE_MESSAGES_REPORT: &str = r#"report
 gate copies=1 handled=3 alone=3
 desk copies=1 handled=6 alone=6
@@ -437,14 +437,14 @@ out copies=1 handled=3 alone=3
 total handled=12 alone=12
 "#;
 
-/// The report behind `DRAWN_GATE`.
+/// The report after `DRAWN_GATE`.
 pub const DRAWN_GATE_REPORT: &str = r#"report
 gate copies=1 handled=3 alone=3
 out copies=1 handled=3 alone=3
 total handled=6 alone=6
 "#;
 
-/// The report behind `NO_ROOM`.
+/// The report after `NO_ROOM`.
 pub const NO_ROOM_REPORT: &str = r#"report
 s1 copies=1 handled=1 alone=1
 s2 copies=1 handled=1 alone=1
@@ -454,7 +454,7 @@ out copies=1 handled=1 alone=1
 total handled=8 alone=8
 "#;
 
-/// The report behind `MORE_SERVERS`.
+/// The report after `MORE_SERVERS`.
 pub const MORE_SERVERS_REPORT: &str = r#"report
 s1 copies=1 handled=1 alone=1
 s2 copies=1 handled=1 alone=1
@@ -464,7 +464,7 @@ out copies=1 handled=3 alone=3
 total handled=13 alone=13
 "#;
 
-/// The report behind `FAN_BY_TURN`.
+/// The report after `FAN_BY_TURN`.
 pub const FAN_BY_TURN_REPORT: &str = r#"report
 gate copies=1 handled=3 alone=3
 fan copies=1 handled=3 alone=3
@@ -473,7 +473,7 @@ out copies=1 handled=3 alone=3
 total handled=11 alone=11
 "#;
 
-/// The report behind `FAN_BY_WEIGHTS`.
+/// The report after `FAN_BY_WEIGHTS`.
 pub const FAN_BY_WEIGHTS_REPORT: &str = r#"report
 gate copies=1 handled=3 alone=3
 fan copies=1 handled=3 alone=3
@@ -482,7 +482,7 @@ out copies=1 handled=3 alone=3
 total handled=10 alone=10
 "#;
 
-/// The report behind `CLASSES`.
+/// The report after `CLASSES`.
 pub const CLASSES_REPORT: &str = r#"report
 low copies=1 handled=1 alone=1
 high copies=1 handled=3 alone=3
@@ -491,7 +491,7 @@ out copies=1 handled=3 alone=3
 total handled=14 alone=14
 "#;
 
-/// The report behind `FAN_OF_TWO`.
+/// The report after `FAN_OF_TWO`.
 pub const FAN_OF_TWO_REPORT: &str = r#"report
 gate copies=1 handled=2 alone=2
 fan copies=1 handled=2 alone=2
@@ -500,7 +500,7 @@ out copies=1 handled=2 alone=2
 total handled=7 alone=7
 "#;
 
-/// The report behind `LATE_HIGH`.
+/// The report after `LATE_HIGH`.
 pub const LATE_HIGH_REPORT: &str = r#"report
 low copies=1 handled=2 alone=2
 high copies=1 handled=1 alone=1
@@ -509,7 +509,7 @@ out copies=1 handled=3 alone=3
 total handled=12 alone=12
 "#;
 
-/// The report behind `DRAWN_BRANCHES`.
+/// The report after `DRAWN_BRANCHES`.
 pub const DRAWN_BRANCHES_REPORT: &str = r#"report
 gate copies=1 handled=3 alone=6
 desk copies=2 handled=10 alone=13
@@ -517,7 +517,7 @@ out copies=1 handled=3 alone=6
 total handled=16 alone=25
 "#;
 
-/// The report of a sink that nothing reaches.
+/// The report of a sink that no link leads to.
 pub const ONLY_OUT_REPORT: &str = r#"report
 out copies=1 handled=0 alone=0
 total handled=0 alone=0

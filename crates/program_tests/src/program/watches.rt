@@ -1,4 +1,4 @@
-//! `watch`: what it writes is what `run` writes with the script that the due times give; and what is refused.
+//! Tests of `watch`: it writes what `run` writes with the script of the due times. And what is refused.
 use super::{
     GOOD, NO_MODEL, NO_SCRIPT, NO_WATCHES, Outcome, Outside, RUN, WATCH, run_program,
     run_with_watches,
@@ -11,13 +11,13 @@ use std::sync::Wait;
 use std::test::Fail;
 use std::thread::Threads;
 
-/// `watch` by four workers.
+/// `watch` with four workers.
 const WATCH_BY_FOUR: &[&str] = &["watch", "m", "s", "w", "--workers", "4"];
 
 /// A branch whose desk has a second server from 10 on.
 const HELP: &str = "watch base desk wait 1 fork help set desk servers 2\n";
 
-/// The model, the script and the watches of a study, or no file of watches.
+/// The model, the script and the watches of a study; watches may be absent.
 #[derive(Clone, Copy)]
 struct Study<'a> {
     model: &'a str,
@@ -25,7 +25,7 @@ struct Study<'a> {
     watches: Option<&'a str>,
 }
 
-/// How `watch` ends on a study.
+/// The result of `watch` for a study.
 fn watch<R: Threads + Wait + Sync>(
     rt: &R,
     alloc: Global,
@@ -173,7 +173,7 @@ const REFUSED: &[(&str, &str)] = &[
     ),
 ];
 
-/// Whether `watch` ends with status 9 and such a line.
+/// Whether `watch` ends with status 9 and a line of this form.
 fn is_refused<R: Threads + Wait + Sync>(
     rt: &R,
     alloc: Global,
@@ -225,7 +225,7 @@ fn push_number(text: &mut String, number: u32) -> Result<(), NoMemory> {
     Ok(())
 }
 
-/// Whether 255 watches that are never due write what `run` does, one more is refused, and so is the sixth watch after
+/// Whether 255 watches that are never due write what `run` does, and one more is refused, as is the sixth watch after
 /// 250 forks.
 fn many_hold<R: Threads + Wait + Sync>(rt: &R, alloc: Global) -> Result<bool, NoMemory> {
     let (begin, end) = ("watch base desk wait 9 fork b", " set desk servers 2\n");
@@ -263,7 +263,7 @@ fn there_is_room_for_so_many_watches(rt: HostRuntime) {
     assert!(rt; many_hold(&rt, rt.alloc()) == Ok(true));
 }
 
-/// Whether `watch` ends with this status and line, over an outside.
+/// Whether `watch` ends with this status and line, for these inputs and sinks.
 fn ends_with<R: Threads + Wait + Sync>(
     rt: &R,
     alloc: Global,
@@ -277,7 +277,7 @@ fn ends_with<R: Threads + Wait + Sync>(
     Ok(ended.is(status, &[], line))
 }
 
-/// Each fetch fails; a refused decision comes before a missing file of watches; a branch meets the limit.
+/// Each fetch fails. A refused decision precedes a missing file of watches. A branch meets the limit.
 #[test]
 fn watch_ends_with_the_first_cause(rt: HostRuntime) -> Result<(), Fail> {
     let alloc = rt.alloc();

@@ -1,4 +1,4 @@
-//! The words of the command line, files that are not there, and made studies.
+//! Tests of command lines, missing files, and generated studies.
 use super::{GOOD, NO_MODEL, NO_SCRIPT, PLAIN, REFUSED, Row, run_program};
 use command_words::usage_line;
 use crew_pool::NoGate;
@@ -107,7 +107,7 @@ fn files_that_are_not_there(rt: HostRuntime) -> Result<(), Fail> {
     Ok(())
 }
 
-/// Whether a made study by so many workers writes this, and its status is 0.
+/// Whether a generated study with this number of workers writes this with status 0.
 fn gives<R: Threads + Wait + Sync>(
     rt: &R,
     alloc: Global,
@@ -122,7 +122,7 @@ fn gives<R: Threads + Wait + Sync>(
     }
 }
 
-/// Whether of a made study the report alone is written, the same by any number of workers.
+/// Whether a generated study writes only the report, the same with any number of workers.
 fn is_made<R: Threads + Wait + Sync>(rt: &R, alloc: Global, number: &str) -> bool {
     let Ok(one) = run_program(rt, alloc, &NoGate, &["gen", number], "", "", &GOOD) else {
         return false;

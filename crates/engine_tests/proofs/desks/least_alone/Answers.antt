@@ -6,7 +6,7 @@ use Rattle.stations.specs.Runs.{simulation}
 use Rattle.decision_desk.specs.Leasts.{leasts_of}
 use Rattle.engine_tests.proofs.desks.least_alone.Goals as goal
 
--- of one clone there is one least time
+-- a single clone has a single least time
 leasts_of-one : (net : Net) (cs : List Clone) (front : ℕ) → length cs ≡ 1
     → least_of (simulation net) (clone_at cs 0) front ∷ [] ≡ leasts_of net cs front
 leasts_of-one net [] front one = absurd (omega (arith, one))
