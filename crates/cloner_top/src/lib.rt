@@ -35,6 +35,7 @@ pub mod program;
 mod putting;
 mod reading;
 pub mod refusal;
+mod resources;
 mod running;
 pub mod stop;
 mod watching;

@@ -11,13 +11,13 @@ ghost use Rattle.cloner_top.specs.RunTexts.{MayPutRun};
 use crate::prepared::Plan;
 use crate::putting::put_linked;
 use crate::refusal::Refusal;
+use crate::resources::Resources;
 use crate::running::limit_at;
 use command_words::Mode;
-use crew_pool::{Gate, Workers};
+use crew_pool::Gate;
 use linked_run::{LinkedWorld, run_linked, run_linked_sequentially};
 use sim_base::Steps;
 use sim_outer::Sink;
-use std::alloc::Global;
 use std::sync::Wait;
 use std::sync::ledger::Ledger;
 use std::thread::Threads;
@@ -25,10 +25,7 @@ use study_run::StudyFault;
 
 // Runs all clones in rounds up to the horizon, in this thread or with several workers.
 fn run_clones<G: Gate, L: Ledger, R: Threads + Wait + Sync>(
-    rt: &R,
-    alloc: Global,
-    gate: &G,
-    workers: Workers,
+    resources: &Resources<'_, G, R>,
     plan: &Plan,
     steps: &mut Steps<L>,
 ) -> Result<LinkedWorld, StudyFault>
@@ -36,18 +33,23 @@ fn run_clones<G: Gate, L: Ledger, R: Threads + Wait + Sync>(
     ensures ran { IsLinkedRun plan.now.model.value (clones_of_book plan.now.book) steps.old steps.new result }
 {
     let calls = plan.book.calls();
-    if workers.count == 1 {
-        return run_linked_sequentially(alloc, &plan.model, calls, steps);
+    if resources.workers.count == 1 {
+        return run_linked_sequentially(resources.alloc, &plan.model, calls, steps);
     }
-    run_linked(rt, alloc, workers, gate, &plan.model, calls, steps)
+    run_linked(
+        resources.rt,
+        resources.alloc,
+        resources.workers,
+        resources.gate,
+        &plan.model,
+        calls,
+        steps,
+    )
 }
 
 // Returns the world of all clones at the horizon, and the number of rounds.
 fn run_world<G: Gate, L: Ledger, R: Threads + Wait + Sync>(
-    rt: &R,
-    alloc: Global,
-    gate: &G,
-    workers: Workers,
+    resources: &Resources<'_, G, R>,
     plan: &Plan,
     steps: &mut Steps<L>,
 ) -> Result<LinkedWorld, Refusal>
@@ -59,7 +61,7 @@ fn run_world<G: Gate, L: Ledger, R: Threads + Wait + Sync>(
         steps.old steps.new r) }
 {
     let lists = plan.book.lists();
-    match run_clones(rt, alloc, gate, workers, plan, steps) {
+    match run_clones(resources, plan, steps) {
         Ok(linked) => Ok(linked),
         Err(StudyFault::NoMemory) => Err(Refusal::OutOfMemory),
         Err(StudyFault::LimitMet { station, who }) => Err(Refusal::Exceeded(limit_at(
@@ -72,10 +74,7 @@ fn run_world<G: Gate, L: Ledger, R: Threads + Wait + Sync>(
 
 /// Runs all clones in rounds, and writes their traces, the report and the number of rounds.
 pub(crate) fn write_links<O: Sink, G: Gate, L: Ledger, R: Threads + Wait + Sync>(
-    rt: &R,
-    alloc: Global,
-    gate: &G,
-    workers: Workers,
+    resources: &Resources<'_, G, R>,
     plan: &Plan,
     out: &mut O,
     steps: &mut Steps<L>,
@@ -84,9 +83,9 @@ pub(crate) fn write_links<O: Sink, G: Gate, L: Ledger, R: Threads + Wait + Sync>
     ensures done { IsDone (MaySimulate Mode.Links plan.now.model.value (clones_of_book plan.now.book))
         steps.old steps.new (O.view out.old) (O.view out.new) result }
 {
-    match run_world(rt, alloc, gate, workers, plan, steps) {
+    match run_world(resources, plan, steps) {
         Ok(LinkedWorld { world, rounds }) => {
-            put_linked(rt, alloc, workers, &plan.model, &world, rounds, out)
+            put_linked(resources, &plan.model, &world, rounds, out)
         }
         Err(refusal) => Err(refusal),
     }

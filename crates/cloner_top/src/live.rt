@@ -11,13 +11,13 @@ use crate::halt::Halt;
 use crate::prepared::Study;
 use crate::putting::put_live;
 use crate::refusal::Refusal;
+use crate::resources::Resources;
 use crate::running::limit_at;
-use crew_pool::{Gate, Workers};
+use crew_pool::Gate;
 use live_study::{LiveRun, live_journal_text, live_study};
 use net_model::Model;
 use sim_base::{NoMemory, Steps};
 use sim_outer::Sink;
-use std::alloc::Global;
 use std::sync::Wait;
 use std::sync::ledger::Ledger;
 use std::thread::Threads;
@@ -57,27 +57,29 @@ fn world_or_halt(model: &Model, live: LiveRun, journal: Vec<u8>) -> Result<(Worl
 
 // Runs the study, and writes the text of its journal into memory.
 fn run_and_journal<G: Gate, L: Ledger, R: Threads + Wait + Sync>(
-    rt: &R,
-    alloc: Global,
-    gate: &G,
-    workers: Workers,
+    resources: &Resources<'_, G, R>,
     study: &Study,
     steps: &mut Steps<L>,
 ) -> Result<(LiveRun, Vec<u8>), NoMemory>
     ensures ran { IfOk result (λ r. IsJournaledRun study.now.model.value study.now.script steps.old steps.new r.0
         r.1.items) }
 {
-    let live = live_study(rt, alloc, workers, gate, &study.model, &study.script, steps)?;
-    let journal = live_journal_text(alloc, &study.script, &live)?;
+    let live = live_study(
+        resources.rt,
+        resources.alloc,
+        resources.workers,
+        resources.gate,
+        &study.model,
+        &study.script,
+        steps,
+    )?;
+    let journal = live_journal_text(resources.alloc, &study.script, &live)?;
     Ok((live, journal))
 }
 
 // Runs the study to its end. Returns the world at the horizon and the text of its journal.
 fn run_live<G: Gate, L: Ledger, R: Threads + Wait + Sync>(
-    rt: &R,
-    alloc: Global,
-    gate: &G,
-    workers: Workers,
+    resources: &Resources<'_, G, R>,
     study: &Study,
     steps: &mut Steps<L>,
 ) -> Result<(World, Vec<u8>), Halt>
@@ -85,7 +87,7 @@ fn run_live<G: Gate, L: Ledger, R: Threads + Wait + Sync>(
         r.1.items) }
     ensures err { IfErr result (λ h. StopsLive study.now.model.value study.now.script steps.old steps.new h) }
 {
-    match run_and_journal(rt, alloc, gate, workers, study, steps) {
+    match run_and_journal(resources, study, steps) {
         Ok((live, journal)) => world_or_halt(&study.model, live, journal),
         Err(NoMemory) => Err(Halt::Refused(Refusal::OutOfMemory)),
     }
@@ -93,10 +95,7 @@ fn run_live<G: Gate, L: Ledger, R: Threads + Wait + Sync>(
 
 /// Runs a study while its analysts decide and look, and writes its journal, the traces of all clones and the report.
 pub(crate) fn write_live<O: Sink, G: Gate, L: Ledger, R: Threads + Wait + Sync>(
-    rt: &R,
-    alloc: Global,
-    gate: &G,
-    workers: Workers,
+    resources: &Resources<'_, G, R>,
     study: &Study,
     out: &mut O,
     steps: &mut Steps<L>,
@@ -106,19 +105,11 @@ pub(crate) fn write_live<O: Sink, G: Gate, L: Ledger, R: Threads + Wait + Sync>(
     ensures err { IfErr result (λ h. IsHalted (MayLive study.now.model.value study.now.script) steps.old steps.new
         (O.view out.old) (O.view out.new) h) }
 {
-    let (world, journal) = match run_live(rt, alloc, gate, workers, study, steps) {
+    let (world, journal) = match run_live(resources, study, steps) {
         Ok(ran) => ran,
         Err(halt) => return Err(halt),
     };
-    match put_live(
-        rt,
-        alloc,
-        workers,
-        &study.model,
-        &world,
-        journal.as_slice(),
-        out,
-    ) {
+    match put_live(resources, &study.model, &world, journal.as_slice(), out) {
         Ok(()) => Ok(()),
         Err(refusal) => Err(Halt::Refused(refusal)),
     }

@@ -15,6 +15,7 @@ use crate::halt::Halt;
 use crate::prepare::prepare;
 use crate::putting::put_text;
 use crate::refusal::Refusal;
+use crate::resources::Resources;
 use crate::writing::write_prepared;
 use command_words::{Request, WordsFault, read_words};
 use crew_pool::{Gate, Workers};
@@ -51,8 +52,14 @@ fn prepare_and_write<I: Inputs, O: Sink, G: Gate, L: Ledger, R: Threads + Wait +
     let workers = Workers {
         count: request.workers,
     };
+    let resources = Resources {
+        rt,
+        alloc,
+        gate,
+        workers,
+    };
     match prepare(alloc, inputs, &request.assignment) {
-        Ok(prepared) => write_prepared(rt, alloc, gate, workers, &prepared, out, steps),
+        Ok(prepared) => write_prepared(&resources, &prepared, out, steps),
         Err(refusal) => Err(Halt::Refused(refusal)),
     }
 }

@@ -16,7 +16,8 @@ ghost use Rattle.cloner_top.specs.RunTexts.{IsReadyRun, MayPutRun};
 
 use crate::error_line::ErrorLine;
 use crate::refusal::Refusal;
-use crew_pool::Workers;
+use crate::resources::Resources;
+use crew_pool::Gate;
 use log_chain::Log;
 use net_model::Model;
 use rolling_text::{Texts, WorldTraces, prepare, put_alone, put_texts, put_texts_sequentially};
@@ -120,10 +121,8 @@ fn prepare_run<'a>(
 }
 
 // Puts the trace text of each clone, in this thread or with several workers.
-fn put_traces<'a, O: Sink, R: Threads + Wait + Sync>(
-    rt: &R,
-    alloc: Global,
-    workers: Workers,
+fn put_traces<'a, O: Sink, G: Gate, R: Threads + Wait + Sync>(
+    resources: &Resources<'_, G, R>,
     traces: &WorldTraces<'a>,
     texts: Texts<'a>,
     out: &mut O,
@@ -136,17 +135,22 @@ fn put_traces<'a, O: Sink, R: Threads + Wait + Sync>(
         (O.view out.old) (O.view out.new)) }
     ensures later { (O.view out.old).faults ≤ (O.view out.new).faults }
 {
-    if workers.count == 1 {
+    if resources.workers.count == 1 {
         return put_texts_sequentially(traces, texts, out);
     }
-    put_texts(rt, alloc, traces, workers.count, texts, out)
+    put_texts(
+        resources.rt,
+        resources.alloc,
+        traces,
+        resources.workers.count,
+        texts,
+        out,
+    )
 }
 
 // Puts the trace text of each clone, and then the report.
-fn put_prepared<'a, O: Sink, R: Threads + Wait + Sync>(
-    rt: &R,
-    alloc: Global,
-    workers: Workers,
+fn put_prepared<'a, O: Sink, G: Gate, R: Threads + Wait + Sync>(
+    resources: &Resources<'_, G, R>,
     run: RunTexts<'a>,
     out: &mut O,
 ) -> Result<(), Refusal>
@@ -161,17 +165,15 @@ fn put_prepared<'a, O: Sink, R: Threads + Wait + Sync>(
         texts,
         report,
     } = run;
-    match put_traces(rt, alloc, workers, &traces, texts, out) {
+    match put_traces(resources, &traces, texts, out) {
         Ok(()) => put_text(out, report.as_slice()),
         Err(_) => Err(Refusal::CannotWrite),
     }
 }
 
 /// Puts the trace text of each clone of a world at the horizon, and then its report.
-pub(crate) fn put_run<O: Sink, R: Threads + Wait + Sync>(
-    rt: &R,
-    alloc: Global,
-    workers: Workers,
+pub(crate) fn put_run<O: Sink, G: Gate, R: Threads + Wait + Sync>(
+    resources: &Resources<'_, G, R>,
     model: &Model,
     world: &World,
     out: &mut O,
@@ -179,17 +181,15 @@ pub(crate) fn put_run<O: Sink, R: Threads + Wait + Sync>(
     requires may_put { MayPutRun model.now world.now }
     ensures done { AreDone (run_texts model.now world.now.clones) (O.view out.old) (O.view out.new) result }
 {
-    match prepare_run(alloc, model, world, WorldTraces::of(world)) {
-        Ok(run) => put_prepared(rt, alloc, workers, run, out),
+    match prepare_run(resources.alloc, model, world, WorldTraces::of(world)) {
+        Ok(run) => put_prepared(resources, run, out),
         Err(NoMemory) => Err(Refusal::OutOfMemory),
     }
 }
 
 /// Puts the trace text of each clone of a run with watches, in the order of the watches, and then the report.
-pub(crate) fn put_watched<O: Sink, R: Threads + Wait + Sync>(
-    rt: &R,
-    alloc: Global,
-    workers: Workers,
+pub(crate) fn put_watched<O: Sink, G: Gate, R: Threads + Wait + Sync>(
+    resources: &Resources<'_, G, R>,
     model: &Model,
     watched: WatchedWorld,
     out: &mut O,
@@ -201,8 +201,8 @@ pub(crate) fn put_watched<O: Sink, R: Threads + Wait + Sync>(
 {
     let WatchedWorld { world, order } = watched;
     let traces = WorldTraces::in_order(&world, order);
-    match prepare_run(alloc, model, &world, traces) {
-        Ok(run) => put_prepared(rt, alloc, workers, run, out),
+    match prepare_run(resources.alloc, model, &world, traces) {
+        Ok(run) => put_prepared(resources, run, out),
         Err(NoMemory) => Err(Refusal::OutOfMemory),
     }
 }
@@ -219,10 +219,8 @@ fn line_of_rounds(rounds: u64) -> ErrorLine
 }
 
 /// Puts what `run` writes, and then the line with the number of rounds.
-pub(crate) fn put_linked<O: Sink, R: Threads + Wait + Sync>(
-    rt: &R,
-    alloc: Global,
-    workers: Workers,
+pub(crate) fn put_linked<O: Sink, G: Gate, R: Threads + Wait + Sync>(
+    resources: &Resources<'_, G, R>,
     model: &Model,
     world: &World,
     rounds: u64,
@@ -233,21 +231,19 @@ pub(crate) fn put_linked<O: Sink, R: Threads + Wait + Sync>(
         (O.view out.old) (O.view out.new) result }
 {
     let line = line_of_rounds(rounds);
-    let run = match prepare_run(alloc, model, world, WorldTraces::of(world)) {
+    let run = match prepare_run(resources.alloc, model, world, WorldTraces::of(world)) {
         Ok(run) => run,
         Err(NoMemory) => return Err(Refusal::OutOfMemory),
     };
-    match put_prepared(rt, alloc, workers, run, out) {
+    match put_prepared(resources, run, out) {
         Ok(()) => put_text(out, line.text().as_bytes()),
         Err(refusal) => Err(refusal),
     }
 }
 
 /// Puts this text, and then the texts of a run.
-pub(crate) fn put_live<O: Sink, R: Threads + Wait + Sync>(
-    rt: &R,
-    alloc: Global,
-    workers: Workers,
+pub(crate) fn put_live<O: Sink, G: Gate, R: Threads + Wait + Sync>(
+    resources: &Resources<'_, G, R>,
     model: &Model,
     world: &World,
     journal: &[u8],
@@ -257,12 +253,12 @@ pub(crate) fn put_live<O: Sink, R: Threads + Wait + Sync>(
     ensures done { AreDone (journal.now ∷ run_texts model.now world.now.clones)
         (O.view out.old) (O.view out.new) result }
 {
-    let run = match prepare_run(alloc, model, world, WorldTraces::of(world)) {
+    let run = match prepare_run(resources.alloc, model, world, WorldTraces::of(world)) {
         Ok(run) => run,
         Err(NoMemory) => return Err(Refusal::OutOfMemory),
     };
     match put_text(out, journal) {
-        Ok(()) => put_prepared(rt, alloc, workers, run, out),
+        Ok(()) => put_prepared(resources, run, out),
         Err(refusal) => Err(refusal),
     }
 }

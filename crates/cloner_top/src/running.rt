@@ -15,12 +15,12 @@ use crate::excess::Excess;
 use crate::prepared::Plan;
 use crate::putting::{put_report, put_run, put_stats};
 use crate::refusal::Refusal;
+use crate::resources::Resources;
 use command_words::Mode;
-use crew_pool::{Gate, Workers};
+use crew_pool::Gate;
 use net_model::Model;
 use sim_base::{Name, Steps};
 use sim_outer::Sink;
-use std::alloc::Global;
 use std::sync::Wait;
 use std::sync::ledger::Ledger;
 use std::thread::Threads;
@@ -41,10 +41,7 @@ pub(crate) fn limit_at(model: &Model, station: u32, clone: Name) -> Excess
 
 // Runs all clones in one world up to the horizon, in this thread or with several workers.
 fn run_clones<G: Gate, L: Ledger, R: Threads + Wait + Sync>(
-    rt: &R,
-    alloc: Global,
-    gate: &G,
-    workers: Workers,
+    resources: &Resources<'_, G, R>,
     plan: &Plan,
     steps: &mut Steps<L>,
 ) -> Result<World, StudyFault>
@@ -52,18 +49,23 @@ fn run_clones<G: Gate, L: Ledger, R: Threads + Wait + Sync>(
     ensures ran { IsStudyRun plan.now.model.value (clones_of_book plan.now.book) steps.old steps.new result }
 {
     let calls = plan.book.calls();
-    if workers.count == 1 {
-        return run_study_sequentially(alloc, &plan.model, calls, steps);
+    if resources.workers.count == 1 {
+        return run_study_sequentially(resources.alloc, &plan.model, calls, steps);
     }
-    run_study(rt, alloc, workers, gate, &plan.model, calls, steps)
+    run_study(
+        resources.rt,
+        resources.alloc,
+        resources.workers,
+        resources.gate,
+        &plan.model,
+        calls,
+        steps,
+    )
 }
 
 // Runs all clones in one world up to the horizon.
 fn run_world<G: Gate, L: Ledger, R: Threads + Wait + Sync>(
-    rt: &R,
-    alloc: Global,
-    gate: &G,
-    workers: Workers,
+    resources: &Resources<'_, G, R>,
     plan: &Plan,
     steps: &mut Steps<L>,
 ) -> Result<World, Refusal>
@@ -79,7 +81,7 @@ fn run_world<G: Gate, L: Ledger, R: Threads + Wait + Sync>(
         (MeetsLimit plan.now.model.value (clones_of_book plan.now.book)) texts) steps.old steps.new r) }
 {
     let lists = plan.book.lists();
-    match run_clones(rt, alloc, gate, workers, plan, steps) {
+    match run_clones(resources, plan, steps) {
         Ok(world) => Ok(world),
         Err(StudyFault::NoMemory) => Err(Refusal::OutOfMemory),
         Err(StudyFault::LimitMet { station, who }) => Err(Refusal::Exceeded(limit_at(
@@ -92,10 +94,7 @@ fn run_world<G: Gate, L: Ledger, R: Threads + Wait + Sync>(
 
 /// Runs all clones, and writes their traces and the report.
 pub(crate) fn write_run<O: Sink, G: Gate, L: Ledger, R: Threads + Wait + Sync>(
-    rt: &R,
-    alloc: Global,
-    gate: &G,
-    workers: Workers,
+    resources: &Resources<'_, G, R>,
     plan: &Plan,
     out: &mut O,
     steps: &mut Steps<L>,
@@ -104,18 +103,15 @@ pub(crate) fn write_run<O: Sink, G: Gate, L: Ledger, R: Threads + Wait + Sync>(
     ensures done { IsDone (MaySimulate Mode.Run plan.now.model.value (clones_of_book plan.now.book))
         steps.old steps.new (O.view out.old) (O.view out.new) result }
 {
-    match run_world(rt, alloc, gate, workers, plan, steps) {
-        Ok(world) => put_run(rt, alloc, workers, &plan.model, &world, out),
+    match run_world(resources, plan, steps) {
+        Ok(world) => put_run(resources, &plan.model, &world, out),
         Err(refusal) => Err(refusal),
     }
 }
 
 /// Runs all clones, and writes the report only.
 pub(crate) fn write_report<O: Sink, G: Gate, L: Ledger, R: Threads + Wait + Sync>(
-    rt: &R,
-    alloc: Global,
-    gate: &G,
-    workers: Workers,
+    resources: &Resources<'_, G, R>,
     plan: &Plan,
     out: &mut O,
     steps: &mut Steps<L>,
@@ -124,18 +120,15 @@ pub(crate) fn write_report<O: Sink, G: Gate, L: Ledger, R: Threads + Wait + Sync
     ensures done { IsDone (MaySimulate Mode.Report plan.now.model.value (clones_of_book plan.now.book))
         steps.old steps.new (O.view out.old) (O.view out.new) result }
 {
-    match run_world(rt, alloc, gate, workers, plan, steps) {
-        Ok(world) => put_report(alloc, &plan.model, &world, out),
+    match run_world(resources, plan, steps) {
+        Ok(world) => put_report(resources.alloc, &plan.model, &world, out),
         Err(refusal) => Err(refusal),
     }
 }
 
 /// Runs all clones, and writes the statistics of their servers.
 pub(crate) fn write_stats<O: Sink, G: Gate, L: Ledger, R: Threads + Wait + Sync>(
-    rt: &R,
-    alloc: Global,
-    gate: &G,
-    workers: Workers,
+    resources: &Resources<'_, G, R>,
     plan: &Plan,
     out: &mut O,
     steps: &mut Steps<L>,
@@ -144,8 +137,8 @@ pub(crate) fn write_stats<O: Sink, G: Gate, L: Ledger, R: Threads + Wait + Sync>
     ensures done { IsDone (MaySimulate Mode.Stats plan.now.model.value (clones_of_book plan.now.book))
         steps.old steps.new (O.view out.old) (O.view out.new) result }
 {
-    match run_world(rt, alloc, gate, workers, plan, steps) {
-        Ok(world) => put_stats(alloc, &plan.model, &world, out),
+    match run_world(resources, plan, steps) {
+        Ok(world) => put_stats(resources.alloc, &plan.model, &world, out),
         Err(refusal) => Err(refusal),
     }
 }

@@ -12,11 +12,11 @@ ghost use Rattle.cloner_top.specs.RunTexts.{MayPutRun};
 use crate::prepared::Watching;
 use crate::putting::put_watched;
 use crate::refusal::Refusal;
+use crate::resources::Resources;
 use crate::running::limit_at;
-use crew_pool::{Gate, Workers};
+use crew_pool::Gate;
 use sim_base::Steps;
 use sim_outer::Sink;
-use std::alloc::Global;
 use std::sync::Wait;
 use std::sync::ledger::Ledger;
 use std::thread::Threads;
@@ -26,10 +26,7 @@ use watched_run::{WatchedWorld, run_watched, run_watched_sequentially};
 
 // Runs all clones with their watches up to the horizon, in this thread or with several workers.
 fn run_clones<G: Gate, L: Ledger, R: Threads + Wait + Sync>(
-    rt: &R,
-    alloc: Global,
-    gate: &G,
-    workers: Workers,
+    resources: &Resources<'_, G, R>,
     watching: &Watching,
     steps: &mut Steps<L>,
 ) -> Result<WatchedWorld, StudyFault>
@@ -41,14 +38,20 @@ fn run_clones<G: Gate, L: Ledger, R: Threads + Wait + Sync>(
 {
     let plan = &watching.plan;
     let calls = plan.book.calls();
-    if workers.count == 1 {
-        return run_watched_sequentially(alloc, &plan.model, calls, &watching.watches, steps);
+    if resources.workers.count == 1 {
+        return run_watched_sequentially(
+            resources.alloc,
+            &plan.model,
+            calls,
+            &watching.watches,
+            steps,
+        );
     }
     run_watched(
-        rt,
-        alloc,
-        workers,
-        gate,
+        resources.rt,
+        resources.alloc,
+        resources.workers,
+        resources.gate,
         &plan.model,
         calls,
         &watching.watches,
@@ -58,10 +61,7 @@ fn run_clones<G: Gate, L: Ledger, R: Threads + Wait + Sync>(
 
 // Returns the world of all clones and their branches at the horizon.
 fn run_world<G: Gate, L: Ledger, R: Threads + Wait + Sync>(
-    rt: &R,
-    alloc: Global,
-    gate: &G,
-    workers: Workers,
+    resources: &Resources<'_, G, R>,
     watching: &Watching,
     steps: &mut Steps<L>,
 ) -> Result<WatchedWorld, Refusal>
@@ -77,7 +77,7 @@ fn run_world<G: Gate, L: Ledger, R: Threads + Wait + Sync>(
         (clones_of_book watching.now.plan.book) watching.now.watches) steps.old steps.new r) }
 {
     let lists = watching.plan.book.lists();
-    match run_clones(rt, alloc, gate, workers, watching, steps) {
+    match run_clones(resources, watching, steps) {
         Ok(watched) => Ok(watched),
         Err(StudyFault::NoMemory) => Err(Refusal::OutOfMemory),
         Err(StudyFault::LimitMet { station, who }) => Err(Refusal::Exceeded(limit_at(
@@ -90,10 +90,7 @@ fn run_world<G: Gate, L: Ledger, R: Threads + Wait + Sync>(
 
 /// Runs all clones with their watches. Writes their traces, in the order of the watches, and the report.
 pub(crate) fn write_watched<O: Sink, G: Gate, L: Ledger, R: Threads + Wait + Sync>(
-    rt: &R,
-    alloc: Global,
-    gate: &G,
-    workers: Workers,
+    resources: &Resources<'_, G, R>,
     watching: &Watching,
     out: &mut O,
     steps: &mut Steps<L>,
@@ -104,8 +101,8 @@ pub(crate) fn write_watched<O: Sink, G: Gate, L: Ledger, R: Threads + Wait + Syn
     ensures done { IsDone (MayRunWatched watching.now.plan.model.value (clones_of_book watching.now.plan.book)
         watching.now.watches) steps.old steps.new (O.view out.old) (O.view out.new) result }
 {
-    match run_world(rt, alloc, gate, workers, watching, steps) {
-        Ok(watched) => put_watched(rt, alloc, workers, &watching.plan.model, watched, out),
+    match run_world(resources, watching, steps) {
+        Ok(watched) => put_watched(resources, &watching.plan.model, watched, out),
         Err(refusal) => Err(refusal),
     }
 }

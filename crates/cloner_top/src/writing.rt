@@ -12,23 +12,20 @@ use crate::linking::write_links;
 use crate::live::write_live;
 use crate::prepared::{Decided, Prepared};
 use crate::refusal::Refusal;
+use crate::resources::Resources;
 use crate::running::{write_report, write_run, write_stats};
 use crate::watching::write_watched;
 use command_words::Mode;
-use crew_pool::{Gate, Workers};
+use crew_pool::Gate;
 use sim_base::Steps;
 use sim_outer::Sink;
-use std::alloc::Global;
 use std::sync::Wait;
 use std::sync::ledger::Ledger;
 use std::thread::Threads;
 
 // Runs a plan in its mode, and writes its texts.
 fn write_decided<O: Sink, G: Gate, L: Ledger, R: Threads + Wait + Sync>(
-    rt: &R,
-    alloc: Global,
-    gate: &G,
-    workers: Workers,
+    resources: &Resources<'_, G, R>,
     decided: &Decided,
     out: &mut O,
     steps: &mut Steps<L>,
@@ -39,20 +36,17 @@ fn write_decided<O: Sink, G: Gate, L: Ledger, R: Threads + Wait + Sync>(
         steps.old steps.new (O.view out.old) (O.view out.new) result }
 {
     match decided.mode {
-        Mode::Run => write_run(rt, alloc, gate, workers, &decided.plan, out, steps),
-        Mode::Report => write_report(rt, alloc, gate, workers, &decided.plan, out, steps),
-        Mode::Stats => write_stats(rt, alloc, gate, workers, &decided.plan, out, steps),
-        Mode::Links => write_links(rt, alloc, gate, workers, &decided.plan, out, steps),
-        Mode::Solo(name) => write_alone(alloc, &name, &decided.plan, out, steps),
+        Mode::Run => write_run(resources, &decided.plan, out, steps),
+        Mode::Report => write_report(resources, &decided.plan, out, steps),
+        Mode::Stats => write_stats(resources, &decided.plan, out, steps),
+        Mode::Links => write_links(resources, &decided.plan, out, steps),
+        Mode::Solo(name) => write_alone(resources.alloc, &name, &decided.plan, out, steps),
     }
 }
 
 /// Runs a prepared study, and writes its texts.
 pub(crate) fn write_prepared<O: Sink, G: Gate, L: Ledger, R: Threads + Wait + Sync>(
-    rt: &R,
-    alloc: Global,
-    gate: &G,
-    workers: Workers,
+    resources: &Resources<'_, G, R>,
     prepared: &Prepared,
     out: &mut O,
     steps: &mut Steps<L>,
@@ -65,14 +59,14 @@ pub(crate) fn write_prepared<O: Sink, G: Gate, L: Ledger, R: Threads + Wait + Sy
 {
     match prepared {
         Prepared::Decided(decided) => {
-            match write_decided(rt, alloc, gate, workers, decided, out, steps) {
+            match write_decided(resources, decided, out, steps) {
                 Ok(()) => Ok(()),
                 Err(refusal) => Err(Halt::Refused(refusal)),
             }
         }
-        Prepared::Undecided(study) => write_live(rt, alloc, gate, workers, study, out, steps),
+        Prepared::Undecided(study) => write_live(resources, study, out, steps),
         Prepared::Watching(watching) => {
-            match write_watched(rt, alloc, gate, workers, watching, out, steps) {
+            match write_watched(resources, watching, out, steps) {
                 Ok(()) => Ok(()),
                 Err(refusal) => Err(Halt::Refused(refusal)),
             }
