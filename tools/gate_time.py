@@ -1,10 +1,11 @@
 #!/usr/bin/env python3
 """Measures where the processor time of a running gate goes, by crate and kind.
 
-    tools/gate_time.py [--every SECONDS]
+    tools/gate_time.py [--every SECONDS] [--of PID]
 
-Start it, and then `rt ci` elsewhere, with no other proof on the machine. It samples all provers, forked ones
-too. It writes its table when none has run for a minute, or when it is interrupted. What a process takes after
+Start it, and then `rt ci` elsewhere, with no other proof on the machine. Or start `rt ci` first, and name its
+process by `--of`: then the provers of others are not counted. It samples all provers, forked ones too. It writes
+its table when none has run for a minute, or when it is interrupted. What a process takes after
 its last sample is not counted, so the sums are a little too low. Kinds: `proof` of a crate or of its tests, and
 `edits` with their first checks.
 """
@@ -24,6 +25,13 @@ def fields_of(pid):
     return text[text.rindex(")") + 2:].split()
 
 
+def is_below(pid, top):
+    """Whether a process was started by this one, or by one that was."""
+    while pid not in ("0", "1", top):
+        pid = fields_of(pid)[1]
+    return pid == top
+
+
 def work_of(pid):
     """The crate that a process proves and the kind of that work, or None."""
     with open(f"/proc/{pid}/cmdline", "rb") as file:
@@ -37,13 +45,13 @@ def work_of(pid):
     return (crate, "proof") if words[1] == "build" else None
 
 
-def sample(seen):
-    """Notes the time of each prover that runs now. Returns whether there was one."""
+def sample(seen, top):
+    """Notes the time of each prover below this process, or of each, that runs now. Returns whether there was one."""
     found = False
     for pid in filter(str.isdigit, os.listdir("/proc")):
         try:
             work = work_of(pid)
-            if work:
+            if work and (top is None or is_below(pid, top)):
                 fields = fields_of(pid)
                 seen[pid, fields[19]] = work, (int(fields[11]) + int(fields[12])) / TICKS
                 found = True
@@ -67,13 +75,14 @@ def main():
     """Samples until the gate has ended."""
     options = argparse.ArgumentParser(description=__doc__.splitlines()[0])
     options.add_argument("--every", type=float, default=1.0, help="seconds between two samples")
-    every = options.parse_args().every
+    options.add_argument("--of", metavar="PID", help="counts only the provers that this `rt ci` started")
+    arguments = options.parse_args()
     seen, last = {}, None
     try:
         while last is None or time.monotonic() - last < QUIET:
-            if sample(seen):
+            if sample(seen, arguments.of):
                 last = time.monotonic()
-            time.sleep(every)
+            time.sleep(arguments.every)
     except KeyboardInterrupt:
         pass
     print_table(seen)
