@@ -13,4 +13,5 @@ pub mod FollowedClones
 pub mod WholePass
 pub mod PlaceOrder
 pub mod MadeBranch
+pub mod Peaks
 pub mod CloneNumbers

@@ -205,6 +205,15 @@ module _ (w : WatcherView) (world : WorldView) (i : ℕ) (p : IsPassing w world 
     pub watch_past : a.progress ≡ PastHorizon → IsPassing w world (i + 1)
     watch_past e = keep (step_past law pass p.have_passed t trigger_here source_here (progress_here ∙ ap Some e))
 
+    -- it does not wait
+    pub watch_not_waiting : ((seen : ℕ) → a.progress ≡ Waiting seen → ⊥) → IsPassing w world (i + 1)
+    watch_not_waiting never = by a.progress refl
+      where
+        by : (q : Progress) → a.progress ≡ q → IsPassing w world (i + 1)
+        by (Made k u) e = watch_made k u e
+        by PastHorizon e = watch_past e
+        by (Waiting seen) e = absurd (never seen e)
+
     module _ (seen : ℕ) (waits : a.progress ≡ Waiting seen) where
       -- it waits for its clone
       pub watch_absent : source_place (progress_of w.active) a.source ≡ None → IsPassing w world (i + 1)

@@ -7,6 +7,7 @@ pub mod FittingWatches
 pub mod Progress
 pub mod Passes
 pub mod Watchers
+pub mod Peaks
 pub mod Starting
 pub mod CloneNumbers
 pub mod Laws

@@ -27,8 +27,10 @@
 //! ```
 //!
 //! Cost: `read_watches` takes time proportional to the text. `check` compares each watch with the names of the clones
-//! and of the earlier watches, and allocates nothing. A watch that waits reads each entry of its log once in the whole
-//! run, and looks up its clone's copy after each window. A watch that has made its branch costs nothing.
+//! and of the earlier watches, and allocates nothing. After each window, watches of one clone and station that follow
+//! each other look up the clone's copy once and read each new entry of its log once. Each of them then compares its
+//! least number of jobs with the longest line among these entries. It reads the entries itself only if that line was
+//! long enough. A watch that has made its branch costs nothing.
 //!
 //! The promises:
 //!
@@ -47,6 +49,7 @@ pub mod fitting;
 pub mod laws;
 mod line;
 pub mod naming;
+mod peak;
 mod read;
 mod waiting;
 pub mod watch;

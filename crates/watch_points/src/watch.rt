@@ -18,14 +18,14 @@ pub struct Watch {
     pub who: Name,
     /// The name of the server that is watched.
     pub station: Name,
-    /// The least number of waiting jobs.
-    pub least: u64,
     /// The name of the branch.
     pub new: Name,
     /// The name of the station that the branch changes.
     pub target: Name,
     /// The change there.
     pub change: Change,
+    /// The least number of waiting jobs. It is the last field, next to what else is read after each window.
+    pub least: u64,
 }
 
 /// Watches, in the order of their lines.

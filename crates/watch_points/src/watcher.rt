@@ -1,6 +1,6 @@
 //! The watches over a world: at each window's end the branches of the watches that are due are made.
 ghost use Rattle.std.specs.Prelude.{◌≡◌, ◌+◌, ◌<◌, ◌≤◌, ◌++◌, length, position, take, slice_get};
-ghost use Rattle.std.specs.Prelude.{slice_set, Some, Ok, IfOk, IfSome, OnOk};
+ghost use Rattle.std.specs.Prelude.{slice_set, Some, Ok, IfOk, IfSome, IsFalse, IsTrue, OnOk};
 ghost use Rattle.std.specs.List.{range_with_len};
 ghost use Rattle.std.specs.Str.{bytes_eq};
 ghost use Rattle.run_laws.specs.Fronts.{IsWindow};
@@ -13,12 +13,14 @@ ghost use Rattle.watch_points.specs.CloneNumbers.{is_made_at as is_made_at_place
 ghost use Rattle.watch_points.specs.FittingWatches.{FitsAfter};
 ghost use Rattle.watch_points.specs.Starting.{IsStarted, source_named as source_named_of};
 ghost use Rattle.watch_points.specs.Laws.{watch_order};
+ghost use Rattle.watch_points.specs.Peaks.{IsPeak};
 ghost use Rattle.watch_points.specs.Progress.{IsInRange, made_branch as made_branch_of, places_of};
 ghost use Rattle.watch_points.specs.Progress.{source_place as source_place_of};
 ghost use Rattle.watch_points.specs.Watchers.{Follows, IsDueInPass, IsPassing, IsStep, progress_of};
 ghost use Rattle.watch_points.specs.Watchers.{watches_of};
 ghost use Rattle.watch_points.specs.declared.watcher.ActiveWatch.{ActiveWatch};
 
+use crate::peak::{Peak, peak_from};
 use crate::waiting::first_wait;
 use crate::watch::{MAX_WATCHES, Watch, Watches};
 use net_model::Model;
@@ -297,7 +299,9 @@ impl Watcher {
         self.make_branch(alloc, world, i, active, clone, due)
     }
 
-    // Takes the watch at a place through the window's end.
+    // Takes the watch at a place through the window's end. It is seldom called, and not inlined, so that the loop over
+    // the watches stays small.
+    #[inline(never)]
     fn look(&mut self, alloc: Global, world: World, i: usize) -> Result<World, NoMemory>
         requires in_range { i < length self.old.active }
         requires passing { IsPassing self.old world i }
@@ -312,10 +316,41 @@ impl Watcher {
         }
     }
 
+    // Whether it is certain that a watch makes no branch. Then it has passed through the window's end.
+    fn still_waits(&mut self, world: &World, i: usize, peak: &mut Option<Peak>) -> bool
+        requires in_range { i < length self.old.active }
+        requires passing { IsPassing self.old world.now i }
+        requires peak { IfSome peak.old (IsPeak world.now) }
+        ensures peak { IfSome peak.new (IsPeak world.now) }
+        ensures passing { IsTrue result → IsPassing self.new world.now (i + 1) }
+        ensures step { IsTrue result → IsStep self.old self.new world.now world.now }
+        ensures same { IsFalse result → self.new ≡ self.old }
+    {
+        let active = &self.active[i];
+        let Progress::Waiting { seen } = active.progress else {
+            return true;
+        };
+        let Some((clone, _)) = self.source_place(active.source) else {
+            return true;
+        };
+        let least = active.watch.least;
+        let read = peak_from(*peak, world, clone, active.station, seen);
+        *peak = Some(read);
+        if least <= read.most {
+            return false;
+        }
+        if seen == read.len {
+            return true;
+        }
+        self.set_progress(i, Progress::Waiting { seen: read.len });
+        true
+    }
+
     /// Gives a world the branches of all watches that are due in its last window: for each a fork and a set. It is
     /// called once after each window.
     ///
-    /// A watch that waits reads each entry of its log once in all calls. Out of memory, the watcher is given up.
+    /// In all calls a watch that waits reads each entry of its log at most twice. Watches of one clone and station that
+    /// follow each other share the first reading. Out of memory, the watcher is given up.
     pub fn after(&mut self, alloc: Global, world: World) -> Result<World, NoMemory>
         requires follows { Follows self.old world.net world.clones self.old.front }
         requires window { IsWindow (simulation world.net) world.clones self.old.front world.front }
@@ -333,7 +368,12 @@ impl Watcher {
         let _lists = world.lists();
         let front = world.front();
         let mut world = world;
+        let mut peak = None;
         'watches: for i in 0..self.active.len() {
+            if self.still_waits(&world, i, &mut peak) {
+                continue;
+            }
+            peak = None;
             world = self.look(alloc, world, i)?;
         }
         self.front = front;

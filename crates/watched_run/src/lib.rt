@@ -14,8 +14,8 @@
 //! let order = watched.order.as_slice();            // their places in the order of the watches
 //! ```
 //!
-//! Cost: that of `run_study` for the same clones, and for each waiting watch one check of each entry of its log. The
-//! run has no result if out of memory, or if a log would get longer than the limit.
+//! Cost: that of `run_study` for the same clones, and after each window what the watches cost (`watch_points`). The run
+//! has no result if out of memory, or if a log would get longer than the limit.
 //!
 //! The promise: **the run is that of the clones that the watches define**. At the horizon the world's clones are, in
 //! the order of the watches, the script's clones and each branch that is due in time. The steps rose by what these

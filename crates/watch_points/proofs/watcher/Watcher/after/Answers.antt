@@ -1,5 +1,5 @@
 use Rattle.std.proofs.Common.{◌≡◌, length, ap, sym, subst, arith}
-use Rattle.watch_points.specs.Watchers.{Follows, WatcherView}
+use Rattle.watch_points.specs.Watchers.{Follows, IsPassing, IsStep, WatcherView}
 use Rattle.watch_points.proofs.WholePass.{IsStep-more, IsStep-none, passing-end, passing-start}
 use Rattle.watch_points.proofs.watcher.Watcher.after.Goals as goal
 
@@ -9,6 +9,7 @@ watches-init c = record {
       (let same = c.front-front.ensures.value in let within = c.front-front.ensures.within in omega arith)
       c.lists-lists.ensures.in_net.plans;
   step = IsStep-none c.args.self.now c.args.world;
+  peak = tt;
 }
 
 pub returns-clause-follows : goal.returns-clause-follows
@@ -22,9 +23,25 @@ returns-clause-follows c =
     c.front-front.result c.watches.invariant.passing c.watches.invariant.step many c.watches.auto.i-end
     c.watches-test.false c.front-front.ensures.value)
 
+pub watches-preserved-then-still_waits : goal.watches-preserved-then-still_waits
+watches-preserved-then-still_waits c = record {
+  passing = c.still_waits.ensures.passing c.if-still_waits.true;
+  step = IsStep-more c.args.self.now c.watches.self c.still_waits.new.self c.args.world c.watches.world c.watches.world
+      c.watches.invariant.step (c.still_waits.ensures.step c.if-still_waits.true);
+  peak = c.still_waits.ensures.peak;
+}
+
+pub look-requires-clause-passing : goal.look-requires-clause-passing
+look-requires-clause-passing c =
+    subst (λ (w : WatcherView). IsPassing w c.watches.world c.watches.i)
+    (sym (c.still_waits.ensures.same c.if-still_waits.false)) c.watches.invariant.passing
+
 pub watches-preserved : goal.watches-preserved
 watches-preserved c = record {
   passing = c.in_ok-world.ensures.passing;
   step = IsStep-more c.args.self.now c.watches.self c.look.new.self c.args.world c.watches.world c.in_ok-world.world
-      c.watches.invariant.step c.in_ok-world.ensures.step;
+      c.watches.invariant.step
+      (subst (λ (w : WatcherView). IsStep w c.look.new.self c.watches.world c.in_ok-world.world)
+      (c.still_waits.ensures.same c.if-still_waits.false) c.in_ok-world.ensures.step);
+  peak = tt;
 }
