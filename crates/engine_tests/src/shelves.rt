@@ -72,7 +72,7 @@ fn begin_shelf<J: Naming, W: Wait + Drop>(
     alloc: Global,
     opened: NewHistory,
 ) -> Result<(World, Stocker<J, W>, Vec<Seat<J>>), NoMemory>
-    requires name { opened.seen.book ≡ J.book }
+    requires name { (opened.seen.book ≡ J.book) × (opened.pen.nib.key ≡ J.start) }
     ensures seen { IfOk result (λ r. AreSeenUpTo r.0.net r.0.front r.1.published) }
     ensures there { IfOk result (λ r. HasRack 1 r.1.published) }
     ensures quiet { IfOk result (λ r. r.1.has_published ≡ false) }
@@ -330,7 +330,7 @@ fn beside<J: Naming + Send + Sync, W: Wait + Drop + Send, R: Threads + Wait + Sy
     opened: NewHistory,
     who: &Name,
 ) -> Result<bool, NoMemory>
-    requires name { opened.seen.book ≡ J.book }
+    requires name { (opened.seen.book ≡ J.book) × (opened.pen.nib.key ≡ J.start) }
 {
     let (world, stocker, seats) = begin_shelf::<J, W>(waits, alloc, opened)?;
     let (one, two) = two_of(seats)?;
@@ -375,7 +375,7 @@ fn one_by_one<J: Naming, W: Wait + Drop>(
     opened: NewHistory,
     who: &Name,
 ) -> Result<bool, NoMemory>
-    requires name { opened.seen.book ≡ J.book }
+    requires name { (opened.seen.book ≡ J.book) × (opened.pen.nib.key ≡ J.start) }
 {
     let (world, stocker, seats) = begin_shelf::<J, W>(waits, alloc, opened)?;
     let (one, two) = two_of(seats)?;

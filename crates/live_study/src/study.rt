@@ -31,7 +31,7 @@ use std::sync::{Arc, Wait};
 use std::thread::Threads;
 use world_core::World;
 
-// The world as it opens, and a rack of each of its stations.
+// The world at time 0, and a rack of each of its stations.
 fn open_world(alloc: Global, model: &Arc<Model>) -> Result<(World, Vec<Rack>), NoMemory>
     ensures world { IfOk result (λ r. r.0 ≡ opening_world model.now.value) }
     ensures racks { IfOk result (λ r. AreOpeningRacks r.0 (length model.now.value.sites) r.1.items) }
@@ -84,7 +84,7 @@ fn prepare(alloc: Global, model: &Arc<Model>, script: &Script) -> Result<Prepare
     })
 }
 
-// The stocker of a history that gets its name here, and the analysts of the script, each at a seat of it.
+// The stocker of a history that is named here, and the analysts of the script, each with a seat.
 fn take_seats<J: Naming, W: Wait + Drop>(
     waits: W,
     alloc: Global,
@@ -93,11 +93,11 @@ fn take_seats<J: Naming, W: Wait + Drop>(
     racks: Vec<Rack>,
     passes: Vec<Pass>,
 ) -> Result<(Stocker<J, W>, Vec<(Analyst, Seat<J>)>), NoMemory>
-    requires name { opened.seen.book ≡ J.book }
+    requires name { (opened.seen.book ≡ J.book) × (opened.pen.nib.key ≡ J.start) }
     requires opening { MayOpen racks.items }
     requires few { length racks.items ≤ MOST_STATIONS }
     requires many { length passes.items ≡ length script.now.analysts }
-    // what it gives: a stocker that has published these racks
+    // what it returns: a stocker that has published these racks
     ensures published { IfOk result (λ r. r.0.published ≡ racks.items) }
     ensures readers { IfOk result (λ r. r.0.readers ≡ length script.now.analysts) }
     // and an analyst for each pass, with its number and its acts, who has looked at nothing yet
@@ -112,7 +112,7 @@ fn take_seats<J: Naming, W: Wait + Drop>(
     Ok((stocker, seated))
 }
 
-// The study, over a history of racks that gets its name here.
+// The study, over a history of racks that is named here.
 fn run_prepared<G: Gate, J: Naming + Send + Sync, W: Wait + Drop + Send, R: Threads + Wait + Sync>(
     rt: &R,
     waits: W,
@@ -124,7 +124,7 @@ fn run_prepared<G: Gate, J: Naming + Send + Sync, W: Wait + Drop + Send, R: Thre
     prepared: Prepared,
     opened: NewHistory,
 ) -> Result<LiveRun, NoMemory>
-    requires name { opened.seen.book ≡ J.book }
+    requires name { (opened.seen.book ≡ J.book) × (opened.pen.nib.key ≡ J.start) }
     requires prepared { IsPrepared model.now (length script.now.analysts) prepared }
     ensures live_run { IfOk result (λ r. IsLiveRun model.now script.now r) }
 {
@@ -156,8 +156,8 @@ fn run_prepared<G: Gate, J: Naming + Send + Sync, W: Wait + Drop + Send, R: Thre
     ))
 }
 
-/// Runs a live study: each analyst of the script decides and looks in a thread of its own, beside the engine. Out of
-/// memory before the threads start, there is no journal; from then on there is one.
+/// Runs a live study: each analyst of the script decides and looks in its own thread while the engine runs. If memory
+/// runs out before the threads start, there is no journal; from then on there is one.
 pub fn live_study<G: Gate, L: Ledger, R: Threads + Wait + Sync>(
     rt: &R,
     alloc: Global,

@@ -2,7 +2,6 @@
 use Rattle.std.specs.Prelude.{◌≡◌, ◌==◌, ℕ, ◌+◌, ◌<◌, ◌≤◌, Bool, true, false, List}
 use Rattle.std.specs.Prelude.{[], ◌∷◌, Option, Some, None, length, slice_get}
 use Rattle.std.specs.List.{AllByRecursion}
-use mathlib.Core.List.{IsPrefix}
 use Rattle.phys_proc.specs.Racks.{RackView, FindsClone}
 use Rattle.phys_proc.specs.declared.rack.Glance.{Glance}
 
@@ -22,13 +21,13 @@ abbrev pub AreLegal : List RackView → Type 0
 AreLegal [] = Unit {0}
 AreLegal (q ∷ racks) = AllByRecursion (λ r. MayComeAfter r q) racks × AreLegal racks
 
--- a later rack that was found, or else this one, where it counts
+-- a later rack if one was found, or else this one if the condition holds
 abbrev pub or_this : Option RackView → Bool → RackView → Option RackView
 or_this (Some later) b r = Some later
 or_this None true r = Some r
 or_this None false r = None
 
--- the last of the racks that is of a station
+-- the last rack of a station
 abbrev pub latest : ℕ → List RackView → Option RackView
 latest s [] = None
 latest s (r ∷ racks) = or_this (latest s racks) (r.station == s) r
@@ -51,24 +50,20 @@ pub record MayOpen (racks : List RackView) : Type 0 where
   pub each : OneEach racks
   pub net : (i j : ℕ) (q r : RackView) → slice_get racks i ≡ Some q → slice_get racks j ≡ Some r → r.net ≡ q.net
 
--- the newer of what was found and one rack more
+-- this rack if the condition holds, or else what was found
 abbrev pub if_this : Bool → RackView → Option RackView → Option RackView
 if_this true r found = Some r
 if_this false r found = found
 
--- at each place stands what should
+-- each index has the wanted element
 abbrev pub EachIs : (ℕ → Option RackView) → List RackView → Type 0
 EachIs want xs = (i : ℕ) → i < length xs → slice_get xs i ≡ want i
 
--- what should stand at a place: the rack at its own, and elsewhere what stood there
+-- the wanted element at an index: the rack at its own place, and elsewhere the one that was there
 abbrev pub with_rack : List RackView → ℕ → RackView → ℕ → Option RackView
 with_rack shown place rack i = if_this (i == place) rack (slice_get shown i)
 
--- ys begins with xs, and goes on
-abbrev pub IsLonger : List RackView → List RackView → Type 0
-IsLonger xs ys = IsPrefix xs ys × (length xs < length ys)
-
--- what a look at a rack tells of the clone of a name
+-- what a look at a rack reports of the named clone
 pub record IsGlance (rack : RackView) (who : List ℕ) (glance : Glance) : Type 0 where
   pub front : glance.front ≡ rack.front
   pub clones : glance.clones ≡ length rack.clones

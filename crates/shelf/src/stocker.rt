@@ -1,4 +1,4 @@
-//! The writer: the one that publishes racks.
+//! The writer, which publishes racks.
 ghost use Rattle.std.specs.Prelude.{All, ◌≡◌, ◌+◌, ◌<◌, ◌≤◌, ◌++◌, ◌∷◌, []};
 ghost use Rattle.std.specs.Prelude.{length, map, true, false, List, Some, IfOk, IfSome, IfNone, OnOk, OnErr};
 ghost use Rattle.std.specs.Arc.{arc_value};
@@ -19,10 +19,10 @@ use sim_base::limits::MOST_ANALYSTS;
 use std::alloc::Global;
 use std::sync::{Arc, Wait};
 
-/// The greatest number of readers of a shelf, one for each analyst.
+/// The maximum number of readers of a shelf, one for each analyst.
 pub const MOST_READERS: u32 = MOST_ANALYSTS;
 
-// So many handles of one version.
+// `many` handles of one version.
 fn share_version<J: Naming>(
     alloc: Global,
     version: &Arc<Version<J>>,
@@ -38,7 +38,7 @@ fn share_version<J: Naming>(
     Ok(all)
 }
 
-// What stands at a place of the racks, where this one is put at its own.
+// The rack at index `i` once `rack` is put at index `place`.
 fn at_place(
     racks: &[Arc<Rack>],
     rack: &Arc<Rack>,
@@ -54,7 +54,7 @@ fn at_place(
     Ok(Arc::try_clone(&racks[i])?)
 }
 
-// The racks with this one at its station's place.
+// The racks, with this one in place of its station's last.
 fn replace_rack(
     alloc: Global,
     racks: &[Arc<Rack>],
@@ -74,26 +74,18 @@ fn replace_rack(
 }
 
 // Makes the opening racks the first of the history.
-fn publish_opening<J: Naming>(
-    history: &History<J>,
-    nothing: PublishedRacks<J>,
-    racks: &[Arc<Rack>],
-) -> Result<PublishedRacks<J>, NoMemory>
-    requires nothing { nothing ≡ [] }
+fn publish_opening<J: Naming>(history: &mut History<J>, racks: &[Arc<Rack>])
+    requires nothing { history.old ≡ [] }
     requires opening { MayOpen (map arc_value racks.now) }
     requires few { length racks.now ≤ MOST_STATIONS }
-    ensures opening { IfOk result (λ p. p ≡ map arc_value racks.now) }
+    ensures opening { history.new ≡ map arc_value racks.now }
 {
-    let mut published = nothing;
     for i in 0..racks.len() {
-        if !published.add(history, &racks[i]) {
-            return Err(NoMemory);
-        }
+        history.add(&racks[i]);
     }
-    Ok(published)
 }
 
-/// The one that publishes. It has a handle of the newest version for each reader, to tell of it.
+/// The writer of the shelf. It keeps a handle of the newest version for each reader, to tell the reader of it.
 #[derive(Drop)]
 pub struct Stocker<J: Naming, R: Wait + Drop>
 where
@@ -102,48 +94,45 @@ where
     writer: WriteHandle<ShownVersion<J>, NextVersion<J>, R>,
     history: History<J>,
     newest: Arc<Version<J>>,
-    /// The racks that were published, the opening ones first.
+    /// The published racks, the opening ones first.
     pub published: PublishedRacks<J>,
-    /// Whether a rack was published since the opening ones.
+    /// Whether a rack was published after the opening ones.
     pub has_published: bool,
-    /// How many readers there are.
+    /// The number of readers.
     pub readers: u32,
-    /// A handle for each reader that was not told of the last publish.
+    // Whether the history has a rack that no reader was shown: its publish ran out of memory.
+    is_ahead: bool,
+    /// A handle for each reader that was not told of the last publish yet.
     pub spares: Vec<Arc<Version<J>>>,
     ghost newest_is: { newest.value ≡ published },
+    ghost history_is: { is_ahead ≡ false → history ≡ published },
     ghost spares_are: { All (λ a. arc_value a ≡ published) spares.items },
 }
 
-// The version that comes after this one with a rack more, and what is published then.
+// Adds a rack to the history, and makes the next version, which shows these racks.
 fn next_version<J: Naming>(
     alloc: Global,
-    history: &History<J>,
-    published: &PublishedRacks<J>,
-    newest: &Version<J>,
-    rack: Rack,
-) -> Result<(PublishedRacks<J>, Arc<Version<J>>), NoMemory>
-    requires few { length published.now < MOST_RACKS }
-    requires newest { newest.now ≡ published.now }
-    requires there { HasRack rack.station published.now }
-    requires may { MayBePublished published.now rack }
-    ensures published { IfOk result (λ p. p.0 ≡ published.now ++ rack ∷ []) }
-    ensures version { IfOk result (λ p. p.1.value ≡ published.now ++ rack ∷ []) }
+    history: &mut History<J>,
+    rack: &Rack,
+    racks: Vec<Arc<Rack>>,
+) -> Result<Arc<Version<J>>, NoMemory>
+    requires few { length history.old < MOST_RACKS }
+    requires may { MayBePublished history.old rack.now }
+    requires shown { AreShown (map arc_value racks.items) (history.old ++ rack.now ∷ []) }
+    ensures history { history.new ≡ history.old ++ rack.now ∷ [] }
+    ensures version { IfOk result (λ v. v.value ≡ history.old ++ rack.now ∷ []) }
 {
-    let mut next = published.again();
-    let rack = Arc::new(alloc, rack)?;
-    let racks = replace_rack(alloc, newest.racks(), &rack)?;
-    if !next.add(history, &rack) {
-        return Err(NoMemory);
-    }
-    let version = Version::of(next.again(), racks);
-    Ok((next, Arc::new(alloc, version)?))
+    history.add(rack);
+    let version = Version::of(history.published(), racks);
+    Ok(Arc::new(alloc, version)?)
 }
 
 impl<J: Naming, R: Wait + Drop> Stocker<J, R>
 where
     ShownVersion<J>: Absorb<NextVersion<J>, State = ()>,
 {
-    /// Makes this the last rack of its station. Out of memory readers are shown what they were shown.
+    /// Makes this the last rack of its station. Out of memory, readers are shown what they were shown before. If the
+    /// rack was in the history by then, each later publish is out of memory too.
     pub fn publish(&mut self, alloc: Global, rack: Rack) -> Result<(), NoMemory>
         requires there { HasRack rack.station self.old.published }
         requires may { MayBePublished self.old.published rack }
@@ -156,33 +145,31 @@ where
             × (self.new.has_published ≡ self.old.has_published)) }
         ensures shown { OnErr result (shown_version self.new.writer ≡ shown_version self.old.writer) }
     {
-        if self.published.len() >= MOST_RACKS {
+        if self.is_ahead || self.published.len() >= MOST_RACKS {
             return Err(NoMemory);
         }
-        let (next, version) = next_version(
-            alloc,
-            &self.history,
-            &self.published,
-            &self.newest,
-            rack,
-        )?;
+        let rack = Arc::new(alloc, rack)?;
+        let racks = replace_rack(alloc, self.newest.racks(), &rack)?;
+        self.is_ahead = true;
+        let version = next_version(alloc, &mut self.history, &rack, racks)?;
         let spares = share_version(alloc, &version, self.readers)?;
         let newest = Arc::try_clone(&version)?;
         self.writer
             .append(NextVersion::of(version)?)
             .map_err(|_| NoMemory)?;
         self.writer.publish()?;
-        self.published = next;
+        self.published = self.history.published();
         self.newest = newest;
         self.has_published = true;
+        self.is_ahead = false;
         self.spares = spares;
         Ok(())
     }
 
-    /// Tells what was published, once for each reader since the last publish: `None` exactly if nothing was published
-    /// since the opening racks. It takes no memory.
+    /// Reports what was published, once for each reader after each publish. It is `None` exactly if nothing was
+    /// published after the opening racks. It takes no memory.
     pub fn told(&mut self) -> Option<Told<J>>
-        // not each reader was told of the last publish
+        // some reader was not told of the last publish yet
         requires left { self.old.has_published ≡ true → 1 ≤ length self.old.spares.items }
         ensures some { IfSome result (λ t. (t ≡ self.old.published) × (self.old.has_published ≡ true)
             × (length self.old.spares.items ≡ length self.new.spares.items + 1)) }
@@ -201,7 +188,7 @@ where
     }
 }
 
-// The racks, each to be shared.
+// A handle of each rack.
 fn share_racks(alloc: Global, racks: Vec<Rack>) -> Result<Vec<Arc<Rack>>, NoMemory>
     ensures value { IfOk result (λ v. map arc_value v.items ≡ racks.items) }
 {
@@ -231,7 +218,7 @@ fn make_seats<J: Naming, R: Wait + Drop>(
     Ok(all)
 }
 
-/// The stocker and a seat for each reader, over a history that gets its name here. It opens with these racks.
+/// Opens a shelf with these racks: its stocker, and a seat for each reader. It names the history.
 pub fn begin<J: Naming, R: Wait + Drop>(
     rt: R,
     alloc: Global,
@@ -239,7 +226,7 @@ pub fn begin<J: Naming, R: Wait + Drop>(
     racks: Vec<Rack>,
     readers: u32,
 ) -> Result<(Stocker<J, R>, Vec<Seat<J>>), NoMemory>
-    requires name { opened.seen.book ≡ J.book }
+    requires name { (opened.seen.book ≡ J.book) × (opened.pen.nib.key ≡ J.start) }
     requires opening { MayOpen racks.items }
     requires few { length racks.items ≤ MOST_STATIONS }
     requires some { 1 ≤ readers }
@@ -253,9 +240,10 @@ pub fn begin<J: Naming, R: Wait + Drop>(
     ensures many { IfOk result (λ r. length r.1.items ≡ readers) }
     ensures seats { IfOk result (λ r. All (λ s. s ≡ racks.items) r.1.items) }
 {
-    let (history, nothing) = opened.named::<J>();
+    let mut history = opened.named::<J>();
     let racks = share_racks(alloc, racks)?;
-    let published = publish_opening(&history, nothing, racks.as_slice())?;
+    publish_opening(&mut history, racks.as_slice());
+    let published = history.published();
     let version = Arc::new(alloc, Version::of(published.again(), racks))?;
     let first = ShownVersion {
         version: Arc::try_clone(&version)?,
@@ -272,6 +260,7 @@ pub fn begin<J: Naming, R: Wait + Drop>(
         published,
         has_published: false,
         readers,
+        is_ahead: false,
         spares: Vec::new(alloc),
     };
     Ok((stocker, seats))

@@ -5,5 +5,5 @@ use Rattle.shelf.proofs.stocker.publish_opening.Given as goal
 abbrev pub invariant-loop-i : goal.invariant-loop-i
 invariant-loop-i g l = record {
   within : l.i ≤ length l.racks;
-  first : l.published ≡ take l.i (map arc_value l.racks);
+  first : l.history ≡ take l.i (map arc_value l.racks);
 }

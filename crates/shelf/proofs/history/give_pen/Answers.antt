@@ -1,0 +1,16 @@
+use Rattle.std.proofs.Common.{sym, ◌∙◌, ap}
+use Rattle.shelf.proofs.Adding.{gives_moves}
+use Rattle.shelf.proofs.history.give_pen.Goals as goal
+
+pub compare_exchange-requires : goal.compare_exchange-requires
+compare_exchange-requires c =
+    let h = c.requires.head in
+    let offer = c.plain-offer.ensures in
+    let pen = c.no_pen-pen.ensures in
+    let book = ap (λ s. s.book) c.again-seen.ensures ∙ sym (ap (λ w. w.book) h) in (
+      ap (λ w. w.tracked) h,
+      book,
+      pen.0 ∙ book,
+      offer.0,
+      rw (ap (λ w. w.key) h, pen.1, offer.3) (gives_moves c.again-seen.result.log c.plain-offer.result.ask),
+    )
