@@ -93,7 +93,7 @@ up_to_next : (k n : ℕ) → one_if (nat_le k n) + one_if (nat_eq k (n + 1)) ≤
 up_to_next k n = one_if-apart (nat_le k n) (nat_eq k (n + 1)) (nat_le k (n + 1)) (λ h. grind (arith, nat_tests, h))
     (λ h. grind (arith, nat_tests, h)) (λ h e. absurd (grind (arith, nat_tests, h, e)))
 
--- where there are no items, nobody has an act
+-- if there are no items, nobody has an act
 total_of-no_items : (n : ℕ) → total_of (each_acts [] n) ≡ 0
 total_of-no_items zero = refl
 total_of-no_items (suc n) = omega (arith, total_of-push (each_acts [] n) [], total_of-no_items n)
@@ -192,7 +192,7 @@ no_account desk net (suc n) x h =
     ∙ accounts_of-append x (map (λ p. p.account) (new_passes desk net n)) ((new_pass desk net (n + 1)).account ∷ [])
     ∙ omega (arith, last, no_account desk net n x before)
 
--- where analysts with new passes have asked all acts of the script, the journal is one of the script
+-- if analysts with new passes have asked all acts of the script, the journal is one of the script
 pub journal_of_script : (desk : TableId) (net : Net) (s : ScriptView) (passes : List PassView)
     (analysts : List SeatedAnalyst) (book : BookView) → map (λ (a : SeatedAnalyst). a.0.pass) analysts ≡ passes
     → passes ≡ new_passes desk net (length s.analysts)

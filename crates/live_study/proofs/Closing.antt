@@ -18,7 +18,7 @@ pub all_read_more : (published : List RackView) (done : List SeatedAnalyst) (a :
 all_read_more published done a all one =
     all_push (λ (b : SeatedAnalyst). AreOfOneHistory published b.1) done a all one
 
--- one image more behind those that were there
+-- one image more after those that were there
 pub with_image : {A B : Type 0} (f : A → B) (first old new : List B) (xs : List A) (x : A) → old ≡ first ++ map f xs
     → new ≡ old ++ f x ∷ [] → new ≡ first ++ map f (xs ++ x ∷ [])
 with_image f first old new xs x before e =

@@ -1,4 +1,4 @@
--- No decision is answered Full where no more are asked than a journal holds.
+-- No decision is answered Full if no more are asked than a journal holds.
 use Rattle.std.proofs.Common.{◌≡◌, ◌≢◌, ℕ, zero, suc, ◌+◌, ◌<◌, ◌≤◌, Bool, true, false}
 use Rattle.std.proofs.Common.{true≢false, List, [], ◌∷◌, ◌++◌, length, nat_eq, if◌then◌else◌, refl, sym, ap}
 use Rattle.std.proofs.Common.{◌∙◌, subst, arith, slice_index_or, map, Result, Ok, Err, IfOk}
@@ -66,7 +66,7 @@ pub not_empty : (b : Bool) (p : ℕ × Call) (xs : List (ℕ × Call)) → b ≡
 not_empty true p xs t e = absurd cc
 not_empty false p xs t e = true≢false (sym t)
 
--- each call is counted where each caller has an account
+-- each call is counted if each caller has an account
 sum_calls-all : (n : ℕ) (cs : List Call) (others' : List Account)
     → ((x : ℕ) → accounts_of x others' ≡ 0 → calls_from x n cs ≡ []) → length cs ≤ sum_calls n cs others'
 sum_calls-all n [] others' others = omega arith
@@ -98,7 +98,7 @@ few_calls desk (a ∷ others') all =
     omega (arith, all.0.all.few, length-decisions_asked a.0.todo.items, few_calls desk others' all.1)
 
 -- ---- AllAsked, AllDone
--- where all calls together are as many as a journal holds, none of these was answered Full
+-- if all calls together are as many as a journal holds, none of these was answered Full
 asked_each : (desk : TableId) (events : List Event) (before : ℕ) (others' : List SeatedAnalyst) → AllDone desk others'
     → AreAccounts events (accounts_in others')
     → ((e : length (calls_of events) ≡ MOST_CALLS) → MOST_CALLS ≤ before + total_calls others')
@@ -121,7 +121,7 @@ asked_each desk events before (a ∷ others') all right whole few =
           (λ e. omega (arith, whole e, all.0.all.few, length-decisions_asked a.0.todo.items)) (omega (arith, few)),
     )
 
--- where all have asked all, few enough for a journal, each one's calls in it are that one's decisions
+-- if all have asked all, few enough for a journal, each one's calls in it are that one's decisions
 all_asked : (desk : TableId) (events : List Event) (others' : List SeatedAnalyst) → AllDone desk others'
     → AreAccounts events (accounts_in others')
     → ((x : ℕ) → accounts_of x (accounts_in others') ≡ 0 → calls_by x events ≡ [])
@@ -246,7 +246,7 @@ asked_in desk helm0 helm1 old new passes book steers fresh are closed right fron
       others = λ x e. l.others x (callers_before x old new len same ∙ e);
     }
 
--- a world that is at the horizon stands where the journal has led
+-- a world that is at the horizon is where the journal has led
 finished_at : (helm0 helm1 : HelmView) (passes : List PassView) (book : BookView) (world : WorldView)
     → Steers helm0 helm1
     → IsFinalBook (closing helm1 passes) book → IsRight book.net book.events

@@ -66,7 +66,7 @@ asked_over desk acts who station old new h e =
     }
 
 -- ---- looks
--- what was read in a beginning of a list was read in the list
+-- what was read in a prefix of a list was read in the list
 known_later : (n : Option ℕ) (most : ℕ) (who : List ℕ) (xs ys : List RackView) (o : Option Glance) → IsPrefix xs ys
     → IfSome o (λ g. (s : ℕ) × (n ≡ Some s) × (s ≤ most) × WasRead xs s who g)
     → IfSome o (λ g. (s : ℕ) × (n ≡ Some s) × (s ≤ most) × WasRead ys s who g)
@@ -173,7 +173,7 @@ IsSameAnalyst-trans a b c s t = record {
 }
 
 -- ---- one look
--- where each station has a rack in a beginning of a list, each has one in the list
+-- if each station has a rack in a prefix of a list, each has one in the list
 pub racks_later : (net : Net) (xs ys : List RackView) → IsPrefix xs ys → HasRacks net xs → HasRacks net ys
 racks_later net xs ys p h = λ s is. HasRack-later s xs ys p (h s is)
 

@@ -17,7 +17,7 @@ pub if_is_ok : (run : Result WorldView StudyFault) (finished : Bool) (P : Type 0
 if_is_ok (Ok w) finished P is holds done = holds
 if_is_ok (Err e) finished P is holds done = absurd (true≢false (sym done ∙ is))
 
--- why a run was stopped, with calls behind its journal
+-- why a run was stopped, with calls after its journal
 stops_on : (net : Net) (h events : List Event) (e : StudyFault) → IsNet net → OnlyCalls h events → IsRight net events
     → StopsEngine net h e → StopsEngine net events e
 stops_on net h events NoMemory valid calls right stops = tt

@@ -28,7 +28,7 @@ abbrev has_front : ℕ → List Event → Bool
 has_front front [] = false
 has_front front (e ∷ es) = is_front front e || has_front front es
 
--- one that stands among others is there
+-- an element among others is there
 has_front-append : (front : ℕ) (before rest : List Event)
     → has_front front ((before ++ NewFront front ∷ []) ++ rest) ≡ true
 has_front-append front [] rest = grind (arith, nat_tests)
@@ -36,7 +36,7 @@ has_front-append front (e ∷ before) rest = rw (has_front-append front before r
 
 -- ---- the clones at front 10
 
--- what stands before front 10 in the worked journal
+-- what comes before front 10 in the worked journal
 before_10 : (before rest : List Event) → (before ++ NewFront 10 ∷ []) ++ rest ≡ during_a_run
     → before ≡ NewFront 5 ∷ NewFront 7 ∷ []
 before_10 [] rest p = let h : true ≡ false = ap (λ es. has_front 10 (take 1 es)) p in absurd (cc)

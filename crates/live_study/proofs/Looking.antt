@@ -28,7 +28,7 @@ numbers_to-most (suc n) = all_push (λ x. x ≤ suc n) (numbers_to n) (n + 1)
     (all_weaker (λ x. x ≤ n) (λ x. x ≤ suc n) (numbers_to n) (λ x h. omega (arith, h)) (numbers_to-most n))
     (omega arith)
 
--- each of these differs from those behind it
+-- each of these differs from those after it
 abbrev Differ : List ℕ → Type 0
 Differ [] = Unit {0}
 Differ (x ∷ xs) = AllByRecursion (λ y. y ≢ x) xs × Differ xs
@@ -77,7 +77,7 @@ AreOfEach [] (r ∷ rs) = ⊥
 AreOfEach (x ∷ xs) [] = ⊥
 AreOfEach (x ∷ xs) (r ∷ rs) = AreOf x r.items × AreOfEach xs rs
 
--- where all have made the looks that they had to make, the looks of each are of its number
+-- if all have made the looks that they had to make, the looks of each are of its number
 each_own : (seated : List SeatedAnalyst) (looks : List (ReservedView Looked)) → looks_made looks ≡ looks_to_make seated
     → AreOfEach (map (λ (a : SeatedAnalyst). a.0.number) seated) looks
 each_own [] [] e = tt
@@ -102,7 +102,7 @@ other_later : (x : ℕ) (k l : Looked) → k.analyst ≡ x → l.analyst ≢ x �
 other_later x k l e ne = λ same. absurd (ne (same ∙ e))
 
 -- ---- NeverFall
--- looks of one analyst that never fall, and behind them such looks of others
+-- looks of one analyst that never fall, followed by such looks of others
 rise_on : (x : ℕ) (ls more : List Looked) → NeverFall ls → AreOf x ls → NeverFall more
     → AllByRecursion (λ (l : Looked). l.analyst ≢ x) more → NeverFall (ls ++ more)
 rise_on x [] more rise own then apart = then
@@ -112,7 +112,7 @@ rise_on x (k ∷ ls) more rise own then apart = (
   rise_on x ls more rise.1 own.1 then apart,
 )
 
--- where no analyst's looks fall, and each has a number of its own, all together never fall
+-- if no analyst's looks fall, and each has a number of its own, all together never fall
 all_rise : (xs : List ℕ) (looks : List (ReservedView Looked)) → Differ xs → AreOfEach xs looks
     → AllByRecursion (λ (r : ReservedView Looked). NeverFall r.items) looks → NeverFall (all_looks looks)
 all_rise [] [] differ own rise = tt

@@ -30,7 +30,7 @@ use Rattle.live_study.proofs.Begun.{all_ready, few_todo, journal_of_script, many
 use Rattle.live_study.proofs.Looking.{seen_of_script}
 
 -- ---- the opening racks
--- a rack at a place of them is one of the world as it stands
+-- a rack at an index of them is one of the world as it is
 now_at : (w : WorldView) (many : ℕ) (racks : List RackView) (i : ℕ) (r : RackView) → AreOpeningRacks w many racks
     → slice_get racks i ≡ Some r → IsRackNow w r
 now_at w many racks i r h e = subst (IsRackNow w) (get_or_from_slice_get racks i r r e)
@@ -160,7 +160,7 @@ enough_reserved net many p seated h are =
     subst (λ n. HasReservedFor n p.reserve) (sym len) h.reserve
 
 -- ---- the journal
--- where analysts with the passes that were prepared have asked all, the journal is one of the script
+-- if analysts with the passes that were prepared have asked all, the journal is one of the script
 pub journal_is : (net : Net) (s : ScriptView) (p : Prepared) (seated : List SeatedAnalyst) (book : BookView)
     → IsPrepared net (length s.analysts) p → map (λ (a : SeatedAnalyst). a.0.pass) seated ≡ p.passes.items
     → map (λ (a : SeatedAnalyst). a.0.todo.items) seated ≡ each_acts s.items (length p.passes.items)
@@ -171,7 +171,7 @@ journal_is net s p seated book h are todo asked =
     (subst (λ (n : Net). IsAllAsked n seated book) (helm_net net (length s.analysts) p h) asked)
 
 -- ---- the looks
--- where they have made the looks that they had to make, these are all looks of the script
+-- if they have made the looks that they had to make, these are all looks of the script
 pub made_are : (net : Net) (s : ScriptView) (p : Prepared) (seated : List SeatedAnalyst)
     (looks : List (ReservedView Looked)) → IsPrepared net (length s.analysts) p
     → map (λ (a : SeatedAnalyst). a.0.number) seated ≡ numbers_to (length p.passes.items)

@@ -42,7 +42,7 @@ raises_prefix old new front r = (
   sym (r.helm ∙ append_assoc old.helm (map NewCall r.calls) (NewFront front ∷ [])),
 )
 
--- the world stands at the front that the helm has raised
+-- the world is at the front that the helm has raised
 pub at_raised : (old new : HelmView) (w : WorldView) → Raises old new w.front → InStep new w
     → AreAtFront new.net new.helm w.front w.clones
 at_raised old new w r i =
@@ -52,7 +52,7 @@ at_raised old new w r i =
     inr (before, ([], append-nil (before ++ NewFront w.front ∷ []) ∙ sym r.helm), clones)
 
 -- ---- a round of racks
--- where the front was raised, no station had its turn yet
+-- when the front was raised, no station had its turn yet
 pub round_begins : (old new : HelmView) (w v : WorldView) (published : List RackView) → AreShownOf old w published
     → new.net ≡ old.net → Raises old new v.front → v.net ≡ w.net → w.front < v.front → AreShownTo new v 0 published
 round_begins old new w v published h net r same rises = record {
@@ -166,7 +166,7 @@ shows_more h w station r published low shown at of net clones own front =
     subst (λ n. AreShownTo h w n (published ++ r ∷ [])) back
     (round_goes_on h w (station - 1) r published shown at (net ∙ of) clones (own ∙ sym back) front)
 
--- where it was published
+-- if it was published
 pub shows_if : {E : Type 0} (h : HelmView) (w : WorldView) (station : ℕ) (r : RackView) (published new : List RackView)
     (end : Result (Unit {0}) E) → 1 ≤ station → AreShownTo h w (station - 1) published
     → AreAtFront h.net h.helm w.front w.clones → w.net ≡ h.net → r.net ≡ w.net → r.clones ≡ w.clones

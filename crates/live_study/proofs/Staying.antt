@@ -1,4 +1,4 @@
--- What comes behind a front changes no log before it.
+-- Calls after a front change no log before it.
 use Rattle.std.proofs.Common.{◌≡◌, inl, inr, ⊎_elim, ℕ, ◌<◌, ◌≤◌, List, [], ◌∷◌, ◌++◌, length, length-set}
 use Rattle.std.proofs.Common.{None, unwrap_or, slice_set, fold, refl, sym, ap, ◌∙◌, subst, arith}
 use Rattle.std.proofs.lemmas.Bool.{cases_eq}
@@ -103,7 +103,7 @@ module _ (net : Net) (front : ℕ) where
 
 -- ---- accepted decisions
 module _ (net : Net) (valid : IsNet net) (front : ℕ) where
-  -- an accepted decision keeps the logs at each front up to the one that stands
+  -- an accepted decision keeps the logs at each front up to the present one
   pub keep_logs-decided : (clones : List Clone) (now : ℕ) (d : Decision) → front ≤ now → IsAccepted net clones now d
       → KeepLogs net front clones (clones_after net clones d)
   keep_logs-decided clones now (Fork new old) late accepted =
@@ -152,7 +152,7 @@ module _ (net : Net) (valid : IsNet net) (front : ℕ) where
       (sym (h.1 (clones_after s.net s.clones c.decision) s.clones)) (keep_logs-refl net front s.clones))
       (accepted_or_refused c.reply)
 
-  -- and so does all that comes behind
+  -- and so does all that comes after it
   pub keep_logs-after : (before es : List Event) (s : Situation) → after net before ≡ s → front ≤ s.front
       → EachAfter (MayFollow net) before es → KeepLogs net front s.clones (fold after_event s es).clones
   keep_logs-after before [] s is late right = keep_logs-refl net front s.clones
@@ -173,7 +173,7 @@ module _ (net : Net) (valid : IsNet net) (front : ℕ) where
       right.1)
 
 -- ---- LogsStay
--- behind a front of a journal
+-- after a front of a journal
 keep_logs-behind : (net : Net) → IsNet net → (before more : List Event) (front : ℕ)
     → IsRight net ((before ++ NewFront front ∷ []) ++ more)
     → KeepLogs net front (after net before).clones (after net ((before ++ NewFront front ∷ []) ++ more)).clones
@@ -187,7 +187,7 @@ keep_logs-behind net valid before more front right =
     (keep_logs-after net valid front (before ++ NewFront front ∷ []) more s is (omega arith)
     (each_later (MayFollow net) [] (before ++ NewFront front ∷ []) more right))
 
--- over a valid network, what comes behind a front of a journal changes no log before it
+-- over a valid network, calls after a front of a journal change no log before it
 pub logs_stay : (net : Net) → IsNet net → LogsStay net
 logs_stay net valid events front clones right at = ⊎_elim
     (λ (h : (front ≡ 0) × (clones ≡ base ∷ [])).

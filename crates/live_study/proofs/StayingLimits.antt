@@ -33,7 +33,7 @@ module _ (net : Net) (front : ℕ) (old new : List Clone) (keep : KeepLogs net f
       → IsBeyond net s front (clone_at old c)
   beyond_there s c l h = subst (λ es. net.limit < length es) (keep.logs c s l) h
 
-  -- where none was beyond it, none is
+  -- if none was beyond it, none is
   none_beyond : NoneBeyond net old front → NoneBeyond net new front
   none_beyond within c l s is h = (let was = beyond_before s c l h in within was.0 was.1 s is was.2)
 
@@ -49,8 +49,8 @@ module _ (net : Net) (front : ℕ) (old new : List Clone) (keep : KeepLogs net f
         (beyond_there station c (omega (arith, less, f.clone)) h);
   }
 
--- ---- calls behind a journal
--- calls behind a journal add no front
+-- ---- calls after a journal
+-- calls after a journal add no front
 fronts_of-calls : (h : List Event) (cs : List Call) → fronts_of (h ++ map NewCall cs) ≡ fronts_of h
 fronts_of-calls [] [] = refl
 fronts_of-calls [] (c ∷ cs) = fronts_of-calls [] cs
@@ -67,7 +67,7 @@ keep_logs-calls net valid h cs right front early =
     (keep_logs-after net valid front h (map NewCall cs) (after net h) refl (omega (arith, early, front_is net h))
     (each_later (MayFollow net) [] h (map NewCall cs) right))
 
--- a limit that is met at the last front of a journal is met there with calls behind it
+-- a limit that is met at the last front of a journal is met there with calls after it
 pub met_stays : (net : Net) → IsNet net → (h : List Event) (cs : List Call) → IsRight net (h ++ map NewCall cs)
     → (station who : ℕ) → MeetsLimitLast net h station who → MeetsLimitLast net (h ++ map NewCall cs) station who
 met_stays net valid h cs right station who met =

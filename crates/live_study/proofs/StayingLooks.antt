@@ -1,4 +1,4 @@
--- What a look tells stays true of the clones that a journal leaves.
+-- What a look reports stays true of the clones that a journal leaves.
 use Rattle.std.proofs.Common.{◌≡◌, ℕ, zero, suc, ◌<◌, List, [], ◌∷◌, length, map, take}
 use Rattle.std.proofs.Common.{Option, Some, None, position, refl, sym, ap, ap₂, ◌∙◌, subst, arith}
 use Rattle.std.proofs.lemmas.List.{length-take-le}
@@ -89,7 +89,7 @@ module _ (net : Net) (front : ℕ) (old new : List Clone) (keep : KeepLogs net f
     );
   }
 
--- over a valid network, what a true glance tells is true of the clones that the journal leaves
+-- over a valid network, what a true glance reports is true of the clones that the journal leaves
 pub looks_stay_true : (net : Net) → IsNet net → LooksStayTrue net
 looks_stay_true net valid events s who g right t =
     let final = (after net events).clones in
@@ -111,7 +111,7 @@ come_of-keep net valid front (d ∷ ds) old new come =
     keep_logs-trans net front old next new (keep_logs-decided net valid front old come.0 d come.1 come.2)
     (come_of-keep net valid front ds next new come.3)
 
--- over a valid network, what a glance tells is true of the clones that come of those of its rack
+-- over a valid network, what a glance reports is true of the clones that come from those of its rack
 pub glances_stay_true : (net : Net) → IsNet net → GlancesStayTrue net
 glances_stay_true net valid old new ds s who g come many found =
     let keep = come_of-keep net valid g.front ds old new come in

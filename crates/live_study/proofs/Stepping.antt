@@ -88,7 +88,7 @@ before_last net es last f right there less = ⊎_elim
     (front_in es last f there)
 
 -- ---- the limit
--- where no log is beyond the limit, none was at an earlier front
+-- if no log is beyond the limit, none was at an earlier front
 none_earlier : (net : Net) (cs : List Clone) (f front : ℕ) → IsNet net → f ≤ front → NoneBeyond net cs front
     → NoneBeyond net cs f
 none_earlier net cs f front valid early none c there s is beyond =
@@ -115,7 +115,7 @@ takes_turn h turn new cs t =
           ∙ ap (λ (n : Net). clones_after_calls n s.clones (accepted_of cs)) net;
     }
 
--- what the turn gives is accepted by a world in step
+-- what the turn returns is accepted by a world in step
 pub may_take : (h : HelmView) (w : WorldView) (turn : Turn) (new : HelmView) (cs : List Call) (fresh : List Call)
     → InStep h w
     → IsNextTurn h turn new cs → fresh ≡ turn.fresh.items → AreAccepted w.net w.clones w.front fresh
@@ -177,6 +177,6 @@ stops_ahead h w bound old_steps new_steps (EventLimit station who kept) ahead fa
           (subst (λ (n : Net). NoneBeyond n w.clones f) ahead.net (ahead.short f there (omega (arith, less, is))));
     }
 
--- the front is raised behind calls
+-- the front is raised after calls
 pub raises_next : (h new : HelmView) (turn : Turn) (cs : List Call) → IsNextTurn h turn new cs → Raises h new turn.front
 raises_next h new turn cs t = record { calls = cs; helm = ap (λ (n : HelmView). n.helm) t.new_is }

@@ -14,7 +14,7 @@ use Rattle.decision_book.proofs.JournalScripts.{after_event-accepted, after_even
 use Rattle.world_core.specs.Taking.{AreAccepted, clones_after_calls}
 use Rattle.world_core.proofs.Accepted.{accepted_at}
 
--- ---- calls behind a journal
+-- ---- calls after a journal
 -- the calls are ones that a world takes, and it has the clones that they leave then
 pub record AreTaken (s : Situation) (cs : List Call) : Type 0 where
   pub accepted : AreAccepted s.net s.clones s.front (accepted_of cs)
@@ -46,7 +46,7 @@ taken_refused s c cs h more =
           ∙ ap (clones_after_calls s.net s.clones) (sym taken);
     }
 
--- calls behind a journal that this situation is after
+-- calls after a journal that this situation is after
 taken_from : (net : Net) (before : List Event) (cs : List Call) (s : Situation) → after net before ≡ s
     → EachAfter (MayFollow net) before (map NewCall cs) → AreTaken s cs
 taken_from net before [] s is right = record { accepted = tt; clones = refl }
@@ -62,7 +62,7 @@ taken_from net before (c ∷ cs) s is right =
     (then ∙ after_event-refused s c h) right.1))
     (accepted_or_refused c.reply)
 
--- calls behind a right journal
+-- calls after a right journal
 pub taken_behind : (net : Net) (before : List Event) (cs : List Call) → IsRight net (before ++ map NewCall cs)
     → AreTaken (after net before) cs
 taken_behind net before cs right =

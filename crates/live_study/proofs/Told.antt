@@ -77,7 +77,7 @@ known_of : (net : Net) (read : List RackView) (l : Looked) (o : Option Glance)
 known_of net read l None k = tt
 known_of net read l (Some g) k = (k.0, k.1)
 
--- so at each look nothing was seen exactly where there is no such station
+-- so at each look nothing was seen exactly if there is no such station
 all_seen : (net : Net) (seated : List SeatedAnalyst) → AllLooked net seated
     → AllByRecursion (SeesItsStation net) (all_looks (looks_of seated))
 all_seen net [] all = tt
@@ -127,7 +127,7 @@ told_at_horizon net h w events published seated looks of in_step last calls show
     (true_looks net h w events published seated of (in_step.net ∙ of) last (map NewCall calls.0, sym calls.1) shown up
     all)
 
--- and it is, where the run is finished
+-- and it is, if the run is finished
 pub told_if : (net : Net) (h : HelmView) (events : List Event) (published : List RackView) (seated : List SeatedAnalyst)
     (looks : List (ReservedView Looked)) (finished : Bool) (run : Result WorldView StudyFault) → h.net ≡ net
     → OnlyCalls h.helm events → IfOk run (λ w. InStep h w × (w.front ≡ w.net.horizon))

@@ -48,7 +48,7 @@ comes_after s (x ∷ xs) ys p q legal e f =
         subst (λ (r : RackView). MayComeAfter q r × (r.station ≡ q.station)) same (h.0, here ∙ sym h.1)
     by_rest more None g false is e = absurd (cc)
 
--- where two lists have no rack of a station, the first has none
+-- if two lists have no rack of a station, the first has none
 latest_none : (s : ℕ) (xs ys : List RackView) → latest s (xs ++ ys) ≡ None → latest s xs ≡ None
 latest_none s [] ys g = refl
 latest_none s (x ∷ xs) ys g =
@@ -60,7 +60,7 @@ latest_none s (x ∷ xs) ys g =
     of_rest more None h true is g = absurd (cc)
     of_rest more None h false is g = rw (more h, is) refl
 
--- the last rack of a station in two lists is that of the second, where that has one, and else of the first
+-- the last rack of a station in two lists is that of the second if that has one, and else of the first
 latest_in : (s : ℕ) (xs ys : List RackView) (r : RackView) → latest s (xs ++ ys) ≡ Some r
     → (latest s ys ≡ Some r) ⊎ (latest s xs ≡ Some r)
 latest_in s [] ys r e = inl e

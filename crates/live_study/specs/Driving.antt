@@ -16,21 +16,21 @@ use Rattle.live_study.specs.Showing.{AreShownOf, AreShownTo}
 pub record MayDrive (table : TableId) (h : HelmView) (w : WorldView) (published : List RackView) : Type 0 where
   -- the helm is one of the desk with this table
   pub desk : h.desk ≡ table
-  -- the world stands where the helm's journal has led
+  -- the world is where the helm's journal has led
   pub in_step : InStep h w
   -- what is published is of this journal and this world
   pub shown : AreShownOf h w published
   -- the world is before the horizon
   pub ahead : w.front < w.net.horizon
 
--- the helm may take a turn: it is one of the desk with this table, and the world stands where its journal has led,
+-- the helm may take a turn: it is one of the desk with this table, and the world is where its journal has led,
 -- before the horizon
 pub record MayTurn (table : TableId) (h : HelmView) (w : WorldView) : Type 0 where
   pub desk : h.desk ≡ table
   pub in_step : InStep h w
   pub below : w.front < w.net.horizon
 
--- the racks of the world may be shown: it is at a front of the helm's journal, and so many stations are done
+-- the racks of the world may be shown: it is at a front of the helm's journal, and this number of stations is done
 pub record MayShow (h : HelmView) (w : WorldView) (done : ℕ) (published : List RackView) : Type 0 where
   pub net : w.net ≡ h.net
   pub at : AreAtFront h.net h.helm w.front w.clones
@@ -52,7 +52,7 @@ abbrev pub CountsOnce : WorldView → WorldView → ℕ → ℕ → Type 0
 CountsOnce old new old_steps new_steps =
     new_steps + total_handled old.net old.clones old.front ≡ old_steps + total_handled new.net new.clones new.front
 
--- where the limit is met, no more were counted than it allows the clones that the helm's journal leaves
+-- if the limit is met, no more were counted than it allows the clones that the helm's journal leaves
 abbrev pub CountsFew : HelmView → WorldView → ℕ → ℕ → StudyFault → Type 0
 CountsFew h old old_steps new_steps NoMemory = Unit {0}
 CountsFew h old old_steps new_steps (LimitMet station who) =

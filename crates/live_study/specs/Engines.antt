@@ -10,7 +10,7 @@ use Rattle.world_core.specs.Worlds.{WorldView}
 use Rattle.study_run.specs.declared.fault.StudyFault.{StudyFault}
 use Rattle.study_run.specs.declared.fault.StudyFault.TheVariants.{NoMemory, LimitMet}
 
--- the world stands where the helm's journal has led
+-- the world is where the helm's journal has led
 pub record InStep (h : HelmView) (w : WorldView) : Type 0 where
   pub net : w.net ≡ h.net
   pub clones : w.clones ≡ (after h.net h.helm).clones

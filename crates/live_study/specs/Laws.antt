@@ -24,12 +24,12 @@ pub record KeepLogs (net : Net) (front : ℕ) (old new : List Clone) : Type 0 wh
   pub logs : (c s : ℕ) → c < length old → log_at net (clone_at new c) s front ≡ log_at net (clone_at old c) s front
   pub origins : (c : ℕ) → c < length new → HasLogsOfOne net front old (clone_at new c)
 
--- what comes behind a front changes no log before it
+-- calls after a front change no log before it
 abbrev pub LogsStay : Net → Type 0
 LogsStay net = (events : List Event) (front : ℕ) (clones : List Clone) → IsRight net events
     → AreAtFront net events front clones → KeepLogs net front clones (after net events).clones
 
--- so what a true glance tells of the clones at its front, it tells of those that the journal leaves
+-- so what a true glance reports of the clones at its front is true of those that the journal leaves
 abbrev pub LooksStayTrue : Net → Type 0
 LooksStayTrue net = (events : List Event) (s : ℕ) (who : List ℕ) (g : Glance) → IsRight net events
     → IsTrueGlance net events s who g → IsTrueOf net (after net events).clones s who g
@@ -41,7 +41,7 @@ ComeOf net front old [] new = new ≡ old
 ComeOf net front old (d ∷ ds) new = (now : ℕ) × (front ≤ now) × IsAccepted net old now d
     × ComeOf net front (clones_after net old d) ds new
 
--- what a glance tells of the clones of its rack, it tells of all that come of them from its front on
+-- what a glance reports of the clones of its rack is true of all that come from them from its front on
 abbrev pub GlancesStayTrue : Net → Type 0
 GlancesStayTrue net = (old new : List Clone) (ds : List Decision) (s : ℕ) (who : List ℕ) (g : Glance)
     → ComeOf net g.front old ds new → g.clones ≡ length old → FindsClone net old s g.front who g.found

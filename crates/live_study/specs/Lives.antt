@@ -32,7 +32,7 @@ looks_made looks = map (λ r. map look_of r.items) looks
 abbrev pub all_looks : List (ReservedView Looked) → List Looked
 all_looks looks = flat_map (λ r. r.items) looks
 
--- these analysts saw nothing exactly where there is no such station, and no front of one of them falls
+-- these analysts saw nothing exactly if there is no such station, and no front of one of them falls
 pub record AreSeenLooks (net : Net) (looks : List (ReservedView Looked)) : Type 0 where
   pub seen : AllByRecursion (SeesItsStation net) (all_looks looks)
   pub rise : AllByRecursion (λ r. NeverFall r.items) looks
@@ -41,7 +41,7 @@ pub record AreSeenLooks (net : Net) (looks : List (ReservedView Looked)) : Type 
 abbrev pub AreTrueLooks : Net → List Event → List (ReservedView Looked) → Type 0
 AreTrueLooks net events looks = AllByRecursion (IsTrueLook net events) (all_looks looks)
 
--- a run that was finished: the last front of the journal is the horizon, and the world stands there with the clones
+-- a run that was finished: the last front of the journal is the horizon, and the world is there with the clones
 -- that the journal leaves
 pub record IsAtHorizon (net : Net) (book : BookView) (world : WorldView) : Type 0 where
   pub last : (after net book.events).front ≡ net.horizon
@@ -49,9 +49,9 @@ pub record IsAtHorizon (net : Net) (book : BookView) (world : WorldView) : Type 
 
 -- the live run of a script
 pub record IsLiveRun (net : Net) (script : ScriptView) (run : LiveRun) : Type 0 where
-  -- however it ends: one legal journal, in which each analyst's decisions stand in order, and no others
+  -- however it ends: one legal journal, in which each analyst's decisions are in order, and no others
   pub journal : IsJournalOf net script run.book
-  -- and all looks of the script, in order, at which nothing was seen exactly where there is no such station
+  -- and all looks of the script, in order, which saw nothing exactly if there is no such station
   pub made : AreMadeLooks net script (all_looks run.looks.items)
   -- at the horizon: what was seen at each of them is true of the journal's clones at a front
   pub looks : IfOk run.run (λ w. AreLooks net script run.book.events (all_looks run.looks.items))

@@ -33,7 +33,7 @@ pub record IsTrueGlance (net : Net) (events : List Event) (s : ℕ) (who : List 
   pub many : g.clones ≡ length clones
   pub found : FindsClone net clones s g.front who g.found
 
--- what was seen at a look: nothing exactly where the network has no such station, and else a true glance
+-- what was seen at a look: nothing exactly if the network has no such station, and else a true glance
 pub record IsTrueLook (net : Net) (events : List Event) (l : Looked) : Type 0 where
   pub unknown : IfNone l.glance (station_named l.station net ≡ None)
   pub known : IfSome l.glance (λ g. (s : ℕ) × (station_named l.station net ≡ Some s)
@@ -60,13 +60,13 @@ NeverFall (l ∷ ls) = AllByRecursion (IsNoEarlier l) ls × NeverFall ls
 abbrev pub HasMadeLooks : ScriptView → List Looked → Type 0
 HasMadeLooks s looks = map look_of looks ≡ each_looks s.items (length s.analysts)
 
--- nothing was seen exactly where the network has no such station
+-- nothing was seen exactly if the network has no such station
 pub record SeesItsStation (net : Net) (l : Looked) : Type 0 where
   pub unknown : IfNone l.glance (station_named l.station net ≡ None)
   pub known : IfSome l.glance (λ g. (s : ℕ) × (station_named l.station net ≡ Some s))
 
 -- the looks of a script, however its run ended: one for each look of the script, by analyst and then in the analyst's
--- order; nothing was seen exactly where there is no such station, and no analyst's front at a station falls
+-- order; nothing was seen exactly if there is no such station, and no analyst's front at a station falls
 pub record AreMadeLooks (net : Net) (s : ScriptView) (looks : List Looked) : Type 0 where
   pub made : HasMadeLooks s looks
   pub seen : AllByRecursion (SeesItsStation net) looks
@@ -79,7 +79,7 @@ pub record AreLooks (net : Net) (s : ScriptView) (events : List Event) (looks : 
 
 -- ---- what a look has read
 
--- a glance of the last rack of the station in a beginning of these racks
+-- a glance of the last rack of the station in a prefix of these racks
 pub record WasRead (read : List RackView) (s : ℕ) (who : List ℕ) (g : Glance) : Type 0 where
   pub before : List RackView
   pub begins : IsPrefix before read
@@ -87,7 +87,7 @@ pub record WasRead (read : List RackView) (s : ℕ) (who : List ℕ) (g : Glance
   pub last : latest s before ≡ Some rack
   pub glance : IsGlance rack who g
 
--- a look that has read a beginning of these racks, or found no station to read of
+-- a look that has read a prefix of these racks, or found no station to read
 pub record IsReadLook (net : Net) (read : List RackView) (l : Looked) : Type 0 where
   pub unknown : IfNone l.glance (station_named l.station net ≡ None)
   pub known : IfSome l.glance (λ g. (s : ℕ) × (station_named l.station net ≡ Some s) × (s ≤ length net.sites)
@@ -108,7 +108,7 @@ pub record IsRackOf (net : Net) (events : List Event) (r : RackView) : Type 0 wh
 abbrev pub IsAt : ℕ → List RackView → ℕ → Type 0
 IsAt front racks s = (r : RackView) × (latest s racks ≡ Some r) × (r.front ≡ front)
 
--- the last rack of each of the first so many stations is at this front
+-- the last rack of each of the first stations, up to this number, is at this front
 abbrev pub AreAllAt : ℕ → ℕ → List RackView → Type 0
 AreAllAt many front racks = (s : ℕ) → 1 ≤ s → s ≤ many → IsAt front racks s
 

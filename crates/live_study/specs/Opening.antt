@@ -40,14 +40,14 @@ pub record AreOpeningRacks (w : WorldView) (many : ℕ) (racks : List RackView) 
   pub each : OneEach racks
   pub now : AllByRecursion (IsRackNow w) racks
 
--- what is reserved for the end: nothing in it yet, and free places for what so many analysts leave
+-- what is reserved for the end: nothing in it yet, and free places for what this number of analysts leaves
 pub record HasReservedFor (many : ℕ) (reserve : Reserve) : Type 0 where
   pub no_passes : reserve.passes.items ≡ []
   pub no_looks : reserve.looks.items ≡ []
   pub for_passes : many ≤ vec_capacity reserve.passes
   pub for_looks : many ≤ vec_capacity reserve.looks
 
--- all that so many analysts begin with over a network
+-- all that this number of analysts begins with over a network
 pub record IsPrepared (net : Net) (many : ℕ) (p : Prepared) : Type 0 where
   pub world : p.world ≡ opening_world net
   pub racks : AreOpeningRacks p.world (length net.sites) p.racks.items

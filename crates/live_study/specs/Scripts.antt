@@ -12,7 +12,7 @@ use Rattle.decision_desk.specs.Accounts.{calls_by}
 use Rattle.decision_desk.specs.Legal.{IsLegal}
 use Rattle.live_study.specs.Asking.{decisions_asked, decisions_in}
 
--- the act of an item, where it is this analyst's
+-- the act of an item if it is this analyst's
 abbrev pub own_act : ℕ → Item → List Act
 own_act a item = if nat_eq item.analyst a then item.act ∷ [] else []
 

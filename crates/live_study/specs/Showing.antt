@@ -43,7 +43,7 @@ pub record HaveActed (desk : TableId) (net : Net) (old new : List SeatedAnalyst)
       → HasActed desk net (slice_index_or old i d) (slice_index_or new i d)
 
 -- what is published: each is a rack of the helm's journal, at a front up to the world's; each station has one, which at
--- the horizon, for so many stations, is at the horizon
+-- the horizon, for this number of stations, is at the horizon
 pub record AreShownUpTo (h : HelmView) (w : WorldView) (done : ℕ) (published : List RackView) : Type 0 where
   pub racks : AllByRecursion (IsRackOf h.net h.helm) published
   pub early : AllByRecursion (λ q. q.front ≤ w.front) published
@@ -54,12 +54,12 @@ pub record AreShownUpTo (h : HelmView) (w : WorldView) (done : ℕ) (published :
 abbrev pub AreShownOf : HelmView → WorldView → List RackView → Type 0
 AreShownOf h w published = AreShownUpTo h w (length w.net.sites) published
 
--- the same while the racks of a front are published: so many stations are done
+-- the same while the racks of a front are published: this number of stations is done
 pub record AreShownTo (h : HelmView) (w : WorldView) (done : ℕ) (published : List RackView) : Type 0 where
   pub up_to : AreShownUpTo h w done published
   pub below : AllByRecursion (λ q. done < q.station → q.front < w.front) published
 
--- a helm that raised its front to this one behind calls
+-- a helm that raised its front to this one after calls
 pub record Raises (old new : HelmView) (front : ℕ) : Type 0 where
   pub calls : List Call
   pub helm : new.helm ≡ (old.helm ++ map NewCall calls) ++ NewFront front ∷ []

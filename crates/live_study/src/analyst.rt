@@ -12,7 +12,7 @@ use sim_base::Reserved;
 pub struct Analyst {
     /// From 1, as the desk numbers its callers.
     pub number: u32,
-    /// What it asks the desk with.
+    /// Its handle on the desk.
     pub pass: Pass,
     /// What it will do, in order.
     pub todo: Vec<Act>,

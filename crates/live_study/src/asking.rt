@@ -32,7 +32,7 @@ fn ask<R: Wait>(rt: &R, desk: &Desk, analyst: &mut Analyst, d: Decision)
     let _receipt = desk.decide(rt, &mut analyst.pass, d);
 }
 
-// Looks at a clone's station. Where the model has no such station, nothing is seen.
+// Looks at a clone's station. It sees nothing if the model has no such station.
 fn see<J: Naming>(
     model: &Model,
     seat: &mut Seat<J>,
@@ -44,7 +44,7 @@ fn see<J: Naming>(
     ensures begins { IsPrefix seat.old seat.new }
     ensures there { HasRacks model.now seat.new }
     ensures read { IsReadLook model.now seat.new result }
-    // no look that was made before was at a later front
+    // no earlier look was at a later front
     ensures later { (l : _) → IsReadLook model.now seat.old l → IsNoEarlier l result }
     ensures number { result.analyst ≡ number }
     ensures who { result.who ≡ who }
@@ -126,7 +126,7 @@ pub(crate) fn act_all<J: Naming, G: Gate, R: Wait>(
     }
 }
 
-/// All analysts' parts, each in a thread of its own.
+/// Runs all analysts, each in its own thread.
 pub(crate) fn act_everyone<J: Naming + Send + Sync, G: Gate, R: Threads + Wait + Sync>(
     rt: &R,
     desk: &Desk,

@@ -15,7 +15,7 @@ use sim_base::{NoMemory, Reserved};
 use std::alloc::Global;
 use world_core::World;
 
-// Appends the act of an item, where it is this analyst's.
+// Appends the act of an item if it is this analyst's.
 fn push_own(own: &mut Vec<Act>, item: &Item, a: u32) -> Result<(), NoMemory>
     ensures value { OnOk result (own.new.items ≡ own.old.items ++ own_act a item.now) }
 {
@@ -74,7 +74,7 @@ pub(crate) fn analysts_of<J: Naming>(
     Ok(seated)
 }
 
-/// A rack of each station, as the world opens.
+/// A rack of each station at time 0.
 pub(crate) fn opening_racks(alloc: Global, world: &mut World) -> Result<Vec<Rack>, NoMemory>
     ensures same { world.new ≡ world.old }
     ensures opening { IfOk result (λ v. AreOpeningRacks world.old (length world.old.net.sites) v.items) }
@@ -87,7 +87,7 @@ pub(crate) fn opening_racks(alloc: Global, world: &mut World) -> Result<Vec<Rack
     Ok(racks)
 }
 
-// Marks the station of an act, where it is a look at one.
+// Marks the station of an act if the act is a look.
 fn mark_looked_at(watched: &mut Vec<bool>, model: &Model, act: &Act) {
     let Act::Look { who: _, station } = act else {
         return;
@@ -100,7 +100,7 @@ fn mark_looked_at(watched: &mut Vec<bool>, model: &Model, act: &Act) {
     }
 }
 
-// So many marks, none of them set.
+// `many` marks, none of them set.
 fn no_marks(alloc: Global, many: u32) -> Result<Vec<bool>, NoMemory> {
     let mut marks = Vec::with_capacity(alloc, many as usize)?;
     for _s in 0..many {
@@ -109,7 +109,7 @@ fn no_marks(alloc: Global, many: u32) -> Result<Vec<bool>, NoMemory> {
     Ok(marks)
 }
 
-/// Which stations are looked at. It only says what is worth showing before the horizon.
+/// Which stations some analyst looks at. Only these are published before the horizon.
 pub(crate) fn watched_in(
     alloc: Global,
     model: &Model,

@@ -1,4 +1,4 @@
-//! The engine beside the other members of its crew, which step the stations (logical processes) of larger windows.
+//! The engine and the other members of its crew, which step the stations (logical processes) of larger windows.
 ghost use Rattle.std.specs.Prelude.{◌≡◌, length, IfOk};
 ghost use Rattle.decision_desk.specs.Desks.{desk_id};
 ghost use Rattle.live_study.specs.Driving.{HasDriven, MayDrive};
@@ -15,7 +15,7 @@ use std::thread::Threads;
 use study_run::{NewCrew, StudyFault, begin_crew};
 use world_core::{Window, World};
 
-// The engine runs to the horizon, and then tells the members that no more windows come.
+// The engine runs to the horizon, and then releases the other members of its crew.
 fn drive_and_end<G: Gate, J: Naming, W: Wait + Drop, R: Wait>(
     rt: &R,
     alloc: Global,
@@ -38,7 +38,7 @@ fn drive_and_end<G: Gate, J: Naming, W: Wait + Drop, R: Wait>(
     done
 }
 
-// The engine beside the other members of its crew.
+// The engine and the other members of its crew, each in its own thread.
 fn drive_beside<G: Gate, J: Naming, W: Wait + Drop, R: Threads + Wait + Sync>(
     rt: &R,
     alloc: Global,
@@ -71,8 +71,8 @@ fn drive_beside<G: Gate, J: Naming, W: Wait + Drop, R: Threads + Wait + Sync>(
     done
 }
 
-/// The engine runs to the horizon, publishes on its way, and hands helm and stocker back in any case. If there is no
-/// memory for its crew, it has none.
+/// The engine runs to the horizon, publishes on its way, and returns helm and stocker in any case. Out of memory for
+/// its crew, it runs without one.
 pub(crate) fn drive_with_crew<'g, G: Gate, J: Naming, W: Wait + Drop, R: Threads + Wait + Sync>(
     rt: &R,
     alloc: Global,

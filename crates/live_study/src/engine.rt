@@ -1,4 +1,4 @@
-//! The engine's part: conservative time windows up to the fronts that the desk gives, until the horizon.
+//! The engine: conservative time windows up to the fronts that the desk returns, until the horizon.
 ghost use Rattle.std.specs.Prelude.{◌≡◌, ◌+◌, ◌-◌, ◌<◌, ◌≤◌, length, IfOk, IfErr, OnOk};
 ghost use Rattle.net_model.specs.Net.{HasStation};
 ghost use Rattle.stations.specs.Runs.{next_front};
@@ -21,7 +21,7 @@ use std::sync::ledger::{Blank, Ledger};
 use study_run::{StudyFault, fault_of_window};
 use world_core::{Window, World, WorldFault};
 
-// The least time that is due in each clone.
+// The time of the next pending message of each clone.
 fn least_due_times(alloc: Global, world: &World) -> Result<Vec<Option<u64>>, NoMemory>
     ensures value { IfOk result (λ v. v.items ≡ leasts_of world.now.net world.now.clones world.now.front) }
 {
@@ -181,7 +181,7 @@ fn take_window_and_show<G: Gate, J: Naming, L: Ledger, W: Wait + Drop, R: Wait>(
     requires shown { AreShownOf helm.old world stocker.old.published }
     // what is kept of the helm in any case
     ensures steers { Steers helm.old helm.new }
-    // what it gives: a world further on, in step with the helm, and racks of it for readers
+    // what it returns: a world at a later front, in step with the helm, whose racks readers are shown
     ensures in_step { IfOk result (λ w. InStep helm.new w) }
     ensures rises { IfOk result (λ w. world.front < w.front) }
     ensures shown { IfOk result (λ w. AreShownOf helm.new w stocker.new.published) }
@@ -201,7 +201,7 @@ fn take_window_and_show<G: Gate, J: Naming, L: Ledger, W: Wait + Drop, R: Wait>(
     }
 }
 
-// The engine runs to the horizon, and hands its helm back in any case.
+// The engine runs to the horizon, and returns its helm in any case.
 fn drive<G: Gate, J: Naming, L: Ledger, W: Wait + Drop, R: Wait>(
     rt: &R,
     alloc: Global,
@@ -259,8 +259,8 @@ fn drive_counted<G: Gate, J: Naming, L: Ledger, W: Wait + Drop, R: Wait>(
     )
 }
 
-/// The engine runs to the horizon, publishes on its way, and hands helm and stocker back in any case. Nobody else sees
-/// its counter.
+/// The engine runs to the horizon, publishes on its way, and returns helm and stocker in any case. Its counter is its
+/// own.
 pub(crate) fn drive_alone<G: Gate, J: Naming, W: Wait + Drop, R: Wait>(
     rt: &R,
     alloc: Global,

@@ -1,7 +1,7 @@
 //! Live studies: analysts decide while the engine runs (interactive simulation).
 //!
 //! In a study the decisions are known before the simulation begins. In a live one each analyst is a thread that asks
-//! its decisions one after the other, and the engine is a thread that goes from window to window beside them. They meet
+//! its decisions one after the other, and the engine is a thread that goes from window to window. They meet
 //! at the desk, where calls and fronts (window boundaries) come one after the other; so there is one journal, whatever
 //! the schedule:
 //!
@@ -12,9 +12,9 @@
 //! journal     # front 5 | ada: fork fast | # front 7 | ben: refused, late | ..
 //! ```
 //!
-//! In each turn the engine tells the desk the least times that are due, gets the next front and the calls that were
-//! accepted since its last turn, gives these to the world, and runs the window up to that front. Then it publishes the
-//! racks of the stations that are looked at, and at the horizon those of all; an analyst that looks reads the newest
+//! In each turn the engine passes the times of the next messages to the desk. It gets the next front and the calls
+//! that were accepted since its last turn, applies these to the world, and runs the window up to that front. Then it
+//! publishes the racks of the stations that are looked at, and at the horizon those of all. An analyst reads the newest
 //! rack at its seat, and waits for nobody.
 //!
 //! ```text
@@ -26,13 +26,13 @@
 //! each station that is looked at in each window. However the engine ends, all analysts do all that they have to do,
 //! and all threads are joined. What follows takes no memory, so the journal is there in any case.
 //!
-//! It carries a promise of README.md, **a live study has one legal history, and looks are true**: in the one journal
-//! each analyst's decisions stand in order, each once, and no others; none is answered Full, since no more are asked
-//! than a journal holds. Where the engine comes to the horizon, the world has the clones that this journal leaves,
-//! what clones share was counted once, and what was seen at each look is true of the clones that there were at the
-//! opening or at its front of the journal; it stays true of those that the journal leaves, since nothing behind a
-//! front changes a log before it (`laws`). Where a log would get longer than the limit, the least station and there
-//! the least clone at the last front are named. That threads run side by side, no clause says.
+//! It carries a promise of README.md, **a live study has one legal history, and looks are true**. In the one journal
+//! each analyst's decisions are in order, each once, and no others. None is answered Full, since no more are asked than
+//! a journal holds. If the engine reaches the horizon, the world has the clones that this journal leaves, and what
+//! clones share was counted once. What each look saw is true of the clones that there were at time 0 or at its front of
+//! the journal. It stays true of those that the journal leaves, since nothing after a front changes a log before it
+//! (`laws`). If a log would get longer than the limit, the result names the least station and there the least clone at
+//! the last front. It is not proved that threads run concurrently.
 #![tactic(auto)]
 
 pub mod analyst;

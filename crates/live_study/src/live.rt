@@ -1,4 +1,4 @@
-//! The users of an interactive simulation, the analysts, beside its engine.
+//! The engine of an interactive simulation, and its users, the analysts, in threads of their own.
 ghost use Rattle.std.specs.Prelude.{◌≡◌, ◌+◌, ◌≤◌, [], ◌++◌, length, map, IfOk, IfErr, true, vec_len, vec_capacity};
 ghost use Rattle.decision_book.specs.declared.call.TheConstants.{MOST_CALLS};
 ghost use Rattle.decision_desk.specs.declared.desk.TheConstants.{ALL_PARTS};
@@ -27,7 +27,7 @@ use std::thread::Threads;
 use study_run::StudyFault;
 use world_core::World;
 
-// The engine beside all analysts. All threads are joined.
+// Runs the engine and all analysts concurrently. All threads are joined.
 fn side_by_side<G: Gate, J: Naming + Send + Sync, W: Wait + Drop + Send, R: Threads + Wait + Sync>(
     rt: &R,
     alloc: Global,
@@ -87,7 +87,7 @@ fn learn_last<J: Naming, W: Wait + Drop>(stocker: &mut Stocker<J, W>, seat: &mut
     seat.learn(told);
 }
 
-// The passes and the looks of analysts that have done all, put into what was reserved for them. If the run is finished,
+// Puts the passes and the looks of the analysts into the memory that was reserved for them. If the run is finished,
 // each seat learns what was published last.
 fn close_seats<J: Naming, W: Wait + Drop>(
     finished: bool,
@@ -124,8 +124,8 @@ fn close_seats<J: Naming, W: Wait + Drop>(
     Reserve { passes, looks }
 }
 
-/// Runs the engine beside all analysts, and closes the desk. All threads are joined, however it ends; nothing is
-/// reserved behind that, so the book and the looks are there in any case.
+/// Runs the engine and all analysts, and closes the desk. All threads are joined, however it ends. Nothing is allocated
+/// after that, so the book and the looks are there in any case.
 pub(crate) fn run_live<
     G: Gate,
     J: Naming + Send + Sync,

@@ -1,4 +1,4 @@
-//! The text of a live study's journal, with its looks behind it.
+//! The text of a live study's journal, followed by its looks.
 ghost use Rattle.std.specs.Prelude.{◌≡◌, IfOk};
 ghost use Rattle.net_model.specs.Net.{Net};
 ghost use Rattle.journal_text.specs.JournalText.{journal_text as journal_text'};
@@ -23,7 +23,7 @@ fn looks_of(alloc: Global, looks: &[Reserved<Looked>]) -> Result<Vec<Looked>, No
     Ok(all)
 }
 
-/// The text of the journal that a live study of a script leaves, with the looks of its analysts behind it.
+/// The text of the journal that a live study of a script leaves, followed by the looks of its analysts.
 pub fn live_journal_text(
     alloc: Global,
     script: &Script,

@@ -7,7 +7,7 @@ use std::sync::ledger::Ledger;
 use study_run::StudyFault;
 use world_core::World;
 
-// So many steps.
+// `many` steps.
 fn tick_often<L: Ledger>(steps: &mut Steps<L>, many: u64)
     ensures value { steps.new ≡ steps.old + many }
 {

@@ -53,7 +53,7 @@ latest-with s (q ∷ racks) r = ap (λ o. or_this o (q.station == s) q) (latest-
     by_test true = refl
     by_test false = refl
 
--- what goes on from a list shows of a station what the list showed, or what is later
+-- a longer list shows of a station what the shorter showed, or something later
 latest-later : (s : ℕ) (xs zs : List RackView) (q : RackView) → AreLegal (xs ++ zs) → latest s xs ≡ Some q
     → (r : RackView) × (latest s (xs ++ zs) ≡ Some r) × (q.front ≤ r.front)
 latest-later s [] zs q legal e = absurd (cc)
@@ -82,7 +82,7 @@ latest-later s (x ∷ xs) zs q legal e = by_rest (λ f. latest-later s xs zs q l
         subst (goal_at (latest s (xs ++ zs))) (sym is) (by_whole (latest s (xs ++ zs)) refl same here)
     by_rest more None f false is e = absurd (cc)
 
--- the same of a list that begins with the other
+-- the same for a prefix of a list
 pub front-later : (s : ℕ) (xs ys : List RackView) (q r : RackView) → AreLegal ys → IsPrefix xs ys
     → latest s xs ≡ Some q → latest s ys ≡ Some r → q.front ≤ r.front
 front-later s xs ys q r legal begins e f =
@@ -93,7 +93,7 @@ front-later s xs ys q r legal begins e f =
 
 -- ---- HasRack
 
--- a station that has a rack has one in a list that goes on
+-- a station that has a rack has one in a longer list
 HasRack-append : (s : ℕ) (xs zs : List RackView) → HasRack s xs → HasRack s (xs ++ zs)
 HasRack-append s [] zs has = let e = has.1 in absurd (cc)
 HasRack-append s (x ∷ xs) zs has =
@@ -110,7 +110,7 @@ HasRack-append s (x ∷ xs) zs has =
         (sym is) (this_or (latest s (xs ++ zs)))
     by_rest more None f false is e = absurd (cc)
 
--- and in one that begins with the other
+-- and in a list of which this is a prefix
 pub HasRack-later : (s : ℕ) (xs ys : List RackView) → IsPrefix xs ys → HasRack s xs → HasRack s ys
 HasRack-later s xs ys begins has = subst (HasRack s) begins.1 (HasRack-append s xs begins.0 has)
 
@@ -237,7 +237,7 @@ AreShown-at f xs published s x shown has got =
     sym (subst (λ n. slice_get (map f xs) (s - 1) ≡ latest n published) e (shown.each (s - 1) m))
     ∙ slice_get-image f xs (s - 1) x l got
 
--- the place of the shown racks at which the rack of a station stands
+-- the index of a station's rack among the shown racks
 pub HasRack-bounds : {A : Type 0} (f : A → RackView) (xs : List A) (published : List RackView) (s : ℕ)
     → AreShown (map f xs) published → HasRack s published → (1 ≤ s) × (s ≤ length xs)
 HasRack-bounds f xs published s shown has = let k = shown.all s has in (k.0, omega (arith, k.1, length-map xs f))

@@ -10,7 +10,7 @@ use Rattle.shelf.proofs.Legals.{latest-with}
 
 -- ---- EachIs
 
--- where at each place stands what should, it is so with one more that should stand behind them
+-- if each index has the wanted element, so has each after the wanted one is appended
 EachIs-push : (want : ℕ → Option RackView) (xs : List RackView) (y : RackView) → EachIs want xs
     → Some y ≡ want (length xs) → EachIs want (xs ++ y ∷ [])
 EachIs-push want [] y each e = at_end

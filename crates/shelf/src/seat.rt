@@ -12,10 +12,10 @@ use sim_base::Name;
 use std::marker::Model;
 use std::sync::Arc;
 
-/// What was published up to some time, for a seat to learn. The stocker alone makes it.
+/// The racks published up to some time, for a seat to learn. Only the stocker makes it.
 #[derive(Drop)]
 pub struct Told<J: Naming> {
-    /// The version that was the newest then.
+    /// The newest version at that time.
     pub(crate) version: Arc<Version<J>>,
 }
 
@@ -28,10 +28,11 @@ impl<J: Naming> Model for Told<J> {
     ghost view = { λ t. t.version.value };
 }
 
-/// A reader. Contracts see the racks that it knows: all that were published up to what it last saw or learnt.
+/// A reader's handle on the shelf. Contracts see the racks that it knows: all published up to the last that it saw or
+/// learnt.
 #[derive(Drop)]
 pub struct Seat<J: Naming> {
-    /// Its way to what the stocker shows.
+    /// The reader's side of `left_right`.
     pub(crate) handle: ReadHandle<ShownVersion<J>>,
     /// The newest version that it saw or learnt.
     pub(crate) newest: Arc<Version<J>>,
@@ -46,16 +47,16 @@ impl<J: Naming> Model for Seat<J> {
     ghost view = { λ s. s.newest.value };
 }
 
-// Whether b knows more than a; else a knows all that b knows.
+// Whether b is longer than a. If it is not, b is a prefix of a.
 fn is_behind<J: Naming>(a: &PublishedRacks<J>, b: &PublishedRacks<J>) -> bool
     ensures value { MatchBool result (IsPrefix a.now b.now) (IsPrefix b.now a.now) }
 {
-    // for its clauses: both are beginnings of one history, so the shorter begins the longer
+    // for its clauses: both are prefixes of one history, so the shorter is a prefix of the longer
     let _both = a.longer(b);
     a.len() < b.len()
 }
 
-// The version that is shown, where it has more than what is known.
+// The shown version, if it is longer than the known one.
 fn newer_version<J: Naming>(
     handle: &mut ReadHandle<ShownVersion<J>>,
     known: &PublishedRacks<J>,
@@ -71,7 +72,7 @@ fn newer_version<J: Naming>(
     Some(again)
 }
 
-// Takes the newest version that there is, where that can be had.
+// Takes the shown version if it is newer. Keeps the present one if its handle cannot be copied.
 fn refresh<J: Naming>(handle: &mut ReadHandle<ShownVersion<J>>, newest: &mut Arc<Version<J>>)
     ensures begins { IsPrefix newest.old.value newest.new.value }
 {
@@ -80,7 +81,7 @@ fn refresh<J: Naming>(handle: &mut ReadHandle<ShownVersion<J>>, newest: &mut Arc
     }
 }
 
-// What the version shows of the clone of this name at a station.
+// What the version shows of the named clone at a station.
 fn glance_at<J: Naming>(version: &Version<J>, station: u32, who: &Name) -> Glance
     requires there { HasRack station version.now }
     ensures glance { (r : RackView) × (latest station version.now ≡ Some r) × IsGlance r who.now result }
@@ -94,7 +95,7 @@ impl<J: Naming> Seat<J> {
         requires there { HasRack station self.old }
         ensures begins { IsPrefix self.old self.new }
         ensures legal { AreLegal self.new }
-        // the answer is that of the last rack of the station that was published, and no older than what was known
+        // the result is that of the station's last rack, which is no older than the one that the seat knew
         ensures glance { (r : RackView) × (latest station self.new ≡ Some r) × IsGlance r who.now result }
         ensures front { (r : RackView) → latest station self.old ≡ Some r → r.front ≤ result.front }
     {

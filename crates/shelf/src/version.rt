@@ -1,4 +1,4 @@
-//! What readers are shown: the last rack of each station.
+//! Versions: the last rack of each station, which is what readers are shown.
 ghost use Rattle.std.specs.Prelude.{◌≡◌, map, Some};
 ghost use Rattle.std.specs.Arc.{arc_value};
 ghost use Rattle.shelf.specs.Racks.{AreShown, HasRack, latest};
@@ -11,7 +11,7 @@ use std::cell::Cell;
 use std::marker::Model;
 use std::sync::Arc;
 
-/// The last rack of each station, and which racks were published up to then. Contracts see the latter.
+/// The last rack of each station, and the prefix of the history that it covers. Contracts see the latter.
 #[derive(Drop)]
 pub struct Version<J: Naming> {
     published: PublishedRacks<J>,
@@ -40,7 +40,7 @@ impl<J: Naming> Version<J> {
         Version { published, racks }
     }
 
-    /// What was published up to then.
+    /// The prefix of the history that it covers.
     pub fn published(&self) -> &PublishedRacks<J>
         ensures value { result.now ≡ self.now }
     {
@@ -63,14 +63,14 @@ impl<J: Naming> Version<J> {
     }
 }
 
-/// What `left_right` shows.
+/// The state that `left_right` shows to readers.
 #[derive(Drop)]
 pub struct ShownVersion<J: Naming> {
-    /// The version that a look at this state finds.
+    /// The version in this state.
     pub version: Arc<Version<J>>,
 }
 
-/// Two handles of the next version, one for each of the two states.
+/// Two handles of the next version, one for each state of `left_right`.
 #[derive(Drop)]
 pub struct NextVersion<J: Naming> {
     first: Cell<Option<Arc<Version<J>>>>,
