@@ -2,3 +2,4 @@ pub mod Counting
 pub mod Deciding
 pub mod Opening
 pub mod Seen
+pub mod TwoRacks

@@ -5,7 +5,7 @@ use Rattle.std.proofs.lemmas.Bool.Decides.{nat_tests}
 use Rattle.net_model.specs.Net.{Net}
 use Rattle.phys_proc.specs.Racks.{RackView}
 use Rattle.shelf.specs.Racks.{HasRack, MayOpen, or_this}
-use Rattle.engine_tests.specs.Seen.{AreSeenUpTo}
+use Rattle.engine_tests.specs.Seen.{AreSeenUpTo, IsRackAt}
 
 -- ---- slice_get
 -- a property of one rack at its place
@@ -15,13 +15,7 @@ at_one P a x zero r e = let h : a ≡ r = cc in subst (P 0) h x
 at_one P a x (suc i) r e = absurd (cc)
 
 -- ---- MayOpen, AreSeenUpTo, HasRack
--- the rack of a station in a world that opens: of the network, at its front
-pub record IsOpeningRack (n : Net) (f s : ℕ) (r : RackView) : Type 0 where
-  pub station : r.station ≡ s
-  pub net : r.net ≡ n
-  pub front : r.front ≡ f
-
-module _ (net : Net) (front : ℕ) (a : RackView) (x : IsOpeningRack net front 1 a) where
+module _ (net : Net) (front : ℕ) (a : RackView) (x : IsRackAt net front 1 a) where
   -- it may open a shelf
   pub one_opens : MayOpen (a ∷ [])
   one_opens = record {

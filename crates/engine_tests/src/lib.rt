@@ -23,6 +23,8 @@ mod desks;
 #[cfg(test)]
 mod live_studies;
 #[cfg(test)]
+mod shelf_looks;
+#[cfg(test)]
 mod shelves;
 #[cfg(test)]
 mod statistics;

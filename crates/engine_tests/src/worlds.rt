@@ -146,7 +146,7 @@ fn begin_with(alloc: Global, text: &str, decisions: &[Decision]) -> Option<World
 }
 
 /// The two clones of the worked example.
-fn two_clones(alloc: Global, text: &str) -> Option<World> {
+pub(crate) fn two_clones(alloc: Global, text: &str) -> Option<World> {
     begin_with(alloc, text, &[fork("fast")?, faster(8)?])
 }
 
@@ -514,7 +514,7 @@ const LOOKED: [(u32, &str, Option<Found>); 5] = [
 ];
 
 /// What looks at the two clones find at 10.
-const LOOKED_AT_TEN: [(u32, &str, Option<Found>); 4] = [
+pub(crate) const LOOKED_AT_TEN: [(u32, &str, Option<Found>); 4] = [
     (
         2,
         "fast",

@@ -2,15 +2,15 @@ use Rattle.std.proofs.Common.{List, length, ap, sym, subst, arith}
 use Rattle.phys_proc.specs.Racks.{RackView}
 use Rattle.world_core.specs.Worlds.{WorldView}
 use Rattle.shelf.specs.Racks.{HasRack, MayOpen}
-use Rattle.engine_tests.specs.Seen.{AreSeenUpTo}
-use Rattle.engine_tests.proofs.Opening.{IsOpeningRack, one_opens, one_seen, one_has}
+use Rattle.engine_tests.specs.Seen.{AreSeenUpTo, IsRackAt}
+use Rattle.engine_tests.proofs.Opening.{one_opens, one_seen, one_has}
 use Rattle.engine_tests.proofs.shelves.opening.Goals as goal
 
 pub returns : goal.returns
 returns c =
     let w : WorldView = c.in_ok-world.world in
     let same = c.rack.ensures.same in
-    let gate : IsOpeningRack w.net w.front 1 c.in_ok-gate.gate = record {
+    let gate : IsRackAt w.net w.front 1 c.in_ok-gate.gate = record {
       station = c.in_ok-gate.ensures.station;
       net = c.in_ok-gate.ensures.net;
       front = c.in_ok-gate.ensures.front;
