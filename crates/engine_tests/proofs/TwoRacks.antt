@@ -1,6 +1,6 @@
--- Two racks to open with, and two of a later front.
-use Rattle.std.proofs.Common.{◌≡◌, ◌==◌, ℕ, zero, suc, ◌+◌, ◌<◌, ◌≤◌, Bool, true, List, [], ◌∷◌, ◌++◌, Some, None, refl}
-use Rattle.std.proofs.Common.{sym, ◌∙◌, subst, arith, slice_get}
+-- The racks of an opening run: two. Then two of a later front.
+use Rattle.std.proofs.Common.{◌≡◌, ◌==◌, ℕ, zero, suc, ◌+◌, ◌<◌, ◌≤◌, Bool, true, List, [], ◌∷◌, ◌++◌, Option, Some}
+use Rattle.std.proofs.Common.{None, refl, sym, ◌∙◌, subst, arith, slice_get}
 use Rattle.std.proofs.lemmas.Bool.Decides.{nat_tests}
 use Rattle.sim_base.proofs.ListLaws.{all_push}
 use Rattle.net_model.specs.Net.{Net}
@@ -11,7 +11,7 @@ use Rattle.engine_tests.proofs.Seen.{seen_follows}
 
 -- ---- slice_get
 
--- what holds of two racks at their places
+-- a property of two racks at their places
 at_two : (P : ℕ → RackView → Type 0) (a b : RackView) → P 0 a → P 1 b
     → (i : ℕ) (r : RackView) → slice_get (a ∷ b ∷ []) i ≡ Some r → P i r
 at_two P a b x y zero r e = let h : a ≡ r = cc in subst (P 0) h x
@@ -36,7 +36,7 @@ module _ (net : Net) (front : ℕ) (racks : List RackView) (two : AreTwoAt net f
   two_seen = subst (AreSeenUpTo net front) (sym two.2)
       ((two.3.net, omega (arith, two.3.front)), ((two.4.net, omega (arith, two.4.front)), tt))
 
-  -- the second station has one
+  -- the second station has a rack
   pub second_has : HasRack 2 racks
   second_has = subst (HasRack 2) (sym two.2) (by_first (two.0.station == 2) (
     two.1,
@@ -51,22 +51,22 @@ module _ (net : Net) (front : ℕ) (racks : List RackView) (two : AreTwoAt net f
           → (r : RackView) × (or_this (latest 2 (two.1 ∷ [])) u two.0 ≡ Some r)
       by_first u h = (h.0, subst (λ o. or_this o u two.0 ≡ Some h.0) (sym h.1) refl)
 
-  -- the first has one
+  -- the first station has a rack
   pub first_has : HasRack 1 racks
   first_has = subst (HasRack 1) (sym two.2) (by_rest (latest 1 (two.1 ∷ [])) (two.0.station == 1)
       (grind (arith, nat_tests, two.3.station)))
     where
-      by_rest : (o : _) (u : Bool) → u ≡ true → (r : RackView) × (or_this o u two.0 ≡ Some r)
+      by_rest : (o : Option RackView) (u : Bool) → u ≡ true → (r : RackView) × (or_this o u two.0 ≡ Some r)
       by_rest (Some r) u e = (r, refl)
       by_rest None u e = (two.0, rw e refl)
 
-  -- a rack of a later front may follow
+  -- a rack of a later front may follow them
   pub later_follows : (later s : ℕ) (r : RackView) → IsRackAt net later s r → front < later → later ≤ net.horizon
       → MayBePublished racks r
   later_follows later s r is l w = seen_follows net front racks r two_seen is.net (omega (arith, l, is.front))
       (subst (λ (n : Net). r.front ≤ n.horizon) (sym is.net) (omega (arith, w, is.front)))
 
-  -- and behind the first station's the second station's
+  -- the second station's rack may follow them and the first station's rack
   pub second_follows : (later : ℕ) (r q : RackView) → IsRackAt net later 1 q → IsRackAt net later 2 r → front < later
       → later ≤ net.horizon → MayBePublished (racks ++ q ∷ []) r
   second_follows later r q first second l w =
