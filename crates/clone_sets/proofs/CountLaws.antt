@@ -12,7 +12,7 @@ use Rattle.clone_sets.proofs.MemberLaws.{cons_if, members_among, length-members_
 
 -- ---- Apart
 
--- no element stands twice, where the head is not one of the rest
+-- no element occurs twice if the head is not one of the rest
 Apart-cons_if : (b : Bool) (c : ℕ) (xs : List ℕ) → (In c xs → ⊥) → Apart xs → Apart (cons_if b c xs)
 Apart-cons_if true c xs n a = (n, a)
 Apart-cons_if false c xs n a = a
@@ -38,7 +38,7 @@ has_among (suc k) c s d l m h =
           (has_among k (c + 1) s d (omega arith) (omega arith) h)
     ]
 
--- none of them stands twice
+-- none of them occurs twice
 apart_among : (k c s : ℕ) → Apart (members_among k c s)
 apart_among zero c s = tt
 apart_among (suc k) c s =
@@ -63,7 +63,7 @@ size_is_count s =
       number = length-members_among s 0 s (omega (arith, below_pow s)) ∙ ap count_ones all;
     }
 
--- what is counted as more than none is there
+-- if the count is above 0, an element has the property
 counted_some : (P : ℕ → Type 0) (n : ℕ) (xs : List ℕ) → length xs ≡ n → 0 < n → ((x : ℕ) → In x xs → P x)
     → (c : ℕ) × P c
 counted_some P n [] e some exact = absurd (omega (arith, e))

@@ -1,4 +1,4 @@
--- The clones of a set one after the other.
+-- The clones of a set, one after another.
 use Rattle.std.proofs.Common.{◌≡◌, ◌≢◌, inl, inr, ℕ, zero, suc, ◌+◌, ◌/◌, ◌^◌, ◌<◌, ◌≤◌, ◌==◌, ◌&&◌, not, Bool, true}
 use Rattle.std.proofs.Common.{false, List, [], ◌∷◌, length, refl, sym, ap, ap₂, ◌∙◌, subst, arith, eq-eqb, pow-suc}
 use Rattle.std.specs.Prelude.{count_ones, if◌then◌else◌}
@@ -17,7 +17,7 @@ use Rattle.sim_base.proofs.Elements.{contains_tail}
 use Rattle.clone_sets.specs.Sets.{has, empty, without, size, IsFirst, members}
 use Rattle.clone_sets.proofs.SetLaws.{has-empty, has-without}
 
--- a list with c at its head, where b says so
+-- a list with c at its head if b is true
 abbrev pub cons_if : Bool → ℕ → List ℕ → List ℕ
 cons_if b c xs = if b then c ∷ xs else xs
 
@@ -136,7 +136,7 @@ pub members_in : (s c : ℕ) → Contains (members s) c → has s c ≡ true
 unfolding members
 members_in s c = All-contains (λ d. has s d ≡ true) (members s) c (filter_passes (has s) (range_with_len 0 MOST_CLONES))
 
--- what a list has, it has with x at its head, whether b says so or not
+-- a list keeps its elements with x at its head, whether b is true or not
 Contains-cons_if : (b : Bool) (x c : ℕ) (xs : List ℕ) → Contains xs c → Contains (cons_if b x xs) c
 Contains-cons_if true x c xs h = contains_tail x c xs h
 Contains-cons_if false x c xs h = h

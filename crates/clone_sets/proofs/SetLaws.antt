@@ -1,4 +1,4 @@
--- What is in a set after each operation, and which sets are equal.
+-- The elements of a set after each operation, and equality of sets.
 use Rattle.std.proofs.Common.{◌≡◌, ◌≢◌, inl, inr, ℕ, zero, suc, ◌+◌, ◌%◌, ◌^◌, ◌<◌, ◌≤◌, min, max, ◌==◌}
 use Rattle.std.proofs.Common.{◌||◌, ◌&&◌, not, true, false, Some, None, refl, sym, ap, ◌∙◌, subst, arith, eq-eqb}
 use Rattle.std.specs.Prelude.{bit_and, if◌then◌else◌}
@@ -30,7 +30,7 @@ digit_and (suc zero) (suc zero) p q = refl
 digit_and (suc (suc x)) y p q = absurd (omega arith)
 digit_and x (suc (suc y)) p q = absurd (omega arith)
 
--- a bit of what is left
+-- a bit of the difference
 digit_minus : (x y : ℕ) → x < 2 → y < 2 → ((x + min x y) % 2 == 1) ≡ ((x == 1) && not (y == 1))
 digit_minus zero zero p q = refl
 digit_minus zero (suc zero) p q = refl
@@ -55,19 +55,19 @@ pub has-empty : (c : ℕ) → has empty c ≡ false
 unfolding has
 has-empty c = ap (λ x. x == 1) (bit_at-zero c)
 
--- a clone is in a union where it is in either
+-- a clone is in a union if it is in either
 pub has-union : (a b c : ℕ) → has (union a b) c ≡ (has a c || has b c)
 unfolding has union
 has-union a b c = ap (λ x. x == 1) (bit_at_or a b c) ∙ digit_or (bit_at a c) (bit_at b c) (bit_at-lt a c)
     (bit_at-lt b c)
 
--- a clone is in a meet where it is in both
+-- a clone is in an intersection if it is in both
 pub has-meet : (a b c : ℕ) → has (meet a b) c ≡ (has a c && has b c)
 unfolding has meet
 has-meet a b c = ap (λ x. x == 1) (bit_at_and a b c) ∙ digit_and (bit_at a c) (bit_at b c) (bit_at-lt a c)
     (bit_at-lt b c)
 
--- a clone is in what is left where it is in the first and not in the second
+-- a clone is in a difference if it is in the first and not in the second
 pub has-minus : (a b c : ℕ) → has (minus a b) c ≡ (has a c && not (has b c))
 unfolding has minus
 has-minus a b c =
@@ -84,7 +84,7 @@ one_other : (c d : ℕ) → c ≢ d → has (one c) d ≡ false
 unfolding has one
 one_other c d ne = ap (λ x. x == 1) (bit_at-pow_other c d (λ e. ne (sym e)))
 
--- a clone is in the set of one where it is that one
+-- a clone is in the set of one if it is that one
 pub has-one : (c d : ℕ) → has (one c) d ≡ (c == d)
 has-one c d = elim (cases_eq c d) [
   | inl e ↦ one_same c d e ∙ sym (eq-eqb c d e)
@@ -92,11 +92,11 @@ has-one c d = elim (cases_eq c d) [
       ∙ sym (ne_eqb c d ne)
 ]
 
--- a clone is in the set with one more where it is that one or was there
+-- a clone is in the set with one more if it is that one or was there
 pub has-with : (s c d : ℕ) → has (with s c) d ≡ ((c == d) || has s d)
 has-with s c d = has-union s (one c) d ∙ ap (λ x. has s d || x) (has-one c d) ∙ or_comm (has s d) (c == d)
 
--- a clone is in the set with one less where it is another and was there
+-- a clone is in the set with one less if it is another and was there
 pub has-without : (s c d : ℕ) → has (without s c) d ≡ (not (c == d) && has s d)
 has-without s c d = has-minus s (one c) d ∙ ap (λ x. has s d && not x) (has-one c d)
     ∙ and_comm (has s d) (not (c == d))
@@ -132,14 +132,14 @@ common_off a b z = ap (λ t. if t then None else Some (meet a b)) (eq-eqb (meet 
 common_on : (a b : ℕ) → meet a b ≢ 0 → common a b ≡ Some (meet a b)
 common_on a b ne = ap (λ t. if t then None else Some (meet a b)) (ne_eqb (meet a b) 0 ne)
 
--- where nothing is given, no clone is in both
+-- if the result is None, no clone is in both
 pub common_none : (a b : ℕ) → common a b ≡ None → (c : ℕ) → (has a c && has b c) ≡ false
 common_none a b e c = elim (cases_eq (meet a b) 0) [
   | inl z ↦ sym (has-meet a b c) ∙ ap (λ s. has s c) z ∙ has-empty c
   | inr ne ↦ absurd (none-some _ (sym e ∙ common_on a b ne))
 ]
 
--- what is given is the meet, and not empty
+-- the result is the intersection, and not empty
 pub common_is : (a b k : ℕ) → common a b ≡ Some k → (k ≡ meet a b) × (k ≢ empty)
 common_is a b k e =
     elim (cases_eq (meet a b) 0) [
@@ -150,6 +150,6 @@ common_is a b k e =
           (is, λ z. ne (sym is ∙ z))
     ]
 
--- what is given has the clones that are in both
+-- the result has the clones that are in both
 pub common_some : (a b k : ℕ) → common a b ≡ Some k → (c : ℕ) → has k c ≡ (has a c && has b c)
 common_some a b k e c = ap (λ s. has s c) (common_is a b k e).0 ∙ has-meet a b c

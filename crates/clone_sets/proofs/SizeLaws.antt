@@ -1,4 +1,4 @@
--- How many clones are in a set, and in its parts.
+-- The number of clones in a set, and in its parts.
 use Rattle.std.proofs.Common.{◌≡◌, ◌≢◌, inl, inr, ℕ, zero, suc, ◌+◌, ◌/◌}
 use Rattle.std.proofs.Common.{◌%◌, ◌^◌, ◌<◌, sym, ap, ap₂, ◌∙◌, arith, pow-suc}
 use Rattle.std.specs.Prelude.{bit_and, bit_xor, count_ones}
@@ -34,7 +34,7 @@ meet_half : (a b : ℕ) → meet a b / 2 ≡ meet (a / 2) (b / 2)
 unfolding meet
 meet_half a b = and_shr a b 1
 
--- what is left, without its lowest bit
+-- the difference, without its lowest bit
 minus_half : (a b : ℕ) → minus a b / 2 ≡ minus (a / 2) (b / 2)
 unfolding minus
 minus_half a b = xor_shr a (bit_and a b) 1 ∙ ap (bit_xor (a / 2)) (and_shr a b 1)
@@ -85,7 +85,7 @@ size_parts_by (suc k) a b l =
 pub size_parts : (a b : ℕ) → size (meet a b) + size (minus a b) ≡ size a
 size_parts a b = size_parts_by a a b (below_pow a)
 
--- where neither part is empty, each is smaller than the whole
+-- if neither part is empty, each is smaller than the whole
 pub meet_smaller : (a b : ℕ) → minus a b ≢ empty → size (meet a b) < size a
 meet_smaller a b ne = omega (arith, size_parts a b, size_some (minus a b) ne)
 

@@ -27,7 +27,7 @@ meet_above : (a b r s : ℕ) → r < 2 ^ 64 → s < 2 ^ 64
 unfolding above_word meet
 meet_above a b r s = and_block 64 a b r s
 
--- what is left, word by word
+-- the difference, word by word
 minus_above : (a b r s : ℕ) → r < 2 ^ 64 → s < 2 ^ 64
     → minus (above_word a r) (above_word b s) ≡ above_word (minus a b) (minus r s)
 unfolding above_word minus
@@ -91,7 +91,7 @@ first_low h l some p =
       least = λ d b. has_above_low h l d (omega (arith, f.1)) ∙ f.0.least d b;
     }
 
--- where the lowest word is 0, the least clone is above it
+-- if the lowest word is 0, the least clone is above it
 first_high : (h l t : ℕ) → l ≡ 0 → IsFirst h t → IsFirst (above_word h l) (64 + t)
 first_high h l t z f =
     let e : 64 + t - 64 ≡ t = omega arith in record {
@@ -118,14 +118,14 @@ xor_none a b e =
 xor_same : (a b : ℕ) → a ≡ b → bit_xor a b ≡ 0
 xor_same a b e = ap (bit_xor a) (sym e) ∙ xor_self a
 
--- two tests agree where each holds where the other does
+-- two tests agree if each passes when the other does
 same_test : (x y z : ℕ) → (x ≡ 0 → y ≡ z) → (y ≡ z → x ≡ 0) → (x == 0) ≡ (y == z)
 same_test x y z p q = elim (cases_eq x 0) [
   | inl e ↦ eq-eqb x 0 e ∙ sym (eq-eqb y z (p e))
   | inr ne ↦ ne_eqb x 0 ne ∙ sym (ne_eqb y z (λ e. ne (q e)))
 ]
 
--- two tests for 0 agree where each number is 0 where the other is
+-- two tests for 0 agree if each number is 0 when the other is
 same_zero : (x y : ℕ) → (x ≡ 0 → y ≡ 0) → (y ≡ 0 → x ≡ 0) → (x == 0) ≡ (y == 0)
 same_zero x y = same_test x y 0
 
@@ -161,7 +161,7 @@ module _ (a0 a1 a2 a3 b0 b1 b2 b3 : ℕ) (p : AreWords a0 a1 a2 a3) (q : AreWord
       ∙ ap (λ h. above_word h (minus a0 b0)) (minus_above _ _ a1 b1 p.word1 q.word1
       ∙ ap (λ h. above_word h (minus a1 b1)) (minus_above a3 b3 a2 b2 p.word2 q.word2)))
 
-  -- two sets are equal where no word of theirs differs in a bit
+  -- two sets are equal if none of their words differ in a bit
   pub words_xor : (bit_or (bit_or (bit_or (bit_xor a0 b0) (bit_xor a1 b1)) (bit_xor a2 b2)) (bit_xor a3 b3) == 0)
       ≡ (set_of a0 a1 a2 a3 == set_of b0 b1 b2 b3)
   words_xor =
@@ -206,20 +206,20 @@ module _ (w0 w1 w2 w3 : ℕ) (h : AreWords w0 w1 w2 w3) where
     size_above w3 w2 h.word2,
   )
 
-  -- the set has in word 0 what it has from 0 to 63
+  -- word 0 of the set has its clones 0 to 63
   pub in_word0 : (i j : ℕ) → i ≡ 0 → j < 64 → has w0 j ≡ has (set_of w0 w1 w2 w3) (64 * i + j)
   in_word0 i j z l =
       let e : 64 * i + j ≡ j = omega arith in
       sym (ap (has (set_of w0 w1 w2 w3)) e ∙ has_above_low _ w0 j l)
 
-  -- and in word 1 what it has from 64 to 127
+  -- and word 1 those from 64 to 127
   pub in_word1 : (i j : ℕ) → i ≡ 1 → j < 64 → has w1 j ≡ has (set_of w0 w1 w2 w3) (64 * i + j)
   in_word1 i j o l =
       let e : 64 * i + j - 64 ≡ j = omega arith in
       sym (has_above_high _ w0 (64 * i + j) h.word0 (omega arith) ∙ ap (has (above_word (above_word w3 w2) w1)) e
       ∙ has_above_low _ w1 j l)
 
-  -- in word 2 what it has from 128 to 191
+  -- word 2 those from 128 to 191
   pub in_word2 : (i j : ℕ) → i ≡ 2 → j < 64 → has w2 j ≡ has (set_of w0 w1 w2 w3) (64 * i + j)
   in_word2 i j o l =
       let e : 64 * i + j - 64 ≡ 64 + j = omega arith in
@@ -227,7 +227,7 @@ module _ (w0 w1 w2 w3 : ℕ) (h : AreWords w0 w1 w2 w3) where
       sym (has_above_high _ w0 (64 * i + j) h.word0 (omega arith) ∙ ap (has (above_word (above_word w3 w2) w1)) e
       ∙ has_above_high _ w1 (64 + j) h.word1 (omega arith) ∙ ap (has (above_word w3 w2)) f ∙ has_above_low w3 w2 j l)
 
-  -- and in word 3 what it has from 192 to 255
+  -- and word 3 those from 192 to 255
   pub in_word3 : (i j : ℕ) → i ≡ 3 → j < 64 → has w3 j ≡ has (set_of w0 w1 w2 w3) (64 * i + j)
   in_word3 i j o l =
       let e : 64 * i + j - 64 ≡ 128 + j = omega arith in
@@ -237,27 +237,27 @@ module _ (w0 w1 w2 w3 : ℕ) (h : AreWords w0 w1 w2 w3) where
       ∙ has_above_high _ w1 (128 + j) h.word1 (omega arith) ∙ ap (has (above_word w3 w2)) f
       ∙ has_above_high w3 w2 (64 + j) h.word2 (omega arith) ∙ ap (has w3) g)
 
-  -- where word 0 is not 0, the least clone of the set is the place of its lowest bit
+  -- if word 0 is not 0, the least clone of the set is the place of its lowest bit
   pub first_in_word0 : w0 ≢ 0 → IsFirst (set_of w0 w1 w2 w3) (trailing_zeros w64 w0)
   first_in_word0 some = first_low _ w0 some h.word0
 
-  -- where word 0 is 0 and word 1 is not, it is 64 above the place of the lowest bit of word 1
+  -- if word 0 is 0 and word 1 is not, it is 64 above the place of the lowest bit of word 1
   pub first_in_word1 : w0 ≡ 0 → w1 ≢ 0 → IsFirst (set_of w0 w1 w2 w3) (64 + trailing_zeros w64 w1)
   first_in_word1 z some = first_high _ w0 _ z (first_low _ w1 some h.word1)
 
-  -- where the first two words are 0 and word 2 is not, it is 128 above that of word 2
+  -- if the first two words are 0 and word 2 is not, it is 128 above that of word 2
   pub first_in_word2 : w0 ≡ 0 → w1 ≡ 0 → w2 ≢ 0 → IsFirst (set_of w0 w1 w2 w3) (128 + trailing_zeros w64 w2)
   first_in_word2 z z1 some =
       let e : 64 + (64 + trailing_zeros w64 w2) ≡ 128 + trailing_zeros w64 w2 = omega arith in
       rw (← e) (first_high _ w0 _ z (first_high _ w1 _ z1 (first_low w3 w2 some h.word2)))
 
-  -- and where only word 3 is not 0, it is 192 above that of word 3
+  -- and if only word 3 is not 0, it is 192 above that of word 3
   pub first_in_word3 : w0 ≡ 0 → w1 ≡ 0 → w2 ≡ 0 → w3 ≢ 0 → IsFirst (set_of w0 w1 w2 w3) (192 + trailing_zeros w64 w3)
   first_in_word3 z z1 z2 some =
       let e : 64 + (64 + (64 + trailing_zeros w64 w3)) ≡ 192 + trailing_zeros w64 w3 = omega arith in
       rw (← e) (first_high _ w0 _ z (first_high _ w1 _ z1 (first_high w3 w2 _ z2 (first_in_word w3 some h.word3).0)))
 
-  -- a set is empty where its words are 0
+  -- a set is empty if its words are 0
   pub set_of-empty : w0 ≡ 0 → w1 ≡ 0 → w2 ≡ 0 → w3 ≡ 0 → set_of w0 w1 w2 w3 ≡ 0
   unfolding above_word
   set_of-empty z0 z1 z2 z3 = omega arith
@@ -272,7 +272,7 @@ module _ (w0 w1 w2 w3 : ℕ) (h : AreWords w0 w1 w2 w3) where
       let z3 : w3 ≡ 0 = omega arith in
       λ i. bit_or (bit_or (bit_or (z0 i) (z1 i)) (z2 i)) (z3 i)
 
-  -- a set is empty where its words have no bit together
+  -- a set is empty if the union of its words has no bit
   pub words_or : (bit_or (bit_or (bit_or w0 w1) w2) w3 == 0) ≡ (set_of w0 w1 w2 w3 == 0)
   words_or =
       same_zero _ _ (λ e. set_of-empty
@@ -286,7 +286,7 @@ module _ (w0 w1 w2 w3 : ℕ) (h : AreWords w0 w1 w2 w3) where
   unfolding above_word
   set_of-lt = omega (arith, h.word0, h.word1, h.word2, h.word3)
 
--- the words of one clone alone, where word q has it at bit r
+-- the words of one clone alone, if word q has it at bit r
 one_by : (q c r : ℕ) → q < 4 → c ≡ q * 64 + r
     → set_of (if q == 0 then 2 ^ r else 0) (if q == 1 then 2 ^ r else 0) (if q == 2 then 2 ^ r else 0)
     (if q == 3 then 2 ^ r else 0) ≡ one c

@@ -9,7 +9,7 @@ use Rattle.clone_sets.specs.declared.set.CloneSet.{CloneSet}
 abbrev pub UnionJoinsMarks : Type 0
 UnionJoinsMarks = JoinsMarks has union
 
--- two sets have in common the clones that are in both, and nothing where there are none
+-- the common clones of two sets, or nothing if there are none
 abbrev pub CommonMeetsMarks : Type 0
 CommonMeetsMarks = MeetsMarks has common
 
@@ -17,7 +17,7 @@ CommonMeetsMarks = MeetsMarks has common
 abbrev pub SizeIsCount : Type 0
 SizeIsCount = (k : CloneSet) → IsCount (λ c. has k c ≡ true) (size k)
 
--- the two halves of a set that another one cuts are as large together as the set
+-- if another set cuts a set in two, the sizes of the halves add up to its size
 abbrev pub HalvesAddUp : Type 0
 HalvesAddUp = (k by : CloneSet) → size (meet k by) + size (minus k by) ≡ size k
 

@@ -10,7 +10,7 @@ use Rattle.clone_sets.specs.declared.set.CloneSet.{CloneSet}
 unfoldable pub has : CloneSet → ℕ → Bool
 has s c = bit_at s c == 1
 
--- no clone
+-- the empty set
 abbrev pub empty : CloneSet
 empty = 0
 
@@ -18,11 +18,11 @@ empty = 0
 unfoldable pub one : ℕ → CloneSet
 one c = 2 ^ c
 
--- the clones of both together
+-- the union of the two
 unfoldable pub union : CloneSet → CloneSet → CloneSet
 union a b = bit_or a b
 
--- the clones that are in each of the two
+-- the intersection of the two
 unfoldable pub meet : CloneSet → CloneSet → CloneSet
 meet a b = bit_and a b
 
@@ -30,15 +30,15 @@ meet a b = bit_and a b
 unfoldable pub minus : CloneSet → CloneSet → CloneSet
 minus a b = bit_xor a (bit_and a b)
 
--- the set and one clone more
+-- the set with one more clone
 abbrev pub with : CloneSet → ℕ → CloneSet
 with s c = union s (one c)
 
--- the set and one clone less
+-- the set without one clone
 abbrev pub without : CloneSet → ℕ → CloneSet
 without s c = minus s (one c)
 
--- how many clones are in the set
+-- the number of clones in the set
 unfoldable pub size : CloneSet → ℕ
 size s = count_ones s
 
@@ -51,6 +51,6 @@ pub record IsFirst (s : CloneSet) (c : ℕ) : Type 0 where
   pub in_set : has s c ≡ true
   pub least : (d : ℕ) → d < c → has s d ≡ false
 
--- the clones that two sets have in common, or None where there are none
+-- the clones that two sets have in common, or None if there are none
 abbrev pub common : CloneSet → CloneSet → Option CloneSet
 common a b = if meet a b == empty then None else Some (meet a b)

@@ -3,7 +3,7 @@ use Rattle.std.specs.Prelude.{◌≡◌, ℕ, ◌+◌, ◌*◌, ◌/◌, ◌%◌
 use Rattle.std.proofs.Common.{ap, ◌∙◌}
 use Rattle.std.proofs.lemmas.Nat.{shr_high, mod_low}
 
--- a word below further ones
+-- a word below higher ones
 unfoldable pub above_word : ℕ → ℕ → ℕ
 above_word high low = high * 2 ^ 64 + low
 
@@ -11,7 +11,7 @@ above_word high low = high * 2 ^ 64 + low
 unfoldable pub low_word : ℕ → ℕ
 low_word s = s % 2 ^ 64
 
--- what is above the lowest word
+-- the words above the lowest
 unfoldable pub high_words : ℕ → ℕ
 high_words s = s / 2 ^ 64
 
@@ -26,16 +26,16 @@ pub record AreWords (w0 w1 w2 w3 : ℕ) : Type 0 where
   pub word2 : w2 < 2 ^ 64
   pub word3 : w3 < 2 ^ 64
 
--- what clone c has in word i of the set of it alone
+-- word i of the set with clone c alone
 abbrev pub bit_in_word : ℕ → ℕ → ℕ
 bit_in_word c i = if c / 64 == i then 2 ^ (c % 64) else 0
 
--- the lowest word of a word below further ones
+-- the lowest word of a word below higher ones
 low_above : (h l : ℕ) → l < 2 ^ 64 → low_word (above_word h l) ≡ l
 unfolding above_word low_word
 low_above h l = mod_low h 64 l
 
--- and the further ones
+-- and the higher ones
 high_above : (h l : ℕ) → l < 2 ^ 64 → high_words (above_word h l) ≡ h
 unfolding above_word high_words
 high_above h l = shr_high h 64 l
@@ -48,7 +48,7 @@ module _ (w0 w1 w2 w3 : ℕ) (h : AreWords w0 w1 w2 w3) where
     pub word2 : low_word (high_words (high_words (set_of w0 w1 w2 w3))) ≡ w2
     pub word3 : high_words (high_words (high_words (set_of w0 w1 w2 w3))) ≡ w3
 
-  -- the words of a set are those that it was made of
+  -- the words of a set are those that it was made from
   pub words_back : WordsBack
   words_back =
       let one = high_above (above_word (above_word w3 w2) w1) w0 h.word0 in

@@ -1,10 +1,10 @@
-//! The clones of a set, one after the other.
+//! The clones of a set, one after another.
 ghost use Rattle.std.specs.Iterator.{YieldsFirst, item_count};
 
 use crate::set::CloneSet;
 use std::marker::Model;
 
-/// The clones of a set that are still to come, in rising order.
+/// Iterator: the clones of a set that are still to come, in rising order.
 #[derive(Debug, Drop)]
 pub struct Members {
     pub(crate) rest: CloneSet,

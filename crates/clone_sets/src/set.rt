@@ -1,4 +1,4 @@
-//! `CloneSet`: a set of clones below `CloneSet::LIMIT`, one bit each, and what is done with sets.
+//! `CloneSet`: a set of clones below `CloneSet::LIMIT`, one bit each, and its operations.
 ghost use Rattle.std.specs.Prelude.{◌≡◌, ℕ, ◌+◌, ◌*◌, ◌<◌, ◌==◌, true, false, ◌||◌, ◌&&◌};
 ghost use Rattle.std.specs.Prelude.{not, IfNone, IfSome, IsTrue, ◌↔◌, length, nat_eq, All, Contains};
 ghost use Rattle.std.specs.List.Sorted.{IsStrictlyIncreasing};
@@ -67,7 +67,7 @@ impl CloneSet {
     /// Clone numbers are below this.
     pub const LIMIT: u32 = MOST_CLONES;
 
-    /// No clone.
+    /// The empty set.
     pub fn empty() -> CloneSet
         ensures { result ≡ empty }
     {
@@ -93,7 +93,7 @@ impl CloneSet {
         }
     }
 
-    /// The set and one clone more.
+    /// The set with one more clone.
     pub fn with(self, c: u32) -> CloneSet
         requires { c < Self.LIMIT }
         ensures value { result ≡ with self c }
@@ -102,7 +102,7 @@ impl CloneSet {
         self.union(CloneSet::one(c))
     }
 
-    /// The set and one clone less.
+    /// The set without one clone.
     pub fn without(self, c: u32) -> CloneSet
         requires { c < Self.LIMIT }
         ensures value { result ≡ without self c }
@@ -111,7 +111,7 @@ impl CloneSet {
         self.minus(CloneSet::one(c))
     }
 
-    /// The clones of both together.
+    /// The union of the two.
     pub fn union(self, o: CloneSet) -> CloneSet
         ensures value { result ≡ union self o }
         ensures members { (d : ℕ) → has result d ≡ (has self d || has o d) }
@@ -124,7 +124,7 @@ impl CloneSet {
         }
     }
 
-    /// The clones that are in each of the two.
+    /// The intersection of the two.
     pub fn meet(self, o: CloneSet) -> CloneSet
         ensures value { result ≡ meet self o }
         ensures members { (d : ℕ) → has result d ≡ (has self d && has o d) }
@@ -171,7 +171,7 @@ impl CloneSet {
         }
     }
 
-    /// Whether no clone is in the set.
+    /// Whether the set is empty.
     pub fn is_empty(self) -> bool
         ensures value { result ≡ (self == empty) }
         ensures members { IsTrue result ↔ ((d : ℕ) → has self d ≡ false) }
@@ -179,7 +179,7 @@ impl CloneSet {
         self.word0 | self.word1 | self.word2 | self.word3 == 0
     }
 
-    /// How many clones are in the set.
+    /// The number of clones in the set.
     pub fn len(self) -> u32
         ensures value { result ≡ size self }
         ensures members { result ≡ length (members self) }
@@ -191,7 +191,7 @@ impl CloneSet {
             + self.word3.count_ones()
     }
 
-    /// The least clone of the set, None exactly where the set is empty.
+    /// The least clone of the set, or None if it is empty.
     pub fn first(self) -> Option<u32>
         ensures none { IfNone result (self ≡ empty) }
         ensures some { IfSome result (IsFirst self) }
@@ -221,7 +221,7 @@ impl CloneSet {
     }
 }
 
-// what clone c has in word i of the set of it alone
+// word i of the set with clone c alone
 fn bit_of(c: u32, i: u32) -> u64
     ensures { result ≡ bit_in_word c i }
 {

@@ -39,14 +39,14 @@ use Rattle.crew_pool.specs.declared.task_deque.TheConstants.{ALL_PARTS}
 
 -- ---- occurrences
 
--- how often x stands in two lists together is the sum of how often it stands in each
+-- the occurrences of x in two lists together are the sum of those in each
 pub occurrences-append : (x : ℕ) (xs ys : List ℕ) → occurrences x (xs ++ ys) ≡ occurrences x xs + occurrences x ys
 occurrences-append x [] ys = omega arith
 occurrences-append x (y ∷ xs) ys = omega (arith, occurrences-append x xs ys)
 
 -- ---- one_if_below, one_if_same
 
--- below n + 1 counts what counts below n, and n itself
+-- the count below n + 1 is the count below n, and n itself
 pub one_if_below-next : (x n : ℕ) → one_if_below x (n + 1) ≡ one_if_below x n + one_if_same x n
 one_if_below-next x n = grind arith
 
@@ -77,7 +77,7 @@ sum_by-bounds f (u ∷ us) zero v e =
     let d : f u ≡ f v = ap f (some-injective u v e) in omega (arith, d, sum_by-cons f u us)
 sum_by-bounds f (u ∷ us) (suc port) v e = omega (arith, sum_by-bounds f us port v e, sum_by-cons f u us)
 
--- where one seat has every part, the others have none
+-- if one seat has every part, the others have none
 sum_by-alone : {X : Type 0} (views : List (SeatView X)) (port : ℕ) (v : SeatView X)
     → sum_by (λ u. u.parts) views ≡ ALL_PARTS → get_elem? views port ≡ some v → v.parts ≡ ALL_PARTS
     → (j : ℕ) (u : SeatView X) → j ≢ port → get_elem? views j ≡ some u → u.parts ≡ 0
@@ -89,21 +89,21 @@ sum_by-alone {X} views port v sum at every j u other e =
 
 -- ---- EachKnowsDealt
 
--- all seats know it still where one has changed and knows it
+-- all seats still know it if one has changed and knows it
 EachKnowsDealt-set : {X : Type 0} (dealt : List X) (views : List (SeatView X)) (port : ℕ) (w : SeatView X)
     → KnowsDealt dealt w → EachKnowsDealt dealt views → EachKnowsDealt dealt (set views port w)
 EachKnowsDealt-set {X} dealt views port w mine others j u e =
     ⊎_elim (λ (x : (j ≡ port) × (w ≡ u)). subst (λ (y : SeatView X). KnowsDealt dealt y) x.1 mine)
     (λ (x : (j ≢ port) × (get_elem? views j ≡ some u)). others j u x.1) (at_set views port j w u e)
 
--- and where there is one seat more, which knows it
+-- and if there is one more seat, which knows it
 EachKnowsDealt-push : {X : Type 0} (dealt : List X) (views : List (SeatView X)) (w : SeatView X)
     → KnowsDealt dealt w → EachKnowsDealt dealt views → EachKnowsDealt dealt (views ++ w ∷ [])
 EachKnowsDealt-push {X} dealt views w mine others j u e =
     ⊎_elim (λ x. others j u x) (λ (x : w ≡ u). subst (λ (y : SeatView X). KnowsDealt dealt y) x mine)
     (at_snoc views w u j e)
 
--- one seat learns of other items where the others have no part
+-- one seat may learn of other items if the others have no part
 EachKnowsDealt-alone : {X : Type 0} (dealt more : List X) (views : List (SeatView X)) (port : ℕ) (w : SeatView X)
     → KnowsDealt more w
     → ((j : ℕ) (u : SeatView X) → j ≢ port → get_elem? views j ≡ some u → u.parts ≡ 0)
@@ -203,7 +203,7 @@ TasksOnce-deals {X} port v i x every number tasks views h at =
     next : (x n k m : ℕ) → k ≡ n → m ≡ n + 1 → one_if_below x m ≡ one_if_below x n + one_if_same x k
     next x n k m e f = grind (arith, e, f)
 
--- and when a seat of two parts or more gives one part to a new seat, which has taken nothing
+-- and when a seat with two parts or more gives one to a new seat, which has taken nothing
 pub TasksOnce-forks : {X : Type 0} (port : ℕ) (v : SeatView X) → 1 < v.parts
     → Forks TasksOnce port v (seat_view (v.parts - 1) v.dealt v.taken) (seat_view 1 v.dealt [])
 TasksOnce-forks {X} port v two tasks views h at =
@@ -292,7 +292,7 @@ TasksOnce-merges {X} port v other u part tasks views h at two at' =
       h.4,
     )
 
--- where the deque is empty, a seat with every part has taken each number that was dealt, once
+-- if the deque is empty, a seat with every part has taken each number that was dealt, once
 pub TasksOnce-finds : {X : Type 0} (port : ℕ) (v : SeatView X) → Finds TasksOnce port v (IsComplete v)
 TasksOnce-finds {X} port v views h at every x =
     let w : SeatView X = seat_view 0 [] [] in

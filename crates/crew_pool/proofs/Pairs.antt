@@ -1,4 +1,4 @@
--- Lists of things beside their numbers.
+-- Lists of values together with their numbers.
 use Rattle.std.proofs.Common.{◌≡◌, ℕ, ◌+◌, List, [], ◌∷◌, ◌++◌, length, sym, ap, ◌∙◌, subst, arith, get_or, length-append}
 use Rattle.std.proofs.lemmas.List.{map-append, get_or_append_left, get_or-append-add, length_push}
 use Rattle.crew_pool.specs.declared.task_deque.SeatView.{SeatView}
@@ -29,13 +29,13 @@ pub EachPair-append : {X : Type 0} (asks : ℕ → X → Type 0) (ps qs : List (
 EachPair-append asks [] qs all more = more
 EachPair-append asks (p ∷ ps) qs all more = (all.0, EachPair-append asks ps qs all.1 more)
 
--- what asks less is also as asked
+-- a weaker property holds too
 pub EachPair-weaken : {X : Type 0} (asks needs : ℕ → X → Type 0) (ps : List (ℕ × X))
     → ((i : ℕ) (x : X) → asks i x → needs i x) → EachPair asks ps → EachPair needs ps
 EachPair-weaken asks needs [] less all = tt
 EachPair-weaken asks needs (p ∷ ps) less all = (less p.0 p.1 all.0, EachPair-weaken asks needs ps less all.1)
 
--- where no number stands in the list there is no pair
+-- if no number is in the list there is no pair
 pub EachPair-none : {X : Type 0} (asks : ℕ → X → Type 0) (ps : List (ℕ × X))
     → ((x : ℕ) → occurrences x (numbers ps) ≡ 0) → EachPair asks ps
 EachPair-none asks [] none = tt
@@ -46,12 +46,12 @@ EachPair-none asks (p ∷ ps) none = absurd (omega (arith, none p.0, same p.0))
 
 -- ---- IsItemAt
 
--- an item keeps its place where more stand behind it
+-- an item keeps its place if more follow it
 pub IsItemAt-more : {X : Type 0} (items more : List X) (i : ℕ) (x : X) → IsItemAt items i x → IsItemAt (items ++ more) i x
 IsItemAt-more items more i x is =
     (omega (arith, is.0, length-append items more), λ d. get_or_append_left items more d i is.0 ∙ is.1 d)
 
--- the last one stands behind the others
+-- the last one comes after the others
 pub IsItemAt-last : {X : Type 0} (items : List X) (x : X) → IsItemAt (items ++ x ∷ []) (length items) x
 IsItemAt-last items x =
     let here : length items + 0 ≡ length items = omega arith in (
@@ -71,7 +71,8 @@ IsItemAt-answers answers items i x y is one d = subst (λ z. answers i z y) (sym
 
 -- ---- TakesTasks
 
--- what a seat whose view is known takes: one task with the item of its number, which joins those that it has taken
+-- the tasks that a seat with a known view takes: one task with the item of its number, which joins those that it has
+-- taken
 pub TakesTasks-one : {X : Type 0} (v u w : SeatView X) (p : ℕ × X) → v ≡ u → TakesTasks v (p ∷ []) w
     → IsItemAt u.dealt p.0 p.1 × (w ≡ seat_view u.parts u.dealt (u.taken ++ p.0 ∷ []))
 TakesTasks-one v u w p e t = let s = subst (λ (y : SeatView _). TakesTasks y (p ∷ []) w) e t in (s.0.0, s.1)

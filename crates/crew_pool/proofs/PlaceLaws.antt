@@ -17,7 +17,7 @@ occurrences-push : {Y : Type 0} (j : ℕ) (ps : List (ℕ × Y)) (p : ℕ × Y)
 occurrences-push j ps p =
     omega (arith, ap (occurrences j) (numbers-push ps p), occurrences-append j (numbers ps) (p.0 ∷ []))
 
--- another number stands there as often as before
+-- another number occurs as often as before
 occurrences-other : {Y : Type 0} (j : ℕ) (ps : List (ℕ × Y)) (p : ℕ × Y) → j ≢ p.0
     → 0 < occurrences j (numbers (ps ++ p ∷ [])) → 0 < occurrences j (numbers ps)
 occurrences-other j ps p other some = omega (arith, some, occurrences-push j ps p, not_here j p.0 other)
@@ -44,7 +44,7 @@ pub ArePlaced-empty : {Y : Type 0} (asks : ℕ → Y → Type 0) (places : List 
 ArePlaced-empty asks places empty j d less =
     (subst (λ o. IfSome o (λ y. asks j y)) (sym (empty j d less)) tt, λ some. absurd (omega (arith, some)))
 
--- one more answer is laid at its place
+-- one more answer is put at its place
 pub ArePlaced-put : {Y : Type 0} (asks : ℕ → Y → Type 0) (places : List (Option Y)) (ps : List (ℕ × Y)) (p : ℕ × Y)
     → p.0 < length places → asks p.0 p.1 → ArePlaced asks places ps
     → ArePlaced asks (set places p.0 (Some p.1)) (ps ++ p ∷ [])
@@ -64,14 +64,14 @@ ArePlaced-put asks places ps p below one all j d less =
     ))
     (cases_eq j p.0)
 
--- a number behind the last place changes nothing
+-- a number after the last place changes nothing
 pub ArePlaced-skip : {Y : Type 0} (asks : ℕ → Y → Type 0) (places : List (Option Y)) (ps : List (ℕ × Y)) (p : ℕ × Y)
     → ¬ (p.0 < length places) → ArePlaced asks places ps → ArePlaced asks places (ps ++ p ∷ [])
 ArePlaced-skip asks places ps p behind all j d less =
     let other : j ≢ p.0 = λ same. behind (omega (arith, less, same)) in
     ((all j d less).0, λ some. (all j d less).1 (occurrences-other j ps p other some))
 
--- where each number stands in the list, no place is empty
+-- if each number is in the list, no place is empty
 pub ArePlaced-full : {Y : Type 0} (asks : ℕ → Y → Type 0) (places : List (Option Y)) (ps : List (ℕ × Y)) (n : ℕ)
     → length places ≡ n → ((x : ℕ) → occurrences x (numbers ps) ≡ one_if_below x n) → ArePlaced asks places ps
     → (j : ℕ) (d : Option Y) → j < length places → get_or places j d ≢ None
@@ -81,7 +81,7 @@ ArePlaced-full asks places ps n long once all j d less =
     below : (x n : ℕ) → x < n → one_if_below x n ≡ 1
     below x n e = grind (arith, e)
 
--- what is taken up is as its place asks
+-- `asks` holds of the taken values and their places
 pub ArePlaced-taken : {Y : Type 0} (asks : ℕ → Y → Type 0) (places : List (Option Y)) (ps : List (ℕ × Y)) (outs : List Y)
     → ArePlaced asks places ps → places ≡ map Some outs → EachAt asks outs
 ArePlaced-taken {Y} asks places ps outs all taken i d less =

@@ -1,4 +1,4 @@
--- What the owner knows in a call.
+-- The knowledge of the owner during a call.
 use Rattle.std.proofs.Common.{◌≡◌, ℕ, ◌+◌, ◌-◌, ◌<◌, List, [], refl, sym, ap, ◌∙◌, subst, arith}
 use Rattle.crew_pool.specs.declared.workers.TheConstants.{MOST_WORKERS}
 use Rattle.crew_pool.specs.declared.task_deque.TheConstants.{ALL_PARTS}
@@ -7,7 +7,7 @@ use Rattle.crew_pool.specs.Deque.{seat_view, numbers, EachPair}
 
 -- ---- HasTaken
 
--- a view that is told by parts and items tells them
+-- a view given by parts and items has these
 pub HasTaken-own : {X Y : Type 0} (asks : List X → ℕ → Y → Type 0) (parts : ℕ) (items : List X) (v : SeatView X)
     (ps : List (ℕ × Y))
     → (v ≡ seat_view parts items (numbers ps)) × EachPair (asks items) ps
@@ -16,7 +16,7 @@ HasTaken-own {X} asks parts items v ps h =
     subst (λ (y : SeatView X). (y ≡ seat_view y.parts y.dealt (numbers ps)) × EachPair (asks y.dealt) ps) (sym h.0)
     (refl, h.1)
 
--- and what comes after it is told by them again
+-- and so has the view after it
 pub HasTaken-next : {X Y : Type 0} (asks : List X → ℕ → Y → Type 0) (parts more now : ℕ) (items : List X)
     (v w : SeatView X) (taken : List ℕ) (ps : List (ℕ × Y))
     → v ≡ seat_view parts items taken → now ≡ parts + more

@@ -1,4 +1,4 @@
--- A call of a crew: what its members are given, and what they return.
+-- A call of a crew: the jobs of its members, and their results.
 use Rattle.std.specs.Prelude.{
   ◌≡◌,
   ℕ,
@@ -48,16 +48,15 @@ dealt_of seat = (view seat).dealt
 abbrev pub IsStart : {X A : Type 0} → List X → RowsId × A → Pass (ℕ × X) (SeatView X) A → Type 0
 IsStart items deque seat = IsPassOf deque seat × (view seat ≡ seat_view 1 items [])
 
--- how a thief ends: with a seat at this deque, and, unless it was out of memory, with an answer of each task that the
--- seat has taken
+-- the end of a thief: a seat at this deque, with an answer for each task that it has taken, unless out of memory
 abbrev pub IsEnd : {X Y A Z E : Type 0} → (ℕ → Y → Type 0) → List X → RowsId × A
     → Pass (ℕ × X) (SeatView X) A × Result (Vec (ℕ × Y) Z) E → Type 0
 IsEnd answers items deque end =
     IsPassOf deque end.0
     × IfOk end.1 (λ outs. (view end.0 ≡ seat_view 1 items (numbers outs.items)) × EachPair answers outs.items)
 
--- the owner has this number of parts and knows the items; it has taken the numbers of the pairs, and each pair is as its
--- number asks
+-- the owner has this number of parts and knows the items; it has taken the numbers of the pairs, and `asks` holds of
+-- each pair
 abbrev pub HasTaken : {X Y A P : Type 0} → (ℕ → Y → Type 0) → ℕ → List X → Worker (ℕ × X) A (SeatView X) P
     → List (ℕ × Y) → Type 0
 HasTaken asks parts items owner pairs = (worker_view owner ≡ seat_view parts items (numbers pairs)) × EachPair asks pairs
@@ -85,7 +84,7 @@ AreIdle callers = All (λ caller. caller ≡ None) callers
 abbrev pub AreOut : {J : Type 0} → J → List (Option J) → Type 0
 AreOut job callers = All (λ caller. caller ≡ Some job) callers
 
--- what is at a place is as its number asks, and a place whose number is among the pairs is not empty
+-- `asks` holds of each value and its place, and a place whose number is among the pairs is not empty
 abbrev pub ArePlaced : {Y : Type 0} → (ℕ → Y → Type 0) → List (Option Y) → List (ℕ × Y) → Type 0
 ArePlaced {Y} asks places ps =
     (j : ℕ) (d : Option Y) → j < length places

@@ -36,7 +36,7 @@ seat_view parts dealt taken = record { parts = parts; dealt = dealt; taken = tak
 abbrev pub one_if_same : ℕ → ℕ → ℕ
 one_if_same x y = if nat_eq y x then 1 else 0
 
--- how often x is in the list
+-- the number of times that x is in the list
 abbrev pub occurrences : ℕ → List ℕ → ℕ
 occurrences x [] = 0
 occurrences x (y ∷ ys) = one_if_same x y + occurrences x ys
@@ -49,7 +49,7 @@ one_if_below x n = if nat_lt x n then 1 else 0
 abbrev pub numbers : {X : Type 0} → List (ℕ × X) → List ℕ
 numbers ps = map (λ p. p.0) ps
 
--- each value is as its number asks
+-- `asks` holds of each value and its number
 abbrev pub EachPair : {X : Type 0} → (ℕ → X → Type 0) → List (ℕ × X) → Type 0
 EachPair asks ps = AllByRecursion (λ p. asks p.0 p.1) ps
 
@@ -66,9 +66,9 @@ abbrev pub EachKnowsDealt : {X : Type 0} → List X → List (SeatView X) → Ty
 EachKnowsDealt {X} dealt views =
     (port : ℕ) (v : SeatView X) → get_elem? views port ≡ some v → KnowsDealt dealt v
 
--- the rule: there is a list of dealt items that each seat with a part knows; all parts are held by seats; each number
--- below the list's length is in the deque, or was taken, once, and no other number is; a number in the deque is together
--- with its item
+-- the rule: there is a list of dealt items that each seat with a part knows. Seats hold all parts. Each number below
+-- the list's length is in the deque or was taken, once, and no other number is. A number in the deque is together with
+-- its item
 abbrev pub TasksOnce : {X : Type 0} → List (ℕ × X) → List (SeatView X) → Type 0
 TasksOnce {X} tasks views =
     (dealt : List X) × (sum_by (λ v. v.parts) views ≡ ALL_PARTS)

@@ -1,8 +1,8 @@
--- What a crew is given, and what it returns.
+-- The tasks of a crew, and its results.
 use Rattle.std.specs.Prelude.{◌≡◌, ℕ, ◌+◌, ◌<◌, ◌≤◌, List, length, slice_index_or, sum_by}
 use Rattle.crew_pool.specs.declared.crew.TheConstants.{MOST_TASKS}
 
--- each element is as its place asks
+-- `asks` holds of each element and its place
 abbrev pub EachAt : {X : Type 0} → (ℕ → X → Type 0) → List X → Type 0
 EachAt {X} asks xs = (i : ℕ) (d : X) → i < length xs → asks i (slice_index_or xs i d)
 
@@ -15,7 +15,7 @@ pub record MayRunAll {X : Type 0} (takes : ℕ → X → Type 0) (items : List X
   pub few : length items ≤ MOST_TASKS
   pub ready : EachAt takes items
 
--- all tasks have run on these items: an answer for each, at its place, and the counter has grown by what the answers cost
+-- all tasks have run on these items: there is an answer for each, at its place, and the counter has grown by their cost
 pub record HaveRunAll {X Y : Type 0} (gives : ℕ → X → Y → Type 0) (cost_of : Y → ℕ) (items : List X) (before after : ℕ)
     (outs : List Y) : Type 0 where
   pub count : length outs ≡ length items

@@ -2,7 +2,7 @@
 use crossbeam_utils::sync::Unparker;
 use std::sync::atomic::{AtomicBool, Ordering};
 
-/// Wakes the members of a crew, and says when no more calls come.
+/// Wakes the members of a crew, and announces the end of calls.
 #[derive(Drop)]
 pub struct Bell {
     ended: AtomicBool,
@@ -18,7 +18,7 @@ impl Bell {
         }
     }
 
-    /// Says that no more calls come, and wakes all members. Each member ends once it has answered the job that it has.
+    /// Announces the end of calls, and wakes all members. Each member ends once it has answered its present job.
     pub fn end(&self) {
         self.ended.store(true, Ordering::SeqCst);
         for waker in &self.wakers {

@@ -17,8 +17,8 @@ use std::sync::{Arc, Wait};
 /// The greatest number of tasks of a call.
 pub const MOST_TASKS: usize = 64;
 
-/// The caller's handle on a crew: workers that stay from call to call, of whom the caller is one. Once a call was out
-/// of memory the crew is spent, and each later call reports out of memory at once. Contracts see nothing of it.
+/// The caller's handle on a crew: workers that stay from call to call, one of them the caller. After a call was out of
+/// memory the crew is spent, and each later call reports out of memory at once. Contracts see nothing of it.
 #[derive(Drop)]
 pub struct Crew<'g, W: Work, G: Gate> {
     /// The gate that each task passes.
@@ -52,7 +52,7 @@ impl<'g, W: Work + Send + Drop, G: Gate> Crew<'g, W, G> {
         Ok((crew, members))
     }
 
-    /// The bell of this crew. Whoever starts the members rings its end, since they wait for it.
+    /// The bell of this crew. The code that starts the members calls its `end`, since they wait for it.
     ///
     /// # Errors
     ///
@@ -69,7 +69,7 @@ impl<'g, W: Work + Send + Drop, G: Gate> Crew<'g, W, G> {
         self.gate
     }
 
-    /// Whether the caller is the only worker, also because the crew is spent. A hint: no clause uses it.
+    /// Whether the caller is the only worker, also because the crew is spent. A hint: contracts do not use it.
     pub fn is_single(&self) -> bool {
         match &self.idle {
             Some(idle) => idle.is_single(),

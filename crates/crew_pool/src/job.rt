@@ -42,7 +42,7 @@ impl<W: Work> std::marker::Model for Job<W> {
         × EachAt (W.ready j.work.value) (dealt_of j.seat) };
 }
 
-/// What a member owes for a job: its seat, with an answer of each task that the seat has taken.
+/// The obligation of a member for a job: its seat, with an answer for each task that the seat has taken.
 #[derive(Clone, Copy, Debug)]
 pub struct ByStealing;
 

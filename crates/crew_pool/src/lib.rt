@@ -1,9 +1,9 @@
 //! Crews: workers that run the tasks of a call concurrently (a work-stealing thread pool that stays from call to call).
 //!
 //! In a conservative parallel simulation the logical processes of one time window are independent until the window
-//! ends, so each can be stepped separately. A [`Work`] says what stepping one means. A [`Crew`] is given the items of a
-//! window, runs one task for each item, and returns each answer at its item's place. A task owns its item: it changes
-//! the item in place and returns it in its answer. All tasks read the work itself.
+//! ends, so each can be stepped separately. A [`Work`] defines what stepping one means. A [`Crew`] is given the items
+//! of a window, runs one task for each item, and returns each answer at its item's place. A task owns its item: it
+//! changes the item in place and returns it in its answer. All tasks read the work itself.
 //!
 //! A crew is begun once, around all calls of a run. The caller is worker 0; the others are its [`Member`]s, each in a
 //! thread. A call puts its tasks into one deque. The caller pops tasks from the head, and members that were woken steal
@@ -28,8 +28,8 @@
 //! ```
 //!
 //! [`Crew::all`] is [`Crew::start`] and then [`Started::finish`]: between the two the caller is free, and members
-//! already run tasks. A crew of one worker has no members, and its caller runs all tasks in order. Whoever starts the
-//! members calls [`Bell::end`] on each way out, since they wait for it.
+//! already run tasks. A crew of one worker has no members, and its caller runs all tasks in order. The code that starts
+//! the members calls [`Bell::end`] on each way out, since they wait for it.
 //!
 //! Cost: a call allocates a few short lists, and does one push, one pop or steal and one move of the answer for each
 //! task. For each member that it wakes it clones two `Arc`s. A member looks for its next job some thousand times before
@@ -38,7 +38,7 @@
 //!
 //! Promise: **an answer to each item at its place, for every number of workers and every order of stealing**. Neither
 //! the workers nor the order of tasks occur in the contract of [`Crew::all`]. [`Forked`] has the same contract for a
-//! single call, which starts and joins its threads. No contract says how fast a crew is, or that two workers ever run at
+//! single call, which starts and joins its threads. The speed of a crew is not proved, nor that two workers ever run at
 //! the same time. A [`Gate`] is called before each task, and before each call of an analyst in a live study; tests hold
 //! threads with it.
 #![tactic(auto)]

@@ -3,7 +3,7 @@ ghost use Rattle.std.specs.Prelude.{◌≡◌, ◌++◌, ◌∷◌, [], OnOk};
 
 use sim_base::NoMemory;
 
-/// Adds one more at the end.
+/// Appends an element.
 pub fn add<X: Drop>(list: &mut Vec<X>, one: X) -> Result<(), NoMemory>
     ensures value { OnOk result (list.new.items ≡ list.old.items ++ one ∷ []) }
 {
@@ -11,7 +11,7 @@ pub fn add<X: Drop>(list: &mut Vec<X>, one: X) -> Result<(), NoMemory>
     Ok(())
 }
 
-/// Adds all of another list at the end.
+/// Appends the elements of another list.
 pub fn add_all<X: Drop>(list: &mut Vec<X>, mut more: Vec<X>) -> Result<(), NoMemory>
     ensures value { OnOk result (list.new.items ≡ list.old.items ++ more.items) }
 {

@@ -92,8 +92,8 @@ pub fn serve<W: Work + Send + Drop, G: Gate, R: Wait>(
 }
 
 /// Runs the members, each in a thread of its own, until the bell says that no more calls come. If no thread can be
-/// started, they run one after the other. In a `thread::join` with the caller, this must be the first closure:
-/// `thread::join` runs it in a new thread, or, if no thread can be started, after the second closure.
+/// started, they run one after the other. In a `thread::join` with the caller, this must be the first closure.
+/// `thread::join` runs it in a new thread; if no thread can be started, it runs after the second closure.
 pub fn serve_all<W: Work + Send + Drop, G: Gate, R: Threads + Wait + Sync>(
     rt: &R,
     alloc: Global,

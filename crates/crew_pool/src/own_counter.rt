@@ -1,5 +1,5 @@
 //! Steps of tasks that run in several threads. One counter cannot be lent to all of them, so each task has a counter of
-//! its own, and the caller's counter is ticked by what the answers cost.
+//! its own. The caller's counter is ticked by the cost of the answers.
 ghost use Rattle.std.specs.Prelude.{◌≡◌, ◌+◌, ◌<◌, sum_by, IfOk};
 
 use crate::work::Work;

@@ -57,7 +57,7 @@ impl<'g, W: Work, G: Gate> std::marker::Model for Started<'g, W, G> {
 }
 
 impl<'g, W: Work + Send + Drop, G: Gate> Started<'g, W, G> {
-    /// Ends the call: runs each task that no member has taken, waits for the tasks that members have begun, and returns
+    /// Ends the call: runs each task that no member has taken, and waits for the tasks that members have begun. Returns
     /// the answers at their items' places, together with the crew.
     ///
     /// # Errors

@@ -1,10 +1,10 @@
-//! The deque of a crew, and the rule that every push, pop and steal keeps: each task of the call is in the deque, or
+//! The deque of a crew, and the rule that every push, pop and steal keeps. Each task of the call is in the deque, or
 //! exactly one seat has taken it.
 //!
-//! A task is a number and an item. Whoever works at the deque has a seat, and the seat's view says what it knows. The
-//! owner begins with all parts of the deque. It cuts one part off for each thief and joins it again afterwards, so an
-//! owner with all parts knows that no thief is left. Between two calls, when all tasks were taken, the owner forgets
-//! them, and numbers begin at 0 again.
+//! A task is a number and an item. Each user of the deque has a seat, whose view says what it knows. The owner begins
+//! with all parts of the deque. It cuts off one part for each thief and joins it again afterwards. So an owner with all
+//! parts knows that no thief is left. Between two calls, when all tasks were taken, the owner forgets them, and numbers
+//! begin at 0 again.
 ghost use Rattle.std.specs.Prelude.{◌≡◌, ◌≤◌, [], OnOk, IfOk, length};
 ghost use Rattle.crossbeam_deque.specs.Handles.{worker_view, worker_flavor};
 ghost use Rattle.crew_pool.specs.Deque.{SameDeque, seat_view, IsComplete};
@@ -21,8 +21,8 @@ use std::collections::LinkedList;
 /// The number of parts of a deque. The owner begins with all of them.
 pub const ALL_PARTS: u64 = 1_024;
 
-/// What a seat knows: its parts of the deque, the items of this call's tasks in order, and the numbers of the tasks
-/// that it has taken. Only clauses use it; the program never makes a value.
+/// What a seat knows: its parts of the deque, the items of this call's tasks in order, and the numbers of its taken
+/// tasks. Only clauses use it; the program never makes a value.
 pub struct SeatView<X> {
     /// The number of its parts.
     pub parts: u64,

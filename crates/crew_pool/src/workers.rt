@@ -1,11 +1,11 @@
-//! How many workers a crew has: 1 to [`MOST_WORKERS`], and the caller's thread is one of them.
+//! The number of workers of a crew: 1 to [`MOST_WORKERS`], including the caller's thread.
 ghost use Rattle.std.specs.Prelude.{◌≡◌, ◌≤◌, MatchOption};
 ghost use Rattle.crew_pool.specs.declared.workers.TheConstants.{MOST_WORKERS};
 
 /// The greatest number of workers of a crew.
 pub const MOST_WORKERS: u32 = sim_base::limits::MOST_WORKERS;
 
-/// How many workers a crew has: 1 to `MOST_WORKERS`.
+/// The number of workers of a crew: 1 to `MOST_WORKERS`.
 #[derive(Clone, Copy, Debug, PartialEq, Eq)]
 pub struct Workers {
     /// The number.

@@ -1,4 +1,4 @@
--- The decisions that reach one clone give it what all decisions give it.
+-- The decisions that reach one clone lead to the same list and end as all decisions.
 use Rattle.std.proofs.Common.{◌≡◌, ℕ, ◌+◌, ◌≤◌, Bool, true, false, nat_le, cond, List}
 use Rattle.std.proofs.Common.{[], ◌∷◌, ◌++◌, length, refl, sym, ap, ◌∙◌, arith, Option}
 use Rattle.std.proofs.Common.{Some, None, is_some, unwrap_or, slice_set, subst, length-set}
@@ -32,7 +32,7 @@ record HasSameClone (t : List ℕ) (full own : List Clone) : Type 0 where
   pub fewer : (n : List ℕ) → clone_named n full ≡ None → clone_named n own ≡ None
   pub shorter : length own ≤ length full
 
--- these clones at front 0, after so many calls
+-- these clones at front 0, after this number of calls
 abbrev at_opening : Net → ℕ → List Clone → Situation
 at_opening net calls clones = record { net = net; clones = clones; front = 0; calls = calls }
 
@@ -43,7 +43,7 @@ record InBoth (j k : Situation) (d : Decision) : Type 0 where
   pub placed : place_of (subject d) k.clones ≡ Some place
   pub clone : clone_at k.clones place ≡ clone_at j.clones found.clone
 
--- where the clone of a name is the same in both states, an accepted decision finds it in the other too
+-- if the clone of a name is the same in both states, an accepted decision finds it in the other too
 in_both : (j k : Situation) (d : Decision) → reply j d ≡ Accepted → HasSameClone (subject d) j.clones k.clones
     → InBoth j k d
 in_both j k d h s =
@@ -54,7 +54,7 @@ in_both j k d h s =
 
 -- ---- fork_rows
 
--- an answer that is not there is None
+-- an answer that is absent is None
 is_none_from : {X : Type 0} (o : Option X) → is_some o ≡ false → o ≡ None
 is_none_from None h = refl
 is_none_from (Some x) h = absurd cc
@@ -90,7 +90,7 @@ fresh_again full own new s f = record {
 
 -- ---- reply, in another state
 
--- what an accepted decision passes in the one state it passes in the other
+-- conditions that an accepted decision meets in one state it meets in the other
 rows_again : (net : Net) (n m : ℕ) (full own : List Clone) (d : Decision) (i k : ℕ) → HasSameClone (subject d) full own
     → clone_at own k ≡ clone_at full i
     → first_row (rows (at_opening net n full) i d) ≡ Accepted → first_row (rows (at_opening net m own) k d) ≡ Accepted
@@ -100,7 +100,8 @@ rows_again net n m full own (Fork new old) i k s e h =
 rows_again net n m full own (Set who at station change) i k s e h = rw e h
 rows_again net n m full own (End who at) i k s e h = h
 
--- what is accepted at front 0 is too after no more calls, among no more clones, none new, its subject the same
+-- an accepted decision at front 0 is also accepted after no more calls, among no more clones, none new, its subject the
+-- same
 reply-again : (net : Net) (n m : ℕ) (full own : List Clone) (d : Decision) → m ≤ n → HasSameClone (subject d) full own
     → reply (at_opening net n full) d ≡ Accepted → reply (at_opening net m own) d ≡ Accepted
 reply-again net n m full own d less s h =
@@ -116,19 +117,19 @@ reply-again net n m full own d less s h =
 
 -- ---- clones_after, by names
 
--- what a decision makes of the clone that it is of
+-- the effect of a decision on its clone
 abbrev made : Net → Decision → Clone → Clone
 made net (Fork new old) k = fork_of k new
 made net (Set who at station change) k = record k { plans = k.plans ++ plan_of_set net at station change ∷ [] }
 made net (End who at) k = record k { end = Some at }
 
--- how many clones a decision adds
+-- the number of clones that a decision adds
 abbrev clones_added : Decision → ℕ
 clones_added (Fork new old) = 1
 clones_added (Set who at station change) = 0
 clones_added (End who at) = 0
 
--- what an accepted decision does to the clones, by their names
+-- the effect of an accepted decision on the clones, by their names
 record Effect (net : Net) (d : Decision) (before next : List Clone) (i : ℕ) : Type 0 where
   pub self : clone_named (changed_clone d) next ≡ Some (made net d (clone_at before i))
   pub others : (m : List ℕ) → bytes_eq (changed_clone d) m ≡ false → clone_named m next ≡ clone_named m before
@@ -140,18 +141,18 @@ option_or-none : (o : Option Clone) → option_or o None ≡ o
 option_or-none None = refl
 option_or-none (Some k) = refl
 
--- where the clone that is pushed is not found, the name is not its own
+-- if the pushed clone is not found, the name is not its own
 pushed_none : (o : Option Clone) (b : Bool) (k : Clone) → option_or o (cond b (Some k) None) ≡ None → b ≡ false
 pushed_none None true k h = absurd cc
 pushed_none None false k h = refl
 pushed_none (Some c) b k h = absurd cc
 
--- nor is it where the clone that is changed is not found
+-- nor is it if the changed clone is not found
 set_none : (b : Bool) (k : Clone) (o : Option Clone) → cond b (Some k) o ≡ None → b ≡ false
 set_none true k o h = absurd cc
 set_none false k o h = refl
 
--- what a fork does to the clones, by their names
+-- the effect of a fork on the clones, by their names
 fork_effect : (net : Net) (clones : List Clone) (new old : List ℕ) (i : ℕ) → place_of new clones ≡ None
     → Effect net (Fork new old) clones (clones_with_fork clones new i) i
 fork_effect net clones new old i fresh =
@@ -166,7 +167,7 @@ fork_effect net clones new old i fresh =
       length_is = length_push clones k;
     }
 
--- what a set or an end does to them
+-- the effect of a set or an end on them
 change_effect : (net : Net) (d : Decision) (clones : List Clone) (i : ℕ) → clones_added d ≡ 0
     → place_of (changed_clone d) clones ≡ Some i → (made net d (clone_at clones i)).name ≡ changed_clone d
     → Effect net d clones (slice_set clones i (made net d (clone_at clones i))) i
@@ -182,7 +183,7 @@ change_effect net d clones i none place name =
       length_is = omega (arith, length-set clones i k, none);
     }
 
--- what each accepted decision does to them
+-- the effect of each accepted decision on them
 effect : (net : Net) (n : ℕ) (clones : List Clone) (d : Decision) (o : IsOpen (at_opening net n clones) d)
     → Effect net d clones (clones_after net clones d) o.clone
 effect net n clones (Fork new old) o =
@@ -234,7 +235,7 @@ dropped_same net n t full own d other s h =
 
 -- ---- alone
 
--- what became of the clone's own decisions, from where they stand
+-- the result of the clone's own decisions, from their place on
 record IsAloneFrom (net : Net) (m k : ℕ) (own : List Clone) (ds : List Decision) (who : List ℕ)
     (end : List Clone) : Type 0 where
   pub accepted : first_refusal_from (at_opening net m own) k ds ≡ None
@@ -267,7 +268,7 @@ alone_by net n m k who full own end d rest less h go true e s =
 alone_by net n m k who full own end d rest less h go false e s =
     go m k own (omega arith) (dropped_same net n rest.0 full own d e s h)
 
--- where no decision is refused, those of one clone suffice, from a state the same for the clone it goes back to
+-- if no decision is refused, those of one clone suffice, from a state that is the same for its ancestor
 alone_from : (net : Net) (n i m k : ℕ) (who : List ℕ) (full own : List Clone) (ds : List Decision) → m ≤ n
     → HasSameClone (history who ds).0 full own → first_refusal_from (at_opening net n full) i ds ≡ None
     → IsAloneFrom net m k own (history who ds).1 who (after_all (at_opening net n full) ds).clones
@@ -284,7 +285,7 @@ alone_from net n i m k who full own (d ∷ ds) less s h =
     (λ l j mine most alike. alone_from net (n + 1) (i + 1) l j who (clones_after net full d) mine ds most alike rest)
     (bytes_eq (changed_clone d) (history who ds).0) refl s)
 
--- where no decision is refused, those that reach a clone are all accepted and give it the same list and end
+-- if no decision is refused, those that reach a clone are all accepted and lead to the same list and end
 pub alone_suffices : (net : Net) → AloneSuffices net
 alone_suffices net who ds h =
     let a = alone_from net 0 0 0 0 who (base ∷ []) (base ∷ []) ds (omega arith)

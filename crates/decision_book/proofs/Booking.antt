@@ -27,7 +27,7 @@ pub record IsNextCall (net : Net) (lists : ListsView) (calls : ReservedView Call
       (record { net = net; clones = lists.clones; front = last; calls = length calls.items }) call.decision
   pub not_full : is_full call.reply ≡ false
 
--- a next call is a right one behind the journal of the book
+-- a next call is a right one after the journal of the book
 answered_in : (net : Net) (lists : ListsView) (calls : ReservedView Call) (fronts : ReservedView ℕ) (last : ℕ)
     (call : Call) → IsBook net lists calls fronts last → IsNextCall net lists calls fronts last call
     → IsRightCall net (journal_of calls.items fronts.items) call

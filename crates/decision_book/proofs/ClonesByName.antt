@@ -35,7 +35,7 @@ next_place k n =
     by true = refl
     by false = refl
 
--- a name has place 0 where the first clone has it, and else one more than its place among the others
+-- a name has place 0 if the first clone has it, and otherwise one more than its place among the others
 pub place_of-cons : (m : List ℕ) (c : Clone) (cs : List Clone)
     → place_of m (c ∷ cs) ≡ cond (bytes_eq c.name m) (Some 0) (option_map (λ i. suc i) (place_of m cs))
 place_of-cons m c cs = by (bytes_eq c.name m)
@@ -66,7 +66,7 @@ named_by m c cs k again false e g =
     let rest = again g in
     record { at = suc rest.at; place = place_of-cons m c cs ∙ rw (e, rest.place) refl; clone = rest.clone }
 
--- a name has a place where it has a clone
+-- a name has a place if it has a clone
 pub IsCloneNamed-clone_named : (m : List ℕ) (clones : List Clone) (k : Clone) → clone_named m clones ≡ Some k
     → IsCloneNamed m clones k
 IsCloneNamed-clone_named m [] k h = absurd cc
@@ -75,7 +75,7 @@ IsCloneNamed-clone_named m (c ∷ cs) k h =
 
 -- ---- place_of, clone_named
 
--- and it has none where neither the first clone has it nor another
+-- and it has none if neither the first clone has it nor another
 none_by : (m : List ℕ) (c : Clone) (cs : List Clone) → (clone_named m cs ≡ None → place_of m cs ≡ None) → (b : Bool)
     → bytes_eq c.name m ≡ b → cond b (Some c) (clone_named m cs) ≡ None → place_of m (c ∷ cs) ≡ None
 none_by m c cs again true e g = absurd cc
@@ -108,7 +108,7 @@ clone_named-none m clones h = by (clone_named m clones) refl
 
 -- ---- clone_named: a clone more
 
--- a name finds the clone that is pushed where no other has the name, and it is this one's
+-- a name finds the pushed clone if no other has the name, and it is this one's
 pub clone_named-push : (m : List ℕ) (clones : List Clone) (k : Clone)
     → clone_named m (clones ++ k ∷ []) ≡ option_or (clone_named m clones) (cond (bytes_eq k.name m) (Some k) None)
 clone_named-push m clones k = find-append (λ c. bytes_eq c.name m) clones (k ∷ [])
@@ -120,7 +120,7 @@ cond-twice : {X : Type 0} (b : Bool) (x y z : X) → cond b x z ≡ cond b x (co
 cond-twice true x y z = refl
 cond-twice false x y z = refl
 
--- a place behind the first is one more than a place among the others
+-- a place after the first is one more than a place among the others
 suc_place : (o : Option ℕ) (j : ℕ) → option_map (λ i. suc i) o ≡ Some (suc j) → o ≡ Some j
 suc_place None j h = absurd cc
 suc_place (Some i) j h = cc
@@ -159,7 +159,7 @@ set_by m who c cs k e again false f (suc j) g =
     ap (λ o. cond (bytes_eq c.name m) (Some c) o) (again j (suc_place _ j g))
     ∙ cond-swapped (bytes_eq c.name m) (bytes_eq who m) (Some c) (Some k) (clone_named m cs) apart
 
--- where a clone is replaced by one of its name, this name finds the new one, and others what they did
+-- if a clone is replaced by one of its name, this name finds the new one, and others find the same as before
 pub clone_named-set : (m who : List ℕ) (clones : List Clone) (i : ℕ) (k : Clone) → place_of who clones ≡ Some i
     → k.name ≡ who → clone_named m (slice_set clones i k) ≡ cond (bytes_eq who m) (Some k) (clone_named m clones)
 clone_named-set m who [] i k h e = absurd cc

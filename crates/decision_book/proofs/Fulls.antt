@@ -1,4 +1,4 @@
--- A decision is answered Full exactly where the journal is full.
+-- The reply is Full exactly if the journal is full.
 use Rattle.std.proofs.Common.{◌≡◌, ◌≢◌, ◌↔◌, ◌==◌, ◌≤◌, ℕ, List, ◌∷◌, [], ◌++◌, Option, Some}
 use Rattle.std.proofs.Common.{Bool, true, false, nat_le, sym, subst, ap, ◌∙◌, refl, length, arith}
 use Rattle.sim_base.specs.declared.decision.Decision.{Decision}
@@ -37,7 +37,7 @@ none_full front = record {
   late = λ e. absurd cc;
 }
 
--- where only the first row may be Full, and the reply is, its condition holds
+-- if only the first row may be Full, and the reply is, its condition holds
 at_row : (b : Bool) (os : List (Option Reply)) → (first_row os ≡ Full → ⊥) → first_row (row b Full ∷ os) ≡ Full
     → b ≡ true
 at_row true os h e = refl
@@ -54,18 +54,18 @@ full_is_full s d e =
     )) e in
     grind (arith, b)
 
--- and a full journal answers Full
+-- and the reply of a full journal is Full
 full_is_said : (s : Situation) (d : Decision) → MOST_CALLS ≤ s.calls → reply s d ≡ Full
 full_is_said s d h =
     let b : nat_le MOST_CALLS s.calls ≡ true = grind (arith, h) in
     ap (λ x. first_row (row x Full ∷ row (s.front == s.net.horizon) Closed ∷ clone_rows s d
     (place_of (subject d) s.clones))) b
 
--- the number of calls after a journal is how many it has
+-- the number of calls after a journal is that of its calls
 calls_are : (net : Net) (es : List Event) → (after net es).calls ≡ length (calls_of es)
 calls_are net es = ap (λ (s : Situation). s.calls) (situation_of_journal net es)
 
--- the reply is Full exactly where the journal holds as many calls as it may
+-- the reply is Full exactly if the journal holds as many calls as it may
 pub full_where_full : (net : Net) (es : List Event) (d : Decision) (r : Reply) → r ≡ reply (after net es) d
     → (r ≡ Full) ↔ (MOST_CALLS ≤ length (calls_of es))
 full_where_full net es d r is = (
@@ -107,7 +107,7 @@ with_last_entry old new caller d r is then not =
 pub is_full-false : (r : Reply) → is_full r ≡ false → r ≢ Full
 is_full-false r h e = let bad : is_full r ≡ true = ap is_full e in cc
 
--- the call that is made of it, where so many fronts stood before
+-- the call made from it, with this number of fronts before it
 pub call_unless_full : (old new : BookView) (caller : ℕ) (d : Decision) (r : Reply) (n : ℕ)
     → n ≡ length (fronts_of old.events) → r ≡ reply (after old.net old.events) d
     → new ≡ record old { events = journal_with old.net old.events caller d } → is_full r ≡ false
@@ -122,7 +122,7 @@ call_unless_full old new caller d r n stamp is then free =
       },
     )
 
--- so many fronts stand in the journal of a book
+-- the number of fronts in the journal of a book
 pub fronts_of-length : (net : Net) (calls : List Call) (fronts : List ℕ) (v : BookView)
     → record { net = net; events = journal_of calls fronts } ≡ v → length fronts ≡ length (fronts_of v.events)
 fronts_of-length net calls fronts v is = subst (λ (w : BookView). length fronts ≡ length (fronts_of w.events)) is

@@ -11,7 +11,7 @@ use Rattle.decision_book.specs.Books.{journal_from, AreInOrder}
 
 -- ---- EachAfter
 
--- what holds of each event with those before it holds with one more
+-- a property of each event and those before it holds with one more
 pub each_push : (P : List Event → Event → Type 0) (before es : List Event) (e : Event) → EachAfter P before es
     → P (before ++ es) e → EachAfter P before (es ++ e ∷ [])
 each_push P before [] e h p = (subst (λ (xs : List Event). P xs e) (append-nil before) p, tt)
@@ -23,7 +23,7 @@ each_push P before (x ∷ es) e h p = (
 
 -- ---- AreInOrder
 
--- calls stay in the order of their fronts with one call more that stands behind all fronts
+-- calls stay in the order of their fronts with one more call after all fronts
 pub AreInOrder-push : (n all : ℕ) (cs : List Call) (c : Call) → c.fronts ≡ all → AreInOrder n all cs
     → AreInOrder n all (cs ++ c ∷ [])
 AreInOrder-push n all [] c e h = (omega arith, omega arith)
@@ -34,14 +34,14 @@ pub AreInOrder-front : (n all : ℕ) (cs : List Call) → AreInOrder n all cs �
 AreInOrder-front n all [] h = omega arith
 AreInOrder-front n all (c ∷ cs) h = (h.0, AreInOrder-front c.fronts all cs h.1)
 
--- no call stands behind more fronts than there are
+-- no call has more fronts before it than there are
 AreInOrder-bound : (n all : ℕ) (cs : List Call) → AreInOrder n all cs → n ≤ all
 AreInOrder-bound n all [] h = h
 AreInOrder-bound n all (c ∷ cs) h = let rest = AreInOrder-bound c.fronts all cs h.1 in omega (arith, rest, h.0)
 
 -- ---- journal_from
 
--- a call that stands behind all fronts is the last entry
+-- a call after all fronts is the last entry
 pub journal_from-call : (n all : ℕ) (cs : List Call) (fronts : List ℕ) (c : Call) → n + length fronts ≡ all
     → AreInOrder n all cs → c.fronts ≡ all
     → journal_from n (cs ++ c ∷ []) fronts ≡ journal_from n cs fronts ++ NewCall c ∷ []
@@ -73,7 +73,7 @@ journal_from-front n all (d ∷ cs) fronts f total h =
 
 -- ---- calls_of, fronts_of
 
--- calls behind a journal are its last calls
+-- calls after a journal are its last calls
 pub calls_of-push_calls : (es : List Event) (cs : List Call) → calls_of (es ++ map NewCall cs) ≡ calls_of es ++ cs
 calls_of-push_calls [] [] = refl
 calls_of-push_calls [] (c ∷ cs) = ap (λ l. c ∷ l) (calls_of-push_calls [] cs)
@@ -89,7 +89,7 @@ pub calls_of-push_length : (es : List Event) (c : Call)
     → length (calls_of (es ++ NewCall c ∷ [])) ≡ length (calls_of es) + 1
 calls_of-push_length es c = ap length (calls_of-push_call es c) ∙ length_push (calls_of es) c
 
--- and a front behind it leaves the calls as they are
+-- and a front after it does not change the calls
 pub calls_of-push_front : (es : List Event) (f : ℕ) → calls_of (es ++ NewFront f ∷ []) ≡ calls_of es
 calls_of-push_front [] f = refl
 calls_of-push_front (NewFront g ∷ es) f = calls_of-push_front es f

@@ -1,4 +1,4 @@
--- The accepted calls of a right journal are a script that leaves the same clones.
+-- The accepted calls of a right journal are a script that leads to the same clones.
 use Rattle.std.proofs.Common.{◌≡◌, ◌⊎◌, inl, inr, ⊎_elim, ◌==◌, ℕ, ◌+◌, ◌<◌, ◌≤◌, Bool}
 use Rattle.std.proofs.Common.{true, false, true≢false, List, [], ◌∷◌, ◌++◌, map, Option, Some, None}
 use Rattle.std.proofs.Common.{nat_lt, nat_le, refl, sym, ap, ◌∙◌, subst, arith, eq-eqb, fold, append_assoc, append-nil}
@@ -30,7 +30,7 @@ last_row [] b r q h = refl
 last_row (Some p ∷ xs) b r q h = h
 last_row (None ∷ xs) b r q h = last_row xs b r q h
 
--- the same clones at front 0, after so many calls
+-- the same clones at front 0, after this number of calls
 abbrev at_start : Situation → ℕ → Situation
 at_start s m = record s { front = 0; calls = m }
 
@@ -55,7 +55,7 @@ rows_at_start s m clone (End who at) h =
     subst (λ b. first_row (xs ++ row b (Late 0) ∷ []) ≡ Accepted) (no_late at)
     (last_row xs (nat_lt at s.front) (Late s.front) (Late 0) h)
 
--- what is accepted at a front, with calls before it, is accepted at front 0 with no more calls
+-- a decision that is accepted at a front, with calls before it, is accepted at front 0 with no more calls
 accepted_at_start : (s : Situation) (m : ℕ) (d : Decision) → 0 < s.net.horizon → m ≤ s.calls → reply s d ≡ Accepted
     → reply (at_start s m) d ≡ Accepted
 accepted_at_start s m d some_time few h =
@@ -73,7 +73,7 @@ accepted_at_start s m d some_time few h =
 
 -- ---- ChangesNothing
 
--- a reply that takes no call into the script, and leaves the clones as they are
+-- a reply that takes no call into the script, and does not change the clones
 abbrev pub ChangesNothing : Reply → Type 0
 ChangesNothing r = ((c : Call) (cs : List Call) → accepted_onto r c cs ≡ cs)
     × ((new old : List Clone) → if_accepted r new old ≡ old)
@@ -123,7 +123,7 @@ leads_on s m place d ds clones some_time few h more =
       ap (λ (x : Situation). (after_all x ds).clones) step ∙ more.1,
     )
 
--- what these calls ask for
+-- the decisions of these calls
 abbrev decisions_of : List Call → List Decision
 decisions_of cs = map (λ c. c.decision) cs
 
@@ -162,7 +162,7 @@ from_here net before (NewCall c ∷ es) s m place is right some_time few =
     (sym (h.0 c (accepted_of (calls_of es)))) more))
     (accepted_or_refused c.reply)
 
--- where the horizon is above 0, the accepted decisions of a right journal are a script that leaves its clones
+-- if the horizon is above 0, the accepted decisions of a right journal are a script that leads to its clones
 pub journal_is_script : (net : Net) → JournalIsScript net
 journal_is_script net events right some_time =
     let l = from_here net [] events (outset net) 0 0 refl right some_time (omega arith) in
@@ -170,7 +170,7 @@ journal_is_script net events right some_time =
 
 -- ---- EachAfter
 
--- what holds of each event of a journal holds of its later part behind the earlier one
+-- a property of each event of a journal holds of its later part after the earlier one
 pub each_later : (P : List Event → Event → Type 0) (before xs ys : List Event) → EachAfter P before (xs ++ ys)
     → EachAfter P (before ++ xs) ys
 each_later P before [] ys h = subst (λ (es : List Event). EachAfter P es ys) (sym (append-nil before)) h
@@ -179,7 +179,7 @@ each_later P before (x ∷ xs) ys h = subst (λ (es : List Event). EachAfter P e
 
 -- ---- calls at the horizon
 
--- calls behind events at whose front the horizon is reached
+-- calls after events at whose front the horizon is reached
 closed_from : (net : Net) (before : List Event) (calls : List Call) (s : Situation) → after net before ≡ s
     → s.front ≡ s.net.horizon → EachAfter (MayFollow net) before (map NewCall calls)
     → (fold after_event s (map NewCall calls)).clones ≡ s.clones
@@ -203,7 +203,7 @@ net_stays s [] = refl
 net_stays s (NewFront f ∷ es) = net_stays (after_event s (NewFront f)) es
 net_stays s (NewCall c ∷ es) = net_stays (after_event s (NewCall c)) es
 
--- in a right journal, calls at the horizon leave the clones as they are
+-- in a right journal, calls at the horizon do not change the clones
 pub closed_changes_nothing : (net : Net) → ClosedChangesNothing net
 closed_changes_nothing net before calls closed right =
     ap (λ (s : Situation). s.clones) (fold-append after_event (outset net) before (map NewCall calls))

@@ -7,7 +7,7 @@ use Rattle.decision_book.specs.Laws.{OwnScriptSuffices, clone_named}
 use Rattle.decision_book.specs.Scripts.{first_refusal, lists_of}
 use Rattle.decision_book.proofs.AloneLaw.{alone_suffices}
 
--- where a script is all accepted, so is a clone's own script, which gives it the same list and end
+-- if a script is all accepted, so is a clone's own script, which leads to the same list and end
 pub own_script_suffices : (net : Net) → OwnScriptSuffices net
 own_script_suffices net who s ok =
     let own = alone_suffices net who (decisions s.items) ok in

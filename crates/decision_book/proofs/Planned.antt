@@ -1,4 +1,4 @@
--- Accepted decisions keep the lists as they are planned.
+-- Accepted decisions keep the lists planned.
 use Rattle.std.proofs.Common.{◌≡◌, ℕ, ◌+◌, ◌<◌, ◌≤◌, List, [], ◌∷◌, length, arith, zero, suc, Some, None}
 use Rattle.std.proofs.Common.{slice_set, length-set, true, Option, option_map, Result, Ok, Err, is_ok, position, refl}
 use Rattle.std.specs.List.{AllByRecursion}
@@ -18,14 +18,14 @@ use Rattle.decision_book.specs.Plans.{IsPlan, IsPlanned, ArePlanned}
 
 -- ---- ArePlanned
 
--- each clone is planned, and so is the one where there is none
+-- each clone is planned, and so is the default one
 pub planned_at : (net : Net) (clones : List Clone) (c : ℕ) → AllByRecursion (IsPlanned net) clones
     → IsPlanned net (clone_at clones c)
 planned_at net [] c h = record { plans = tt; short = omega arith; end = tt }
 planned_at net (k ∷ ks) zero h = h.0
 planned_at net (k ∷ ks) (suc c) h = planned_at net ks c h.1
 
--- a fork keeps the lists as planned, where there is a free place for one clone more
+-- a fork keeps the lists planned if there is a free place for one more clone
 pub planned_forked : (net : Net) (clones : List Clone) (new : List ℕ) (old : ℕ) → ArePlanned net clones
     → length clones < MOST_CLONES → ArePlanned net (clones_with_fork clones new old)
 planned_forked net clones new old h few =
@@ -36,7 +36,7 @@ planned_forked net clones new old h few =
       each = all_push (IsPlanned net) clones fork h.each (record { plans = from.plans; short = from.short; end = tt });
     }
 
--- planned clones stay so where one is replaced by a planned one
+-- planned clones stay so if one is replaced by a planned one
 planned_replaced : (net : Net) (clones : List Clone) (c : ℕ) (k : Clone) → ArePlanned net clones → IsPlanned net k
     → ArePlanned net (slice_set clones c k)
 planned_replaced net clones c k h p =
@@ -50,7 +50,7 @@ planned_ended net clones c at h early =
     planned_replaced net clones c (record (clone_at clones c) { end = Some at }) h
     (record { plans = from.plans; short = from.short; end = early })
 
--- and so does one set more that may be planned, where the clone's list has a free place
+-- and so does one more set that may be planned, if the clone's list has a free place
 pub planned_added : (net : Net) (clones : List Clone) (c : ℕ) (plan : Planned) → ArePlanned net clones
     → length (clone_at clones c).plans < MOST_DECISIONS → IsPlan net plan
     → ArePlanned net (clones_with_plan clones c plan)
@@ -79,7 +79,7 @@ taken_from : (r : Result (Unit {0}) ChangeFault) (u : Unit {0}) → r ≡ Ok u �
 taken_from (Ok v) u h = refl
 taken_from (Err e) u h = absurd cc
 
--- a set before the horizon may be planned, where its station is there and takes the change
+-- a set before the horizon may be planned if its station exists and accepts the change
 pub plan_taken : (net : Net) (at s : ℕ) (station : List ℕ) (change : Change) (u : Unit {0})
     → station_named station net ≡ Some s → s ≤ length net.sites → accepts (site_of net s) change ≡ Ok u
     → at < net.horizon → IsPlan net (record { at = at; station = s; change = change })

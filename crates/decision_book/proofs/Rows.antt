@@ -1,4 +1,4 @@
--- The rows of the table: what holds of their refusals, and those that an accepted decision passed.
+-- The rows of the table: the conditions of their refusals, and the rows that an accepted decision passed.
 use Rattle.std.proofs.Common.{◌≡◌, ◌==◌, ℕ, ◌<◌, ◌≤◌, Bool, true, false, nat_le, nat_lt, List, [], ◌∷◌, refl, arith}
 use Rattle.std.proofs.Common.{length, Option, Some, None, IfSome, is_some, is_none, Result, Ok, Err, option_map}
 use Rattle.std.proofs.lemmas.Bool.Decides.{nat_tests}
@@ -22,19 +22,19 @@ use Rattle.decision_book.specs.Replies.{row, first_row, reply, rows, time_rows, 
 
 -- ---- first_row
 
--- where a row that refuses comes first and the reply is Accepted, its condition doesn't hold, nor that of a later row
+-- if a row that refuses comes first and the reply is Accepted, its condition does not hold, nor that of a later row
 pub first_row-Accepted : (b : Bool) (r : Reply) (more : List (Option Reply)) → (r ≡ Accepted → ⊥)
     → first_row (row b r ∷ more) ≡ Accepted → (b ≡ false) × (first_row more ≡ Accepted)
 first_row-Accepted true r more other h = absurd (other h)
 first_row-Accepted false r more other h = (refl, h)
 
--- where the row of the end does not refuse, the clone has no end
+-- if the row of the end does not refuse, the clone has no end
 first_row-end : (end : Option ℕ) (more : List (Option Reply))
     → first_row (option_map (λ at. Ended at) end ∷ more) ≡ Accepted → (end ≡ None) × (first_row more ≡ Accepted)
 first_row-end None more h = (refl, h)
 first_row-end (Some at) more h = absurd cc
 
--- where the row of a change at a station does not refuse, no later row does
+-- if the row of a change at a station does not refuse, no later row does
 pub first_row-fault : (f : Result (Unit {0}) ChangeFault) (more : List (Option Reply))
     → first_row (fault_row f ∷ more) ≡ Accepted → first_row more ≡ Accepted
 first_row-fault (Ok u) more h = h
@@ -47,15 +47,15 @@ pub first_row-change : (net : Net) (o : Option ℕ) (change : Change) (more : Li
 first_row-change net None change more h = h
 first_row-change net (Some s) change more h = first_row-fault (accepts (site_of net s) change) more h
 
--- where a number is not at most another, the other is below it
+-- if a number is not at most another, the other is below it
 nat_le-false : (a b : ℕ) → nat_le a b ≡ false → b < a
 nat_le-false a b h = grind (arith, nat_tests)
 
--- and where it is not below another, it is at least as much
+-- and if it is not below another, it is at least as much
 nat_lt-false : (a b : ℕ) → nat_lt a b ≡ false → b ≤ a
 nat_lt-false a b h = grind (arith, nat_tests)
 
--- where the rows of the time do not refuse, it is at the front or later, and before the horizon
+-- if the rows of the time do not refuse, it is at the front or later, and before the horizon
 pub first_row-times : (net : Net) (front at : ℕ) → first_row (time_rows net front at) ≡ Accepted
     → (front ≤ at) × (at < net.horizon)
 first_row-times net front at h =
@@ -66,23 +66,23 @@ first_row-times net front at h =
 
 -- ---- EachRow
 
--- what holds of the refusal of each row, where its condition holds
+-- a property of the refusal of each row, if its condition holds
 abbrev pub EachRow : (Reply → Type 0) → List (Option Reply) → Type 0
 EachRow P [] = Unit {0}
 EachRow P (o ∷ os) = IfSome o (λ r. P r) × EachRow P os
 
--- holds of the first whose condition holds, where it holds of Accepted
+-- holds of the first whose condition holds, if it holds of Accepted
 pub first_row-each : (P : Reply → Type 0) (os : List (Option Reply)) → P Accepted → EachRow P os → P (first_row os)
 first_row-each P [] none h = none
 first_row-each P (Some r ∷ os) none h = h.0
 first_row-each P (None ∷ os) none h = first_row-each P os none h.1
 
--- what holds of a refusal holds of its row
+-- a property of a refusal holds of its row
 pub row-each : (P : Reply → Type 0) (b : Bool) (r : Reply) → P r → IfSome (row b r) (λ q. P q)
 row-each P true r h = h
 row-each P false r h = tt
 
--- what holds of the refusals of the rows of a clone, where the front is this
+-- a property of the refusals of the rows of a clone, at this front
 pub record OfClone (P : Reply → Type 0) (front : ℕ) : Type 0 where
   pub unknown_clone : P UnknownClone
   pub ended : (at : ℕ) → P (Ended at)
@@ -139,7 +139,7 @@ module _ (P : Reply → Type 0) (s : Situation) (of : OfClone P s.front) where
 
 -- ---- IsOpen
 
--- what an accepted decision found
+-- the findings of an accepted decision
 pub record IsOpen (j : Situation) (d : Decision) : Type 0 where
   pub few : nat_le MOST_CALLS j.calls ≡ false
   pub running : (j.front == j.net.horizon) ≡ false
@@ -156,7 +156,7 @@ not_full h = cc
 not_closed : Closed ≡ Accepted → ⊥
 not_closed h = cc
 
--- where no row from the clone on refuses, the decision finds all that it needs
+-- if no row from the clone on refuses, the decision finds all that it needs
 open_clone : (j : Situation) (d : Decision) → nat_le MOST_CALLS j.calls ≡ false → (j.front == j.net.horizon) ≡ false
     → (o : Option ℕ) → place_of (subject d) j.clones ≡ o → first_row (clone_rows j d o) ≡ Accepted → IsOpen j d
 open_clone j d few running None e h = absurd cc

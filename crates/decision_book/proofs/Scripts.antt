@@ -1,4 +1,4 @@
--- The decisions of a script, one after the other.
+-- The decisions of a script, one after another.
 use Rattle.std.proofs.Common.{◌≡◌, ℕ, ◌+◌, List, [], ◌∷◌, ◌++◌, length, map}
 use Rattle.std.proofs.Common.{fold, Option, Some, None, refl, ap, ◌∙◌, arith}
 use Rattle.std.proofs.lemmas.List.Sums.{fold_push}
@@ -32,11 +32,11 @@ after-with_reply net es caller d r =
     fold_push after_event (outset net) es
     (NewCall (record { caller = caller; fronts = length (fronts_of es); decision = d; reply = r }))
 
--- asking a decision leads to the next situation, whoever asks
+-- asking for a decision leads to the next situation, for every caller
 pub asking_is_after_decision : (net : Net) → AskingIsAfterDecision net
 asking_is_after_decision net es caller d = after-with_reply net es caller d (reply (after net es) d)
 
--- after a journal the front is its last one, or 0, and the number of calls is how many it has
+-- after a journal the front is its last one, or 0, and the number of calls is that of the journal
 pub situation_of_journal : (net : Net) → SituationOfJournal net
 situation_of_journal net es = let none : 0 + length (calls_of es) ≡ length (calls_of es) = omega arith in
     situation_by_parts (outset net) es ∙ ap
@@ -84,12 +84,12 @@ pub after_decision-accepted : (s : Situation) (d : Decision) → reply s d ≡ A
     → after_decision s d ≡ record s { clones = clones_after s.net s.clones d; calls = s.calls + 1 }
 after_decision-accepted s d h = ap (by_reply s d) h
 
--- decisions leave the network as it is
+-- decisions do not change the network
 net_stays : (s : Situation) (ds : List Decision) → (after_all s ds).net ≡ s.net
 net_stays s [] = refl
 net_stays s (d ∷ ds) = net_stays (after_decision s d) ds
 
--- one decision more that is accepted does to the clones what it says
+-- one more accepted decision has its effect on the clones
 pub accepted_adds : (net : Net) → AcceptedAdds net
 accepted_adds net ds d h =
     let s = after_all (outset net) ds in
@@ -104,7 +104,7 @@ refusal_or-or : (place : ℕ) (r : Reply) (x y : Option (ℕ × Reply))
 refusal_or-or place Accepted x y = refl
 refusal_or-or place r x y = refl
 
--- the first refusal, where the first decision has this place
+-- the first refusal, if the first decision has this place
 refused_first_from : (s : Situation) (place : ℕ) (ds more : List Decision)
     → first_refusal_from s place (ds ++ more) ≡ option_or (first_refusal_from s place ds)
     (first_refusal_from (after_all s ds) (place + length ds) more)
@@ -125,7 +125,7 @@ refused_first net ds more =
     refused_first_from (outset net) 0 ds more
     ∙ ap (λ p. option_or (first_refusal net ds) (first_refusal_from (after_all (outset net) ds) p more)) none
 
--- where none is refused, the first is accepted and none of the others is refused
+-- if none is refused, the first is accepted and none of the others is refused
 pub accepted_first : (place : ℕ) (r : Reply) (later : Option (ℕ × Reply)) → refusal_or place r later ≡ None
     → (r ≡ Accepted) × (later ≡ None)
 accepted_first place Accepted later h = (refl, h)
@@ -137,18 +137,18 @@ refusal_or-refusal : (place : ℕ) (r : Reply) (later : Option (ℕ × Reply)) �
 refusal_or-refusal place Accepted later other = absurd (other refl)
 refusal_or-refusal place r later other = refl
 
--- where none is refused, the first refusal is among the others
+-- if none is refused, the first refusal is among the others
 first_refusal-none : (net : Net) (ds more : List Decision) → first_refusal net ds ≡ None
     → first_refusal net (ds ++ more) ≡ first_refusal_from (after_all (outset net) ds) (length ds) more
 first_refusal-none net ds more none = refused_first net ds more
     ∙ ap (λ o. option_or o (first_refusal_from (after_all (outset net) ds) (length ds) more)) none
 
--- where none is refused, one more that is accepted leaves none refused
+-- if none is refused, one more accepted decision leaves none refused
 pub accepted_leaves_no_refusal : (net : Net) → AcceptedLeavesNoRefusal net
 accepted_leaves_no_refusal net ds d none accepted = first_refusal-none net ds (d ∷ []) none
     ∙ ap (λ r. refusal_or (length ds) r None) accepted
 
--- and one more that is refused is the first refusal, whatever comes after it
+-- and one more that is refused is the first refusal, independent of the decisions after it
 pub refused_is_first : (net : Net) → RefusedIsFirst net
 refused_is_first net ds d more none other =
     let s = after_all (outset net) ds in

@@ -1,4 +1,4 @@
--- What contracts see of a book, and what a book keeps.
+-- The view of a book in contracts, and its invariant.
 use Rattle.std.specs.Prelude.{◌≡◌, ◌≢◌, ℕ, ◌-◌, ◌≤◌, Option, MatchOption, List, [], ◌∷◌, ◌++◌, length, map, take, drop}
 use Rattle.sim_base.specs.Reserved.{ReservedView}
 use Rattle.sim_base.specs.Clones.{Clone, ListsView}
@@ -14,13 +14,12 @@ use Rattle.decision_book.specs.Journal.{Event, NewFront, NewCall, after, call_of
 use Rattle.decision_book.specs.Right.{IsRight}
 use Rattle.decision_book.specs.Plans.{ArePlanned}
 
--- what contracts see of a book: the network and the journal
+-- the view of a book in contracts: the network and the journal
 pub record BookView : Type 0 where
   pub net : Net
   pub events : List Event
 
--- the journal of these calls and fronts, where so many fronts stood before it; each call says how many stood before
--- the call
+-- the journal of these calls and fronts, with n fronts before it; each call has its number of fronts before
 abbrev pub journal_from : ℕ → List Call → List ℕ → List Event
 journal_from n [] fronts = map NewFront fronts
 journal_from n (c ∷ cs) fronts =
@@ -30,7 +29,7 @@ journal_from n (c ∷ cs) fronts =
 abbrev pub journal_of : List Call → List ℕ → List Event
 journal_of calls fronts = journal_from 0 calls fronts
 
--- each call stands behind no fewer fronts than the one before, and than n, and behind no more than there are
+-- each call has at least as many fronts before it as the call before, and as n, and at most `all`
 abbrev pub AreInOrder : ℕ → ℕ → List Call → Type 0
 AreInOrder n all [] = n ≤ all
 AreInOrder n all (c ∷ cs) = (n ≤ c.fronts) × AreInOrder c.fronts all cs
@@ -41,8 +40,8 @@ pub record AreBookLists (net : Net) (lists : ListsView) : Type 0 where
   pub reserved_clones : lists.reserved_clones ≡ MOST_CLONES
   pub reserved_plans : lists.reserved_plans ≡ MOST_DECISIONS
 
--- a decision on such lists had the reply of this row of the table; they have the new clones where it was accepted, are
--- else as they were, and are planned
+-- a decision on such lists had the reply of this row of the table. They have the new clones if it was accepted, are
+-- otherwise unchanged, and are planned
 pub record HasReply (net : Net) (row : Reply) (new : List Clone) (reply : Reply) (old lists : ListsView) : Type 0 where
   pub reply_is : reply ≡ row
   pub lists_are : lists ≡ record old { clones = if_accepted reply new old.clones }
@@ -66,13 +65,13 @@ pub record IsBook (net : Net) (lists : ListsView) (calls : ReservedView Call) (f
   pub lists_are : AreBookLists net lists
   pub reserved_calls : calls.reserved ≡ MOST_CALLS
 
--- the call of a decision with this reply, and the book, whose last entry it is
+-- the call of a decision with this reply, and the book whose last entry it is
 pub record IsEntry (old : BookView) (caller : ℕ) (d : Decision) (reply : Reply) (call : Call) (new : BookView) :
     Type 0 where
   pub call_is : call ≡ call_of caller old.events d reply
   pub new_is : new ≡ record old { events = old.events ++ NewCall call ∷ [] }
 
--- the call is the last entry of the journal; or the reply is Full, there is no call, and the book stays as it was
+-- the call is the last entry of the journal; or the reply is Full, there is no call, and the book does not change
 abbrev pub IsCallUnlessFull : BookView → ℕ → Decision → Reply → Option Call → BookView → Type 0
 IsCallUnlessFull old caller d reply given new = MatchOption given
     ((reply ≡ Full) × (new ≡ old)) (λ call. (reply ≢ Full) × IsEntry old caller d reply call new)

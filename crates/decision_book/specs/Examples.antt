@@ -22,7 +22,7 @@ faster who at = Set who at (codes "desk") (record { param = Service; a = 2; b = 
 abbrev pub roomier : List ℕ → ℕ → Decision
 roomier who at = Set who at (codes "desk") (record { param = Room; a = 9; b = 0 })
 
--- a call by a caller, so many fronts before it, and its reply
+-- a call by a caller, with this number of fronts before it, and its reply
 abbrev pub call : ℕ → ℕ → Decision → Reply → Event
 call caller fronts d reply = NewCall (record { caller = caller; fronts = fronts; decision = d; reply = reply })
 
@@ -36,11 +36,11 @@ raised_to front =
     ∷ NewFront front ∷ NewFront 15 ∷ NewFront 17 ∷ NewFront 20
     ∷ call 1 7 (branch (codes "x")) Closed ∷ []
 
--- the set waits at 10 and the lookahead is 2, so the front behind 10 is 12
+-- a set is pending at 10 and the lookahead is 2, so the front after 10 is 12
 abbrev pub during_a_run : List Event
 during_a_run = raised_to 12
 
--- the clones that this leaves
+-- the resulting clones
 abbrev pub clones_of_the_run : List Clone
 clones_of_the_run = base ∷ record { name = codes "fast"; plans = set_at 10 desk Service 2 2 ∷ []; end = None } ∷ []
 
@@ -48,7 +48,7 @@ clones_of_the_run = base ∷ record { name = codes "fast"; plans = set_at 10 des
 abbrev pub late_set_accepted : List Event
 late_set_accepted = NewFront 10 ∷ call 1 1 (faster (codes "base") 9) Accepted ∷ []
 
--- a fork takes over a set that is not due yet, and the two go separate ways from there
+-- a fork inherits a set that is not due yet, and then the two diverge
 abbrev pub script : List Decision
 script =
     faster (codes "base") 15
@@ -58,14 +58,14 @@ script =
     ∷ roomier (codes "b") 8
     ∷ End (codes "a") 19 ∷ []
 
--- the clones that this script leaves, with their lists and the end of a
+-- the resulting clones, with their lists and the end of a
 abbrev pub clones_of_the_script : List Clone
 clones_of_the_script =
     record { name = codes "base"; plans = set_at 15 desk Service 2 2 ∷ []; end = None }
     ∷ record { name = codes "a"; plans = set_at 15 desk Service 2 2 ∷ set_at 8 desk Room 9 0 ∷ []; end = Some 19 }
     ∷ record { name = codes "b"; plans = set_at 15 desk Service 2 2 ∷ set_at 8 desk Room 9 0 ∷ []; end = None } ∷ []
 
--- those that reach b
+-- the decisions that reach b
 abbrev pub script_of_b : List Decision
 script_of_b = faster (codes "base") 15 ∷ branch (codes "b") ∷ roomier (codes "b") 8 ∷ []
 

@@ -27,17 +27,17 @@ fronts_of [] = []
 fronts_of (NewFront f ∷ es) = f ∷ fronts_of es
 fronts_of (NewCall c ∷ es) = fronts_of es
 
--- the last front of a journal, or this one where it has none
+-- the last front of a journal, or this one if it has none
 abbrev pub front_from : ℕ → List Event → ℕ
 front_from f [] = f
 front_from f (NewFront g ∷ es) = front_from g es
 front_from f (NewCall c ∷ es) = front_from f es
 
--- the last front of a journal, or 0 where it has none
+-- the last front of a journal, or 0 if it has none
 abbrev pub front_of : List Event → ℕ
 front_of events = front_from 0 events
 
--- what a reply depends on: the network, the clones with their lists, the front, and how many calls there were
+-- the data that a reply depends on: the network, the clones with their lists, the front, and the number of calls
 pub record Situation : Type 0 where
   pub net : Net
   pub clones : List Clone
@@ -48,23 +48,23 @@ pub record Situation : Type 0 where
 abbrev pub outset : Net → Situation
 outset net = record { net = net; clones = base ∷ []; front = 0; calls = 0 }
 
--- the place of the clone of a name (0 where there is none)
+-- the place of the clone with this name (0 if there is none)
 abbrev pub clone_place : List ℕ → List Clone → ℕ
 clone_place name clones = unwrap_or (place_of name clones) 0
 
--- what a set adds to a decision list
+-- the plan that a set adds to a decision list
 abbrev pub plan_of_set : Net → ℕ → List ℕ → Change → Planned
 plan_of_set net at station change =
     record { at = at; station = unwrap_or (station_named station net) 0; change = change }
 
--- what an accepted decision makes of the clones
+-- the clones after an accepted decision
 abbrev pub clones_after : Net → List Clone → Decision → List Clone
 clones_after net clones (Fork new old) = clones_with_fork clones new (clone_place old clones)
 clones_after net clones (Set who at station change) =
     clones_with_plan clones (clone_place who clones) (plan_of_set net at station change)
 clones_after net clones (End who at) = clones_with_end clones (clone_place who clones) at
 
--- the new clones where a decision is accepted: a refusal leaves them as they are
+-- the new clones if a decision is accepted; a refusal does not change them
 abbrev pub if_accepted : Reply → List Clone → List Clone → List Clone
 if_accepted Accepted new old = new
 if_accepted refusal new old = old
@@ -73,7 +73,7 @@ if_accepted refusal new old = old
 abbrev pub clones_after_reply : Net → List Clone → Decision → Reply → List Clone
 clones_after_reply net clones d reply = if_accepted reply (clones_after net clones d) clones
 
--- the situation after one event more
+-- the situation after one more event
 abbrev pub after_event : Situation → Event → Situation
 after_event s (NewFront f) = record s { front = f }
 after_event s (NewCall call) = record s {
@@ -85,12 +85,12 @@ after_event s (NewCall call) = record s {
 abbrev pub after : Net → List Event → Situation
 after net events = fold after_event (outset net) events
 
--- the call of a decision that had this reply behind these events
+-- the call of a decision that had this reply after these events
 abbrev pub call_of : ℕ → List Event → Decision → Reply → Call
 call_of caller events d reply =
     record { caller = caller; fronts = length (fronts_of events); decision = d; reply = reply }
 
--- the journal after a decision was asked and had this reply: Full leaves it as it was
+-- the journal after a decision had this reply; Full does not change it
 abbrev pub with_reply : List Event → ℕ → Decision → Reply → List Event
 with_reply events caller d Full = events
 with_reply events caller d reply = events ++ NewCall (call_of caller events d reply) ∷ []

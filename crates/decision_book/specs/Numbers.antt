@@ -1,11 +1,11 @@
--- The numbers of the refusals. They are not in the order of the table: Ended came last.
+-- The numbers of the refusals. They are not in the order of the table: Ended was added last.
 use Rattle.std.specs.Prelude.{ℕ}
 use Rattle.decision_book.specs.declared.call.Reply.{Reply}
 use Rattle.decision_book.specs.declared.call.Reply.TheVariants.{Accepted, Full, Closed, UnknownClone, Ended, NameTaken}
 use Rattle.decision_book.specs.declared.call.Reply.TheVariants.{TooManyClones, UnknownStation, WrongParameter}
 use Rattle.decision_book.specs.declared.call.Reply.TheVariants.{OutOfRange, ListFull, PastHorizon, Late}
 
--- the number of a refusal; 0 where there is none
+-- the number of a refusal; 0 for Accepted
 abbrev pub reply_number : Reply → ℕ
 reply_number Accepted = 0
 reply_number Full = 1

@@ -1,4 +1,4 @@
--- What holds of the decision lists of a right journal.
+-- Properties of the decision lists of a right journal.
 use Rattle.std.specs.Prelude.{◌≡◌, ◌<◌, ◌≤◌, List, length, true, IfSome}
 use Rattle.std.specs.List.{AllByRecursion}
 use Rattle.sim_base.specs.declared.decision.Planned.{Planned}
@@ -7,19 +7,19 @@ use Rattle.sim_base.specs.Clones.{Clone}
 use Rattle.net_model.specs.Net.{Net, HasStation, site_of}
 use Rattle.stations.specs.Changes.{is_accepted}
 
--- a decision of a list: at a time before the horizon, for a station that is there, a change that it takes
+-- a decision of a list: at a time before the horizon, for an existing station, a change that it accepts
 pub record IsPlan (net : Net) (plan : Planned) : Type 0 where
   pub early : plan.at < net.horizon
   pub is_station : HasStation net plan.station
   pub taken : is_accepted (site_of net plan.station) plan.change ≡ true
 
--- a clone with such decisions, of which there are not too many, and with an end before the horizon if it has one
+-- a clone with such decisions, at most MOST_DECISIONS, and with an end before the horizon if it has one
 pub record IsPlanned (net : Net) (clone : Clone) : Type 0 where
   pub plans : AllByRecursion (IsPlan net) clone.plans
   pub short : length clone.plans ≤ MOST_DECISIONS
   pub end : IfSome clone.end (λ at. at < net.horizon)
 
--- such clones, of which there are not too many
+-- such clones, at most MOST_CLONES
 pub record ArePlanned (net : Net) (clones : List Clone) : Type 0 where
   pub few : length clones ≤ MOST_CLONES
   pub each : AllByRecursion (IsPlanned net) clones

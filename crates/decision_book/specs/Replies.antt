@@ -18,7 +18,7 @@ use Rattle.sim_base.specs.Decisions.{subject}
 use Rattle.decision_book.specs.declared.call.TheConstants.{MOST_CALLS}
 use Rattle.decision_book.specs.Journal.{Situation}
 
--- a row: the refusal, where its condition holds
+-- a row: the refusal, if its condition holds
 abbrev pub row : Bool → Reply → Option Reply
 row true reply = Some reply
 row false reply = None
@@ -65,7 +65,7 @@ rows s clone (Fork new old) = fork_rows s.clones new
 rows s clone (Set who at station change) = set_rows s.net s.clones s.front clone at station change
 rows s clone (End who at) = time_rows s.net s.front at
 
--- the rows of a decision, where the clone that it starts from has this place, if any
+-- the rows of a decision, if the clone that it is about has this place
 abbrev pub clone_rows : Situation → Decision → Option ℕ → List (Option Reply)
 clone_rows s d None = Some UnknownClone ∷ []
 clone_rows s d (Some clone) = option_map (λ at. Ended at) (clone_at s.clones clone).end ∷ rows s clone d

@@ -1,4 +1,4 @@
-//! The book: the journal of decisions and fronts, and the lists that it leaves.
+//! The book: the journal of decisions and fronts, and the resulting lists.
 ghost use Rattle.std.specs.Prelude.{◌≡◌};
 ghost use Rattle.decision_book.specs.Journal.{is_full as is_full'};
 
@@ -49,9 +49,9 @@ impl Book {
     ghost use Rattle.decision_book.specs.Plans.{ArePlanned};
     ghost use Rattle.decision_book.specs.Scripts.{after_decision};
 
-    /// No calls and no fronts: the base clone alone, at front 0.
+    /// A book with no calls and no fronts: the base clone alone, at front 0.
     ///
-    /// Reserves the memory of all calls, clones and decisions, so that `decide` takes none.
+    /// Reserves the memory of all calls, clones and decisions, so that `decide` allocates nothing.
     pub fn begin(alloc: Global, model: Arc<Model>) -> Result<Book, NoMemory>
         ensures value { IfOk result (λ book. book ≡ record { net = model.value; events = [] }) }
     {
@@ -68,20 +68,21 @@ impl Book {
         })
     }
 
-    /// The reply to a decision, which is in the journal from now on, unless it is Full. Takes no memory.
+    /// Makes a decision and returns the reply. The call is added to the journal, unless the reply is Full. Allocates
+    /// nothing.
     #[tactic(auto, using(crate::proofs::Scripts::asking_is_after_decision))]
     pub fn decide(&mut self, caller: u32, d: Decision) -> Reply
         // the reply of the table
         ensures reply { result ≡ reply (after self.old.net self.old.events) d }
-        // the journal has the call, unless it was full
+        // the journal has the call, unless the journal was full
         ensures journal { self.new ≡ record self.old {
           events = journal_with self.old.net self.old.events caller d;
         } }
-        // and the situation is the one that the decision leads to
+        // and the situation is the one after the decision
         ensures next { after self.old.net self.new.events ≡ after_decision (after self.old.net self.old.events) d }
-        // it is Full exactly where the journal holds as many calls as it may
+        // it is Full exactly if the journal holds as many calls as it may
         ensures full { (result ≡ Full) ↔ (MOST_CALLS ≤ length (calls_of self.old.events)) }
-        // and else the call is the last entry
+        // otherwise the call is the last entry
         ensures entry { result ≢ Full →
             self.new.events ≡ self.old.events ++ NewCall (call_of caller self.old.events d result) ∷ [] }
     {
@@ -101,8 +102,8 @@ impl Book {
         reply
     }
 
-    /// The reply to a decision, and the call that is the last entry of the journal from now on: none
-    /// where the reply is Full. Takes no memory.
+    /// Makes a decision and returns the reply and the call, which is now the last entry of the journal. There is no
+    /// call if the reply is Full. Allocates nothing.
     pub fn ask(&mut self, caller: u32, d: &Decision) -> (Reply, Option<Call>)
         ensures reply { result.0 ≡ reply (after self.old.net self.old.events) d.now }
         ensures call { IsCallUnlessFull self.old caller d.now result.0 result.1 self.new }
@@ -122,7 +123,7 @@ impl Book {
         (reply, Some(call))
     }
 
-    /// Raises the front; out of memory leaves all unchanged.
+    /// Raises the front. If out of memory, changes nothing.
     pub fn advance(&mut self, front: u64) -> Result<(), NoMemory>
         requires above { (after self.old.net self.old.events).front < front }
         requires within { front ≤ self.old.net.horizon }
@@ -152,7 +153,7 @@ impl Book {
         self.front
     }
 
-    /// The clones with their lists and ends, as the accepted decisions leave them.
+    /// The clones with their lists and ends, as they result from the accepted decisions.
     pub fn lists(&self) -> &Lists
         ensures value { result.now.clones ≡ (after self.now.net self.now.events).clones }
         ensures planned { ArePlanned self.now.net result.now.clones }
@@ -163,7 +164,7 @@ impl Book {
     /// The calls, in order.
     pub fn calls(&self) -> &[Call]
         ensures value { result.now ≡ calls_of self.now.events }
-        // the journal is the calls and the fronts put together
+        // the journal is the calls and the fronts merged
         ensures whole { self.now.events ≡ journal_of (calls_of self.now.events) (fronts_of self.now.events) }
     {
         self.calls.as_slice()

@@ -5,7 +5,7 @@ ghost use Rattle.decision_book.specs.Numbers.{reply_number};
 
 use sim_base::Decision;
 
-/// How many calls a journal holds: as many as a script may have items, so a script alone is never answered `Full`.
+/// The most calls of a journal: as many as a script may have items, so a script alone never gets the reply `Full`.
 pub const MOST_CALLS: usize = decision_script::MOST_ITEMS;
 
 /// The reply to a decision: `Accepted`, or the first refusal whose condition holds, in this order.
@@ -13,26 +13,25 @@ pub const MOST_CALLS: usize = decision_script::MOST_ITEMS;
 pub enum Reply {
     /// No refusal holds.
     Accepted,
-    /// The journal holds [`MOST_CALLS`] calls. Such a call is left out of it.
+    /// The journal holds [`MOST_CALLS`] calls. Such a call is not added to it.
     Full,
     /// The front is the horizon.
     Closed,
-    /// The clone that is forked, set or ended is not there.
+    /// The clone that is forked, changed or ended does not exist.
     UnknownClone,
     /// That clone has an end.
     Ended { at: u64 },
-    /// A fork's new name is that of a clone.
+    /// The new name of a fork is the name of a clone.
     NameTaken,
-    /// A fork, and there are as many clones as there may be, [`MOST_CLONES`](sim_base::MOST_CLONES).
+    /// A fork, and there are already as many clones as allowed, [`MOST_CLONES`](sim_base::MOST_CLONES).
     TooManyClones,
-    /// A set, and the station is not there.
+    /// A set, and the station does not exist.
     UnknownStation,
     /// A set, and the station has no such parameter.
     WrongParameter,
     /// A set, and a value is out of the parameter's range.
     OutOfRange,
-    /// A set, and the clone's list holds as many decisions as it may,
-    /// [`MOST_DECISIONS`](sim_base::MOST_DECISIONS).
+    /// A set, and the clone's list is full: it holds [`MOST_DECISIONS`](sim_base::MOST_DECISIONS).
     ListFull,
     /// The time of a set or an end is the horizon or later.
     PastHorizon,
@@ -41,7 +40,7 @@ pub enum Reply {
 }
 
 impl Reply {
-    /// The number of the refusal, from 1 to 12, or 0 where there is none.
+    /// The number of the refusal, from 1 to 12, or 0 for `Accepted`.
     pub fn number(&self) -> u32
         ensures value { result ≡ reply_number self.now }
     {
@@ -63,15 +62,15 @@ impl Reply {
     }
 }
 
-/// A decision that was asked, and its reply.
+/// A decision that was asked for, and its reply.
 #[derive(Clone, Copy, Debug, PartialEq, Eq)]
 pub struct Call {
-    /// Who asked.
+    /// Number of the analyst who asked.
     pub caller: u32,
-    /// How many fronts stood before the call.
+    /// The number of fronts before the call.
     pub fronts: u32,
-    /// What was asked.
+    /// The decision.
     pub decision: Decision,
-    /// What the reply was; never `Full` for a call in a journal.
+    /// Its reply; never `Full` for a call in a journal.
     pub reply: Reply,
 }

@@ -1,7 +1,7 @@
 //! Worked examples, computed by the checker from the definitions alone.
 //!
-//! The decisions, and the clones that are expected, stand in `specs/Examples.antt`. Each function's
-//! contract is a theorem; there is nothing to run.
+//! The decisions and the expected clones are in `specs/Examples.antt`. Each function's contract is a theorem; there is
+//! nothing to run.
 ghost use Rattle.std.specs.Prelude.{◌≡◌, ◌∷◌, [], Some, None, codes};
 ghost use Rattle.sim_base.specs.declared.lists.TheConstants.{MOST_CLONES, MOST_DECISIONS};
 ghost use Rattle.stations.specs.Examples.OneDesk.{one_desk};
@@ -14,7 +14,7 @@ ghost use Rattle.decision_book.specs.Scripts.{lists_of, first_refusal};
 ghost use Rattle.decision_book.specs.declared.call.TheConstants.{MOST_CALLS};
 ghost use Rattle.decision_book.specs.declared.call.Reply.TheVariants.{UnknownClone};
 
-/// The limits of what a journal and its lists hold, in numbers.
+/// The limits of a journal and its lists, in numbers.
 pub fn limits_in_numbers()
     ensures clones { MOST_CLONES ≡ 256 }
     ensures decisions { MOST_DECISIONS ≡ 256 }
@@ -35,18 +35,18 @@ pub fn wrong_journals()
     ensures late { ¬ IsRight one_desk late_set_accepted }
 {}
 
-/// A fork takes over a set that is not due yet, and the clones go separate ways from there.
+/// A fork inherits a set that is not due yet, and then the clones diverge.
 pub fn lists_of_a_script()
     ensures accepted { first_refusal one_desk script ≡ None }
     ensures lists { lists_of one_desk script ≡ clones_of_the_script }
 {}
 
-/// What reaches a clone: its own decisions, and those of the clone that it branched off before it did.
+/// The decisions that reach a clone: its own, and its parent's before the fork.
 pub fn decisions_of_one_clone()
     ensures { alone (codes "b") script ≡ script_of_b }
 {}
 
-/// The first decision that is refused, by its place from 0, and its refusal.
+/// The first decision that is refused, by its index from 0, and its refusal.
 pub fn first_refusal()
     ensures { first_refusal one_desk refused_script ≡ Some (2, UnknownClone) }
 {}

@@ -1,6 +1,6 @@
 //! Laws of decisions: each function's contract is a law, and there is nothing to run.
 //!
-//! `specs/Laws.antt` has the laws in words.
+//! `specs/Laws.antt` states the laws.
 ghost use Rattle.net_model.specs.Net.{Net};
 ghost use Rattle.decision_book.specs.Laws.{SituationOfJournal, PlansAreForStations};
 ghost use Rattle.decision_book.specs.Laws.{AskingIsAfterDecision, SituationOfScript};
@@ -8,7 +8,7 @@ ghost use Rattle.decision_book.specs.Laws.{ScriptIsRight, AcceptedAdds, RefusedF
 ghost use Rattle.decision_book.specs.Laws.{AcceptedLeavesNoRefusal, RefusedIsFirst};
 ghost use Rattle.decision_book.specs.Laws.{AloneSuffices, OwnScriptSuffices, JournalIsScript, ClosedChangesNothing};
 
-/// The situation after a journal, and how a decision changes it.
+/// The situation after a journal, and the effect of a decision on it.
 #[tactic(auto, using(crate::proofs::Scripts::situation_of_journal, crate::proofs::Scripts::asking_is_after_decision))]
 pub fn situations_of_journals()
     ensures situation { (net : Net) → SituationOfJournal net }
@@ -31,19 +31,19 @@ pub fn scripts_are_decided()
     ensures first { (net : Net) → RefusedIsFirst net }
 {}
 
-/// A clone's own decisions give it the same list and the same end as all decisions of a script.
+/// A clone's own decisions lead to the same list and the same end as all decisions of a script.
 pub fn alone_suffices()
     ensures { (net : Net) → AloneSuffices net }
 {}
 
-/// A clone's own script gives it the same list and the same end as the whole script, where all
-/// decisions of that are accepted.
+/// A clone's own script leads to the same list and the same end as the whole script, if all decisions of that are
+/// accepted.
 pub fn own_script_suffices()
     ensures { (net : Net) → OwnScriptSuffices net }
 {}
 
-/// The accepted decisions of a right journal are a script that leaves the same clones, and calls at
-/// the horizon leave the clones as they are.
+/// The accepted decisions of a right journal are a script that leads to the same clones. Calls at the horizon do not
+/// change the clones.
 pub fn journals_are_scripts()
     ensures script { (net : Net) → JournalIsScript net }
     ensures closed { (net : Net) → ClosedChangesNothing net }

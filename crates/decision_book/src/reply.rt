@@ -1,4 +1,4 @@
-//! The reply to a decision, and what the decision does to the lists.
+//! The reply to a decision, and the effect of the decision on the lists.
 ghost use Rattle.std.specs.Prelude.{◌≡◌, ◌<◌, length};
 ghost use Rattle.sim_base.specs.Clones.{clone_at, clones_with_fork, clones_with_plan, clones_with_end};
 ghost use Rattle.decision_book.specs.Books.{AreBookLists, HasReply};
@@ -97,7 +97,7 @@ fn decide_set(
     reply
 }
 
-/// The reply of the table, and what the decision does to the lists.
+/// Returns the reply of the table, and carries the decision out on the lists.
 pub fn decide_by_table(
     model: &Model,
     lists: &mut Lists,
@@ -106,7 +106,7 @@ pub fn decide_by_table(
     d: &Decision,
 ) -> Reply
     requires lists { AreBookLists model.now lists.old }
-    // the first row of the whole table whose condition holds, and what it makes of the lists
+    // the first row of the whole table whose condition holds, and the lists after it
     ensures reply { HasReply model.now (reply_of (record {
       net = model.now;
       clones = lists.old.clones;

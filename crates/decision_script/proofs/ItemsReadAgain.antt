@@ -1,4 +1,4 @@
--- The sections and items of a canonical text are read line after line as those of the script.
+-- The sections and items of a canonical text are read line by line as those of the script.
 use Rattle.std.proofs.Common.{◌≡◌, ℕ, ◌+◌, ◌-◌, ◌<◌, ◌≤◌, ◌==◌, Bool, true, false, nat_lt}
 use Rattle.std.proofs.Common.{List, [], ◌∷◌, ◌++◌, length, map, refl, sym, ap, ◌∙◌, arith}
 use Rattle.std.proofs.Common.{cond, Ok, Some, None, Result, append_assoc, length-append, codes, append-nil}
@@ -21,14 +21,14 @@ use Rattle.decision_script.proofs.JoinedWords.{IsWord, line_saying-join, lines-t
 use Rattle.decision_script.specs.Lines.{lines}
 use Rattle.decision_script.proofs.Saying.{saying-act, saying-section, act_words, section_words}
 
--- no earlier name is named again, where these stand before them
+-- each name is new after these names and the earlier ones
 abbrev pub AreNew : List (List ℕ) → List (List ℕ) → Type 0
 AreNew before [] = Unit {0}
 AreNew before (name ∷ more) = IsName name × (analyst_place name before ≡ None) × AreNew (before ++ name ∷ []) more
 
 -- ---- after_line
 
--- a line that is written of words gives what the words say
+-- a line written from words has the meaning of the words
 after_words : (line : ℕ) (r : ReaderView) (ws : List (List ℕ)) → AllByRecursion IsWord ws
     → after_line line r (join_with_byte 32 ws) ≡ (at_line line (saying ws) >>= after_saying line r)
 unfolding after_line
@@ -103,7 +103,7 @@ pub record AreKnown (analysts : List (List ℕ)) : Type 0 where
   pub known : (a : ℕ) → IsAnalyst (length analysts) a → analyst_place (analyst_name analysts a) analysts ≡ Some (a - 1)
   pub named : (a : ℕ) → IsAnalyst (length analysts) a → IsName (analyst_name analysts a)
 
--- the line of an item is read, where its analyst is in force, and then those of the others
+-- the line of an item is read if its analyst is current, and then those of the others
 act_read : (line : ℕ) (r : ReaderView) (item : Item) (more : List Item) (rest : List (List ℕ)) → IsAct item.act
     → length r.items < MOST_ITEMS → r.current ≡ item.analyst
     → AreRead (record r { items = r.items ++ (record { line = line; analyst = r.current; act = item.act }) ∷ [] })
@@ -122,7 +122,7 @@ act_read line r item more rest h few same read = record {
       ∙ ap (λ a. map without_line r.items ++ ((a, item.act) ∷ map without_line more)) same;
 }
 
--- the lines of one item, where the analyst in force is its own or not
+-- the lines of one item, if the current analyst is its own or not
 item_read : (line force : ℕ) (r : ReaderView) (item : Item) (more : List Item) (rest : List (List (List ℕ)))
     → AreKnown r.analysts → r.current ≡ force → IsItem (length r.analysts) item → length r.items < MOST_ITEMS
     → ((n c : ℕ) → c ≡ item.analyst
@@ -146,7 +146,7 @@ item_read line force r item more rest known e h few go false other =
       items = read.items;
     }
 
--- the lines that are written of items are read as these items, but for the numbers of the lines
+-- the lines written from items are read as these items, except for the numbers of the lines
 items_read : (line force : ℕ) (r : ReaderView) (items : List Item) → AreKnown r.analysts → r.current ≡ force
     → AllByRecursion (IsItem (length r.analysts)) items → length r.items + length items ≤ MOST_ITEMS
     → AreRead r (after_lines line r (map (join_with_byte 32) (item_lines r.analysts force items) ++ ([] ∷ []))) items
@@ -166,7 +166,7 @@ items_read line force r (item ∷ items) known e h few =
     (omega (arith, length_push r.items (record { line = n; analyst = c; act = item.act })))))
     (item.analyst == force) refl
 
--- ---- what is written is all words
+-- ---- the written texts consist of words
 
 -- each section at the top
 header_words : (before more : List (List ℕ)) → AreNew before more
@@ -196,7 +196,7 @@ item_words analysts force (item ∷ items) known h =
 
 -- ---- canonical_text
 
--- the canonical text is read as the script, but for the numbers of the lines
+-- the canonical text is read as the script, except for the numbers of the lines
 pub text_read : (more : List (List ℕ)) (items : List Item) → AreNew (codes "main" ∷ []) more
     → AreKnown (codes "main" ∷ more) → length (codes "main" ∷ more) ≤ MOST_ANALYSTS → length items ≤ MOST_ITEMS
     → AllByRecursion (IsItem (length (codes "main" ∷ more))) items

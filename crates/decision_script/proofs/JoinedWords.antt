@@ -1,5 +1,4 @@
--- Words that are joined by spaces are these words again, and lines that are written one after the other are these
--- lines.
+-- Words that are joined by spaces are read as these words, and lines written one after another as these lines.
 use Rattle.std.proofs.Common.{◌≡◌, ℕ, ◌&&◌, Bool, true, false, nat_le, List, [], ◌∷◌, ◌++◌, length, map, filter, refl}
 use Rattle.std.proofs.Common.{ap, ◌∙◌, arith, cond, nat_lt, nat_eq, slice_index, zero, suc, append_assoc, ◌-◌}
 use Rattle.std.specs.List.{slice_split, onto_first, join_with_byte, list_all, AllByRecursion, flat_map}
@@ -19,7 +18,7 @@ use Rattle.decision_script.specs.Printing.{line_text}
 abbrev pub is_letter : ℕ → Bool
 is_letter b = nat_le 33 b && nat_le b 126
 
--- what is written as a word
+-- text that is written as a word
 pub record IsWord (word : List ℕ) : Type 0 where
   pub some : has_bytes word ≡ true
   pub letters : list_all is_letter word ≡ true
@@ -29,13 +28,13 @@ pub record IsWord (word : List ℕ) : Type 0 where
 abbrev pub is_printed : ℕ → Bool
 is_printed b = nat_le 32 b && nat_le b 126
 
--- where q holds, p does not
+-- if q holds, p does not
 abbrev pub Excludes : (ℕ → Bool) → (ℕ → Bool) → Type 0
 Excludes q p = (b : ℕ) → q b ≡ true → p b ≡ false
 
 -- ---- slice_split
 
--- a split cuts off the bytes before the first separator as a part, and goes on behind it
+-- a split cuts off the bytes before the first separator as a part, and continues after it
 pub split_at : (q p : ℕ → Bool) (word rest : List ℕ) (y : ℕ) → Excludes q p → list_all q word ≡ true → p y ≡ true
     → slice_split p (word ++ (y ∷ rest)) ≡ word ∷ slice_split p rest
 split_at q p [] rest y passes h stop = slice_split-cons_yes p y rest stop
@@ -79,7 +78,7 @@ words-join (w ∷ v ∷ ws) h =
 
 -- ---- list_all
 
--- where one test passes only what another passes, so it is with all elements
+-- if one test is stronger than another, so it is with all elements
 pub list_all-weaker : {X : Type 0} (p q : X → Bool) → ((x : X) → p x ≡ true → q x ≡ true) → (xs : List X)
     → list_all p xs ≡ true → list_all q xs ≡ true
 list_all-weaker p q passes [] h = refl
@@ -126,7 +125,7 @@ strip-printed bs h = rw (printed_at bs (length bs - 1) h) refl
 
 -- ---- line_saying and lines
 
--- a line of words that are joined by spaces says what the words say
+-- a line of words that are joined by spaces has the meaning of the words
 pub line_saying-join : (ws : List (List ℕ)) → AllByRecursion IsWord ws → line_saying (join_with_byte 32 ws) ≡ saying ws
 line_saying-join ws h = rw (printed_is_ascii (join_with_byte 32 ws) (printed_join ws h), words-join ws h) refl
 

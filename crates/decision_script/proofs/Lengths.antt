@@ -1,4 +1,4 @@
--- How long a canonical text is.
+-- The length of a canonical text.
 use Rattle.std.proofs.Common.{ℕ, ◌+◌, ◌*◌, ◌≤◌, ◌==◌, Bool, true, false, cond}
 use Rattle.std.proofs.Common.{List, [], ◌∷◌, ◌++◌, length, map, arith, length-append}
 use Rattle.std.specs.List.{AllByRecursion, flat_map, join_with_byte}
@@ -21,7 +21,7 @@ use Rattle.decision_script.proofs.JoinedWords.{IsWord}
 
 -- ---- join_with_byte and line_text
 
--- words of at most `LONGEST_NAME` bytes, and a byte behind each
+-- words of at most `LONGEST_NAME` bytes, each followed by one byte
 joined_length : (ws : List (List ℕ)) → AllByRecursion IsWord ws → length (join_with_byte 32 ws) ≤ 17 * length ws
 joined_length [] h = omega arith
 joined_length (w ∷ []) h = let short = h.0.short in grind (arith, nat_tests)

@@ -17,7 +17,7 @@ use Rattle.decision_script.proofs.ItemsReadAgain.{AreNew, AreKnown}
 
 -- ---- analyst_place
 
--- a name behind others has no place among them
+-- a name after others has no place among them
 analyst_place-None : (before : List (List ℕ)) (name : List ℕ) (more : List (List ℕ))
     → AreDistinct (before ++ name ∷ more) → analyst_place name before ≡ None
 analyst_place-None before name more h =
@@ -32,7 +32,7 @@ analyst_place-None before name more h =
 
 -- ---- AreNew and AreKnown
 
--- where all names are distinct, none of the later ones is named before itself
+-- if all names are distinct, the later ones are new
 pub are_new : (before more : List (List ℕ)) → AreDistinct (before ++ more) → All IsName more → AreNew before more
 are_new before [] h named = tt
 are_new before (name ∷ more) h named = (

@@ -1,4 +1,4 @@
--- What is written of a number is read as that number.
+-- The text of a number is read as that number.
 use Rattle.std.proofs.Common.{◌≡◌, ℕ, ◌<◌, ◌≤◌, ◌^◌, ◌⊎◌, inl, inr, true, List, []}
 use Rattle.std.proofs.Common.{◌∷◌, length, get_or, refl, ap, arith, zero, suc, Ok, Some, decimal}
 use Rattle.std.specs.List.{list_all}
@@ -41,7 +41,7 @@ has_number_form-digits (d ∷ e ∷ ds) all some first =
     let lead : 48 < d = elim first [ inl h ↦ absurd (omega arith) | inr h ↦ h ] in
     grind (arith, nat_tests)
 
--- what is written of a number below 2 ^ 64 has the form of a number
+-- the text of a number below 2 ^ 64 has the form of a number
 has_number_form-decimal : (n : ℕ) → n < 2 ^ 64 → has_number_form (decimal n) ≡ true
 has_number_form-decimal zero h =
     has_number_form-digits (decimal 0) (digits_decimal digit_numerals 0 h) (decimal_nonempty 0 h)
@@ -52,7 +52,7 @@ has_number_form-decimal (suc n) h =
 
 -- ---- number and word_number
 
--- what is written of a number that a script may have is read as that number
+-- the text of a number that a script may have is read as that number
 number-decimal : (n : ℕ) → n ≤ MOST_NUMBER → number (decimal n) ≡ Some n
 number-decimal n h =
     let wide : n < 2 ^ 64 = omega arith in
@@ -61,7 +61,7 @@ number-decimal n h =
     let short : length (decimal n) ≤ 10 = length-decimal-le 10 n (omega arith) (omega arith) wide in
     rw (form, value) (grind (arith, nat_tests))
 
--- and it is so where it is a word of a line
+-- and it is so if it is a word of a line
 pub word_number-decimal : (n : ℕ) → n ≤ MOST_NUMBER → word_number (decimal n) ≡ Ok n
 word_number-decimal n h = ap (λ o. ok_or o BadNumber) (number-decimal n h)
 
@@ -71,7 +71,7 @@ word_number-decimal n h = ap (λ o. ok_or o BadNumber) (number-decimal n h)
 digit_is_letter : (d : ℕ) → is_digit d ≡ true → is_letter d ≡ true
 digit_is_letter d h = grind (arith, nat_tests)
 
--- what is written of a number below 2 ^ 32 is a word
+-- the text of a number below 2 ^ 32 is a word
 pub decimal_is_word : (n : ℕ) → n < 2 ^ 32 → IsWord (decimal n)
 decimal_is_word n h =
     let wide : n < 2 ^ 64 = omega arith in

@@ -1,4 +1,4 @@
--- One line more of a text.
+-- One more line of a text.
 use Rattle.std.proofs.Common.{◌≡◌, ℕ, ◌+◌, ◌<◌, List, [], length, drop, get_or, Result, Ok, Err, sym, ap, ◌∙◌, arith}
 use Rattle.std.specs.List.{slice_split}
 use Rattle.std.specs.Str.Lines.{strip_carriage_return}
@@ -15,7 +15,7 @@ pub record IsPart (text : List ℕ) (n : ℕ) (part : List ℕ) : Type 0 where
   pub within : n < length (slice_split is_newline text)
   pub at : part ≡ get_or (slice_split is_newline text) n part
 
--- what the lines from a part on give is what those after it give from where its line leads
+-- the result of the lines from a part on is that of those after it, from the state after its line
 after_lines-drop : (text : List ℕ) (n : ℕ) (part : List ℕ) → IsPart text n part → (r : ReaderView)
     → after_lines (n + 1) r (drop n (lines text)) ≡ (after_line (n + 1) r (strip_carriage_return part) >>= λ next.
     after_lines (n + 1 + 1) next (drop (n + 1) (lines text)))
@@ -28,7 +28,7 @@ after_lines-drop text n part h r =
     at_drop_more (after_lines (n + 1) r) (lines text) n (strip_carriage_return part) within
     ∙ ap (λ l. after_line (n + 1) r l >>= λ next. after_lines (n + 1 + 1) next (drop (n + 1) (lines text))) at
 
--- where a line is read, what all lines from it on give is what those after it give from there
+-- if a line is read, the result of all lines from it on is that of those after it, from there
 pub line_read : (text : List ℕ) (n : ℕ) (part : List ℕ) → IsPart text n part
     → (r next : ReaderView) (all : Result ReaderView ScriptFault)
     → after_lines (n + 1) r (drop n (lines text)) ≡ all → after_line (n + 1) r (strip_carriage_return part) ≡ Ok next
@@ -37,7 +37,7 @@ line_read text n part h r next all same read =
     ap (λ x. x >>= λ next. after_lines (n + 1 + 1) next (drop (n + 1) (lines text))) (sym read)
     ∙ sym (after_lines-drop text n part h r) ∙ same
 
--- where a line is refused, all lines from it on give this refusal
+-- if a line is refused, the result of all lines from it on is this refusal
 pub line_refused : (text : List ℕ) (n : ℕ) (part : List ℕ) → IsPart text n part
     → (r : ReaderView) (e : ScriptFault) (all : Result ReaderView ScriptFault)
     → after_lines (n + 1) r (drop n (lines text)) ≡ all → after_line (n + 1) r (strip_carriage_return part) ≡ Err e
@@ -45,7 +45,7 @@ pub line_refused : (text : List ℕ) (n : ℕ) (part : List ℕ) → IsPart text
 line_refused text n part h r e all same refused = sym same ∙ after_lines-drop text n part h r
     ∙ ap (λ x. x >>= λ next. after_lines (n + 1 + 1) next (drop (n + 1) (lines text))) refused
 
--- where no line is left, the rest gives the reading as it is
+-- if no line is left, the rest does not change the reading
 pub lines_read : (text : List ℕ) (n : ℕ) (r : ReaderView) (all : Result ReaderView ScriptFault)
     → n ≡ length (slice_split is_newline text) → after_lines (n + 1) r (drop n (lines text)) ≡ all → all ≡ Ok r
 unfolding after_lines

@@ -24,7 +24,7 @@ history_if-agree true item d target items own is h =
     record { target = refl; list = ap (λ a. decisions_onto a (decisions items.1)) is ∙ ap (λ ds. d ∷ ds) h.list }
 history_if-agree false item d target items own is h = h
 
--- and by what the analyst of an item does
+-- and by the act of an item
 act_history-agree : (item : Item) (act : Act) (items : List ℕ × List Item) (who : List ℕ) (ds : List Decision)
     → item.act ≡ act → Agree items (history who ds)
     → Agree (act_history item act items) (history who (decisions_onto act ds))

@@ -34,14 +34,14 @@ history_all items who n history end same =
     same ∙ ap (λ xs. item_history who (reverse xs)) (take_all n (reverse items) (omega arith))
     ∙ ap (item_history who) (reverse-reverse items)
 
--- ---- what is left of the items
+-- ---- the rest of the items
 
 -- they are no more than all, and P holds of each
 record AreLeft (P : Item → Type 0) (items own : List Item) : Type 0 where
   pub fewer : length own ≤ length items
   pub all : All P own
 
--- where P holds of an item and of what is left of those after it, so it is with that item or without
+-- if P holds of an item and of the rest of those after it, it holds with the item or without
 history_if-left : (P : Item → Type 0) (b : Bool) (item : Item) (target : List ℕ) (items : List Item)
     (later : List ℕ × List Item) → P item → AreLeft P items later.1
     → AreLeft P (item ∷ items) (history_if b item target later).1
@@ -49,7 +49,7 @@ history_if-left P true item target items later is h =
     record { fewer = omega (arith, h.fewer); all = All-cons P item later.1 is h.all }
 history_if-left P false item target items later is h = record { fewer = omega (arith, h.fewer); all = h.all }
 
--- and by what its analyst does
+-- and by its act
 act_history-left : (P : Item → Type 0) (item : Item) (act : Act) (items : List Item) (later : List ℕ × List Item)
     → P item → AreLeft P items later.1 → AreLeft P (item ∷ items) (act_history item act later).1
 act_history-left P item (Decide d) items later is h =

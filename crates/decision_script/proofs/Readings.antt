@@ -1,4 +1,4 @@
--- What a reading keeps.
+-- The invariants of a reading.
 use Rattle.std.proofs.Common.{◌≡◌, ℕ, ◌+◌, ◌<◌, ◌&&◌, ◌==◌, Bool, true, false, nat_lt}
 use Rattle.std.proofs.Common.{nat_le, cond, List, [], ◌∷◌, ◌++◌, length, refl, arith, subst, Option, Some}
 use Rattle.std.proofs.Common.{None, Ok, Err, Result, codes, slice_get, IfOk, eqb-true}
@@ -46,13 +46,13 @@ IsMeaning Nothing = Unit {0}
 IsMeaning (Section name) = IsName name
 IsMeaning (Says act) = IsAct act
 
--- where a line has the form, what holds of its result holds of what it says
+-- if a line has the form, a property of its result holds of its meaning
 where_form-IfOk : {A : Type 0} (P : A → Type 0) (b : Bool) (r : Result A LineFault) → (b ≡ true → IfOk r P)
     → IfOk (where_form b r) P
 where_form-IfOk P true r h = h refl
 where_form-IfOk P false r h = tt
 
--- what holds of two results by a test holds of the one that the test picks
+-- a property of two results by a test holds of the one that the test picks
 cond-IfOk : {A F : Type 0} (P : A → Type 0) (b : Bool) (r s : Result A F) → (b ≡ true → IfOk r P) → IfOk s P
     → IfOk (cond b r s) P
 cond-IfOk P true r s h k = h refl
@@ -74,11 +74,11 @@ word_number-fits word =
         grind (arith, nat_tests)
     by false e = tt
 
--- a parameter that takes so many values
+-- a parameter that takes this number of values
 abbrev Takes : ℕ → Param → Type 0
 Takes n param = param_values param ≡ n
 
--- a parameter that is asked for with so many values takes so many
+-- a parameter that is asked for with this number of values takes as many
 with_values-holds : (p : Option Param) (count : ℕ) → IfOk (with_values p count) (Takes count)
 with_values-holds None count = tt
 with_values-holds (Some p) count = where_form-IfOk (Takes count) (param_values p == count) (Ok p)
@@ -97,7 +97,7 @@ one_changes Servers x h = (h, refl)
 one_changes Room x h = (h, refl)
 one_changes Weight x h = (h, omega arith)
 
--- and so do two, where the parameter takes two
+-- and so do two, if the parameter takes two
 two_change : (param : Param) (x y : ℕ) → Takes 2 param → Fits32 x → Fits32 y → IsChange param x y
 two_change Every x y t h k = (h, k)
 two_change Service x y t h k = (h, k)
@@ -160,7 +160,7 @@ set-holds who link time station word values =
     bind-IfOk Changes IsMeaning (change_of param values) _ (change_of-holds param values takes)
     (λ change is. (w, fits, s, is)))))
 
--- so it is with whatever follows the first word
+-- so it is for all words after the first
 after_analyst-holds : (ws : List (List ℕ)) → IfOk (after_analyst ws) IsMeaning
 after_analyst-holds [] = tt
 after_analyst-holds (a ∷ []) = section-holds a
@@ -198,7 +198,7 @@ after_set-holds (a ∷ b ∷ c ∷ []) = tt
 after_set-holds (a ∷ b ∷ c ∷ d ∷ []) = tt
 after_set-holds (a ∷ b ∷ c ∷ d ∷ e ∷ ws) = set-holds a b c d e ws
 
--- so it is with whatever words follow whatever first one
+-- so it is for all words after every first one
 sentence-holds : (verb : List ℕ) (rest : List (List ℕ)) → IfOk (sentence verb rest) IsMeaning
 sentence-holds verb rest =
     cond-IfOk IsMeaning (bytes_eq verb (codes "analyst")) (after_analyst rest) _ (λ h. after_analyst-holds rest)
@@ -226,7 +226,7 @@ at_line-holds n (Err e) h = tt
 
 -- ---- after_saying
 
--- what has been read is a script, and its analyst in force is there
+-- the part read so far is a script with its current analyst
 record IsReading (r : ReaderView) : Type 0 where
   pub script : IsScript (script_of r)
   pub current : IsAnalyst (length r.analysts) r.current
@@ -299,7 +299,7 @@ new_item line r act h is few =
       current = h.current;
     }
 
--- and whatever a line says
+-- and for every meaning of a line
 after_saying-keeps : (line : ℕ) (r : ReaderView) (s : Meaning) → IsReading r → IsMeaning s
     → IfOk (after_saying line r s) IsReading
 after_saying-keeps line r Nothing h is = h
@@ -339,7 +339,7 @@ new_reader_is_reading = record {
   current = record { low = omega arith; high = omega arith };
 }
 
--- what a text states is a script
+-- the script of a text is valid
 pub read_is_script : (text : List ℕ) (r : ReaderView) → after_lines 1 new_reader (lines text) ≡ Ok r
     → IsScript (script_of r)
 read_is_script text r h = let read : IsReading r =

@@ -20,7 +20,7 @@ use Rattle.decision_script.proofs.TextParts.{text_in_parts}
 
 -- ---- script
 
--- a text that is not too long states what its lines give
+-- a text that is not too long has the script of its lines
 pub read_of_text : (text : List ℕ) (t : ReaderView) → length text ≤ MOST_FILE_BYTES
     → after_lines 1 new_reader (lines text) ≡ Ok t → script text ≡ Ok (script_of t)
 read_of_text text t short read =
@@ -69,6 +69,6 @@ ReadAgain-any (a ∷ more) items h =
     subst (λ a. IsScript (record { analysts = a ∷ more; items = items })
     → ReadAgain (record { analysts = a ∷ more; items = items })) (sym main) (ReadAgain-main more items) h
 
--- the canonical text of a script is read as that script, but for the numbers of the lines
+-- the canonical text of a script is read as that script, except for the numbers of the lines
 pub canonical_text_reads_again : CanonicalTextReadsAgain
 canonical_text_reads_again s h = ReadAgain-any s.analysts s.items h

@@ -1,4 +1,4 @@
--- The words of an act say that act.
+-- The words of an act mean that act.
 use Rattle.std.proofs.Common.{◌≡◌, ℕ, ◌&&◌, true, nat_lt, List, [], ◌∷◌, length, refl, arith, Ok}
 use Rattle.std.specs.List.{list_all, AllByRecursion}
 use Rattle.std.proofs.lemmas.Bool.{and_parts}
@@ -87,7 +87,7 @@ name_is_word (b ∷ bs) h =
       short = grind (arith, nat_tests);
     }
 
--- what is written of a change is all words
+-- the text of a change consists of words
 change_words : (param : Param) (a b : ℕ) → IsChange param a b → AllByRecursion IsWord (words_of_change param a b)
 change_words Every a b h = (
   record { some = refl; letters = refl; short = refl },
@@ -111,7 +111,7 @@ change_words Weight a b h = (
   (decimal_is_word a (omega arith), (decimal_is_word b (omega arith), tt)),
 )
 
--- so is what is written of an act
+-- so does the text of an act
 pub act_words : (act : Act) → IsAct act → AllByRecursion IsWord (words_of_act act)
 act_words (Look who station) h =
     (record { some = refl; letters = refl; short = refl }, (name_is_word who h.0, (name_is_word station h.1, tt)))

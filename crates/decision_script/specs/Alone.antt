@@ -15,13 +15,13 @@ changed_clone (Fork new old) = new
 changed_clone (Set who at station change) = who
 changed_clone (End who at) = who
 
--- one decision before the others: where it belongs to them, the clone before it is the one that it speaks of
+-- one decision before the others: if it belongs to them, the clone before it is the one that it is about
 abbrev pub history_if : {A : Type 0} → Bool → A → List ℕ → List ℕ × List A → List ℕ × List A
 history_if true x target later = (target, x ∷ later.1)
 history_if false x target later = later
 
--- the history of a clone: the clone that it goes back to before these decisions, and those of them that it has, each
--- for being on the clone of that time
+-- the history of a clone: the clone that it was before these decisions, and those that it has. Each of these changes
+-- the clone of that time
 abbrev pub history : List ℕ → List Decision → List ℕ × List Decision
 history who [] = (who, [])
 history who (d ∷ ds) = history_if (bytes_eq (changed_clone d) (history who ds).0) d (subject d) (history who ds)
@@ -40,7 +40,7 @@ abbrev pub item_history : List ℕ → List Item → List ℕ × List Item
 item_history who [] = (who, [])
 item_history who (i ∷ is) = act_history i i.act (item_history who is)
 
--- the script with these items alone; the analysts stay
+-- the script with only these items; the analysts do not change
 abbrev pub alone_of : ScriptView → List ℕ → ScriptView
 alone_of s who = record s { items = (item_history who s.items).1 }
 

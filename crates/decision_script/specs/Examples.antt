@@ -8,7 +8,7 @@ use Rattle.decision_script.specs.declared.item.Act.TheVariants.{Decide, Look}
 use Rattle.decision_script.specs.declared.item.Item.{Item}
 use Rattle.decision_script.specs.Stating.{ScriptView}
 
--- lines that end with a line feed each
+-- lines, each with a line feed at its end
 abbrev pub text_of_lines : List (List ℕ) → List ℕ
 text_of_lines ls = flat_map (λ l. l ++ 10 ∷ []) ls
 
@@ -20,12 +20,12 @@ item_at line analyst act = record { line = line; analyst = analyst; act = act }
 abbrev pub set_service : List ℕ → ℕ → ℕ → ℕ → Act
 set_service who at a b = Decide (Set who at (codes "desk") (record { param = Service; a = a; b = b }))
 
--- two clones of the base, of which each gets a faster desk
+-- two clones of the base, each with a faster desk
 abbrev pub two_clones_text : List ℕ
 two_clones_text = text_of_lines (codes "fork a from base" ∷ codes "fork b from base" ∷ codes
     "set a at 8 desk service 2 2" ∷ codes "set b at 8 desk service 2 2" ∷ [])
 
--- the script that it states
+-- its script
 abbrev pub two_clones : ScriptView
 two_clones = record {
   analysts = codes "main" ∷ [];
@@ -35,16 +35,16 @@ two_clones = record {
       ∷ item_at 4 1 (set_service (codes "b") 8 2 2) ∷ [];
 }
 
--- what of it reaches the second clone
+-- the part of it that reaches the second clone
 abbrev pub b_alone_text : List ℕ
 b_alone_text = text_of_lines (codes "fork b from base" ∷ codes "set b at 8 desk service 2 2" ∷ [])
 
--- a clone of a clone: it takes over what was decided for the first before the fork
+-- a clone of a clone: it inherits the first one's decisions before the fork
 abbrev pub clone_of_clone_text : List ℕ
 clone_of_clone_text = text_of_lines (codes "fork a from base" ∷ codes "set a at 8 desk service 2 2" ∷ codes
     "fork b from a" ∷ codes "set a at 9 desk service 3 3" ∷ codes "look b desk" ∷ codes "end b at 12" ∷ [])
 
--- the script that it states, with a look among the items
+-- its script, with a look among the items
 abbrev pub clone_of_clone : ScriptView
 clone_of_clone = record {
   analysts = codes "main" ∷ [];
@@ -56,7 +56,7 @@ clone_of_clone = record {
       ∷ item_at 6 1 (Decide (End (codes "b") 12)) ∷ [];
 }
 
--- what of it reaches the second clone: neither the later set of the first nor the look
+-- the part of it that reaches the second clone: neither the later set of the first nor the look
 abbrev pub clone_of_clone_alone_text : List ℕ
 clone_of_clone_alone_text = text_of_lines
     (codes "fork a from base" ∷ codes "set a at 8 desk service 2 2" ∷ codes "fork b from a" ∷ codes "end b at 12" ∷ [])
@@ -66,7 +66,7 @@ abbrev pub two_planners_text : List ℕ
 two_planners_text = text_of_lines (codes "# two planners" ∷ codes "fork fast from base" ∷ codes "analyst ben" ∷ codes
     "look   fast desk" ∷ [])
 
--- the script that it states: each item has its own analyst
+-- its script: each item has its own analyst
 abbrev pub two_planners : ScriptView
 two_planners = record {
   analysts = codes "main" ∷ codes "ben" ∷ [];
@@ -84,7 +84,7 @@ two_planners_canonical = text_of_lines
 abbrev pub loose_text : List ℕ
 loose_text = codes "fork fast from base\r\n\n\tanalyst \t ada\r\n# set\n\tset fast at 8 desk  room 7 \r"
 
--- the script that it states
+-- its script
 abbrev pub loose : ScriptView
 loose = record {
   analysts = codes "main" ∷ codes "ada" ∷ [];
@@ -92,14 +92,14 @@ loose = record {
       ∷ item_at 5 2 (Decide (Set (codes "fast") 8 (codes "desk") (record { param = Room; a = 7; b = 0 }))) ∷ [];
 }
 
--- the script of one end, at the greatest number
+-- the script with one end, at the greatest number
 abbrev pub late_end : ScriptView
 late_end = record {
   analysts = codes "main" ∷ [];
   items = item_at 1 1 (Decide (End (codes "base") 4294967295)) ∷ [];
 }
 
--- sections of so many analysts, `x1` and so on, with the last first
+-- sections of `n` analysts, `x1` and so on, the last first
 abbrev pub sections : ℕ → List ℕ
 sections zero = []
 sections (suc n) = codes "analyst x" ++ decimal (n + 1) ++ 10 ∷ sections n

@@ -14,7 +14,7 @@ fault_number (TooManyLines line) = 5
 fault_number (TooManyAnalysts line) = 6
 fault_number NoMemory = 7
 
--- the line that is at fault, or 0
+-- the faulty line, or 0
 abbrev pub fault_line : ScriptFault → ℕ
 fault_line (NotAscii line) = line
 fault_line (BadLine line) = line

@@ -1,4 +1,4 @@
--- What is said of canonical texts.
+-- The laws of canonical texts.
 use Rattle.std.specs.Prelude.{ℕ, ◌≡◌, map, Ok}
 use Rattle.decision_script.specs.declared.item.Act.{Act}
 use Rattle.decision_script.specs.declared.item.Item.{Item}
@@ -6,11 +6,11 @@ use Rattle.decision_script.specs.Stating.{ScriptView, IsScript}
 use Rattle.decision_script.specs.Reading.{script}
 use Rattle.decision_script.specs.Printing.{canonical_text}
 
--- an item but for the number of its line
+-- an item without the number of its line
 abbrev pub without_line : Item → ℕ × Act
 without_line item = (item.analyst, item.act)
 
--- what is read again of a script: the same but for the numbers of the lines
+-- the script that is read again: the same except for the line numbers
 pub record ReadAgain (s : ScriptView) : Type 0 where
   pub again : ScriptView
   pub read : script (canonical_text s) ≡ Ok again

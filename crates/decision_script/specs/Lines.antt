@@ -1,4 +1,4 @@
--- The lines of a text, the words of a line, and the number that a word writes.
+-- The lines of a text, the words of a line, and the number that a word spells.
 use Rattle.std.specs.Prelude.{◌||◌, ◌==◌, ◌&&◌, ℕ, Bool, false, not, nat_le, nat_lt, if◌then◌else◌}
 use Rattle.std.specs.Prelude.{List, [], ◌∷◌, length, map, filter, Option, Some, None}
 use Rattle.std.specs.List.{slice_split, list_all}
@@ -20,12 +20,12 @@ is_blank b = b == 32 || b == 9
 abbrev pub has_bytes : List ℕ → Bool
 has_bytes bs = not (length bs == 0)
 
--- the parts between line feeds, each without the one carriage return at its end; what follows the last line feed is a
--- part too, which says nothing where it is empty
+-- the parts between line feeds, each without the one carriage return at its end. The part after the last line feed
+-- counts too, and means nothing if it is empty
 abbrev pub lines : List ℕ → List (List ℕ)
 lines text = map strip_carriage_return (slice_split is_newline text)
 
--- the runs of bytes other than blanks
+-- the runs of nonblank bytes
 abbrev pub words : List ℕ → List (List ℕ)
 words line = filter has_bytes (slice_split is_blank line)
 

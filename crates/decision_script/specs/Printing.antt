@@ -25,18 +25,18 @@ words_of_act (Look who station) = codes "look" ∷ who ∷ station ∷ []
 abbrev pub words_of_section : List ℕ → List (List ℕ)
 words_of_section name = codes "analyst" ∷ name ∷ []
 
--- the section line before an item whose analyst is not the one in force
+-- the section line before an item whose analyst is not the current one
 abbrev pub section_before : List (List ℕ) → ℕ → Item → List (List (List ℕ))
 section_before analysts force i =
     if i.analyst == force then [] else words_of_section (analyst_name analysts i.analyst) ∷ []
 
--- the lines of the items, where this analyst is in force before them
+-- the lines of the items, with this current analyst before them
 abbrev pub item_lines : List (List ℕ) → ℕ → List Item → List (List (List ℕ))
 item_lines analysts force [] = []
 item_lines analysts force (i ∷ is) =
     section_before analysts force i ++ (words_of_act i.act ∷ item_lines analysts i.analyst is)
 
--- a section line for each analyst from the second on, and then the items
+-- a section line for each analyst from the second on, then the items
 abbrev pub script_lines : ScriptView → List (List (List ℕ))
 script_lines s = map words_of_section (drop 1 s.analysts) ++ item_lines s.analysts (length s.analysts) s.items
 
@@ -44,10 +44,10 @@ script_lines s = map words_of_section (drop 1 s.analysts) ++ item_lines s.analys
 abbrev pub line_text : List (List ℕ) → List ℕ
 line_text words = join_with_byte 32 words ++ 10 ∷ []
 
--- how many bytes the line of an item has at most, with a section line before it
+-- the most bytes of an item's line together with a section line before it
 abbrev pub longest_item : ℕ
 longest_item = 172
 
--- the canonical text of a script: its lines, one after the other
+-- the canonical text of a script: its lines, one after another
 unfoldable pub canonical_text : ScriptView → List ℕ
 canonical_text s = flat_map line_text (script_lines s)

@@ -1,4 +1,4 @@
--- What a script's text states.
+-- The script of a text.
 use Rattle.std.specs.Prelude.{ℕ, ◌+◌, nat_lt, codes, if◌then◌else◌, List, [], ◌∷◌, ◌++◌}
 use Rattle.std.specs.Prelude.{length, position, Option, Some, None, Result, Ok, Err}
 use Rattle.std.specs.Str.{bytes_eq}
@@ -18,7 +18,7 @@ use Rattle.sim_base.specs.Chain.{◌>>=◌}
 use Rattle.decision_script.specs.Sentences.{line_saying}
 use Rattle.decision_script.specs.Stating.{ScriptView}
 
--- how far the reading has come: analysts and items up to here, and the number of the analyst in force
+-- the state of the reading so far: analysts and items up to here, and the number of the current analyst
 pub record ReaderView : Type 0 where
   pub analysts : List (List ℕ)
   pub current : ℕ
@@ -31,44 +31,45 @@ fault_at line broken.BadLine = BadLine line
 fault_at line broken.BadNumber = BadNumber line
 fault_at line broken.NoMemory = NoMemory
 
--- what a line says, or its fault with the line's number
+-- the meaning of a line, or its fault with the line's number
 abbrev pub at_line : ℕ → Result Meaning LineFault → Result Meaning ScriptFault
 at_line line (Ok said) = Ok said
 at_line line (Err broken) = Err (fault_at line broken)
 
--- where among the analysts the one of this name is, counted from 0
+-- the place of the analyst with this name, from 0
 abbrev pub analyst_place : List ℕ → List (List ℕ) → Option ℕ
 analyst_place name analysts = position (λ other. bytes_eq other name) analysts
 
--- a section of a known analyst goes on with that one; a new name makes the next analyst, where there are not too many
+-- a section of a known analyst continues with that analyst; a new name makes the next analyst, unless there are too
+-- many
 abbrev pub in_section : ℕ → ReaderView → List ℕ → Option ℕ → Result ReaderView ScriptFault
 in_section line r name (Some i) = Ok (record r { current = i + 1 })
 in_section line r name None = if nat_lt (length r.analysts) MOST_ANALYSTS
     then Ok (record { analysts = r.analysts ++ name ∷ []; current = length r.analysts + 1; items = r.items })
     else Err (TooManyAnalysts line)
 
--- a decision or look is an item of the analyst in force, where there are not too many
+-- a decision or look is an item of the current analyst, unless there are too many
 abbrev pub with_act : ℕ → ReaderView → Act → Result ReaderView ScriptFault
 with_act line r act = if nat_lt (length r.items) MOST_ITEMS
     then Ok (record r { items = r.items ++ (record { line = line; analyst = r.current; act = act }) ∷ [] })
     else Err (TooManyLines line)
 
--- after the line of this number, by what it says
+-- the state after the line with this number and meaning
 abbrev pub after_saying : ℕ → ReaderView → Meaning → Result ReaderView ScriptFault
 after_saying line r Nothing = Ok r
 after_saying line r (Section name) = in_section line r name (analyst_place name r.analysts)
 after_saying line r (Says act) = with_act line r act
 
--- after the line of this number
+-- the state after the line with this number
 unfoldable pub after_line : ℕ → ReaderView → List ℕ → Result ReaderView ScriptFault
 after_line line r text = at_line line (line_saying text) >>= after_saying line r
 
--- after these lines, the first of which has this number
+-- the state after these lines, the first with this number
 unfoldable pub after_lines : ℕ → ReaderView → List (List ℕ) → Result ReaderView ScriptFault
 after_lines line r [] = Ok r
 after_lines line r (l ∷ ls) = after_line line r l >>= λ next. after_lines (line + 1) next ls
 
--- before the first line the analyst main is in force
+-- before the first line the current analyst is main
 abbrev pub new_reader : ReaderView
 new_reader = record { analysts = codes "main" ∷ []; current = 1; items = [] }
 
@@ -76,7 +77,7 @@ new_reader = record { analysts = codes "main" ∷ []; current = 1; items = [] }
 abbrev pub script_of : ReaderView → ScriptView
 script_of r = record { analysts = r.analysts; items = r.items }
 
--- what a text states, or the first rule that it breaks
+-- the script of a text, or the first rule that it breaks
 abbrev pub script : List ℕ → Result ScriptView ScriptFault
 script text = if nat_lt MOST_FILE_BYTES (length text) then Err TooLong
     else (after_lines 1 new_reader (lines text) >>= λ r. Ok (script_of r))

@@ -1,4 +1,4 @@
--- What a line says, by its words.
+-- The meaning of a line, from its words.
 use Rattle.std.specs.Prelude.{◌&&◌, ◌==◌, ℕ, Bool, true, false, codes, if◌then◌else◌, List, [], ◌∷◌, length}
 use Rattle.std.specs.Prelude.{Result, Ok, Err, Option, Some, None}
 use Rattle.std.specs.Option.{ok_or}
@@ -21,16 +21,16 @@ abbrev pub where_form : {A : Type 0} → Bool → Result A LineFault → Result 
 where_form true r = r
 where_form false r = Err BadLine
 
--- the number that the word writes, where it writes one
+-- the number that the word spells, if it spells one
 abbrev pub word_number : List ℕ → Result ℕ LineFault
 word_number word = ok_or (number word) BadNumber
 
--- a parameter that takes so many values
+-- a parameter that takes `count` values
 abbrev pub with_values : Option Param → ℕ → Result Param LineFault
 with_values (Some param) count = where_form (param_values param == count) (Ok param)
 with_values None count = Err BadLine
 
--- the parameter of this word, where it takes so many values
+-- the parameter with this keyword, if it takes `count` values
 abbrev pub param_of : List ℕ → ℕ → Result Param LineFault
 param_of word count = with_values (param_of_word word) count
 
@@ -47,7 +47,7 @@ two_values param a b = do
   y ← word_number b
   Ok (record { param = param; a = x; b = y })
 
--- the change of a parameter to these values, of which there must be one or two
+-- the change of a parameter to these values; there must be one or two
 abbrev pub change_of : Param → List (List ℕ) → Result Change LineFault
 change_of param (a ∷ []) = one_value param a
 change_of param (a ∷ b ∷ []) = two_values param a b
@@ -90,22 +90,22 @@ abbrev pub after_look : List (List ℕ) → Result Meaning LineFault
 after_look (who ∷ station ∷ []) = look who station
 after_look _ = Err BadLine
 
--- fork: a new name, a link word, and an old name
+-- fork: a new name, a keyword, and an old name
 abbrev pub after_fork : List (List ℕ) → Result Meaning LineFault
 after_fork (new ∷ link ∷ old ∷ []) = fork new link old
 after_fork _ = Err BadLine
 
--- end: a clone, a link word, and a time
+-- end: a clone, a keyword, and a time
 abbrev pub after_end : List (List ℕ) → Result Meaning LineFault
 after_end (who ∷ link ∷ time ∷ []) = end who link time
 after_end _ = Err BadLine
 
--- set: a clone, a link word, a time, a station, a parameter, and its values
+-- set: a clone, a keyword, a time, a station, a parameter, and its values
 abbrev pub after_set : List (List ℕ) → Result Meaning LineFault
 after_set (who ∷ link ∷ time ∷ station ∷ word ∷ values) = set who link time station word values
 after_set _ = Err BadLine
 
--- by the first word, what the others say
+-- the meaning of a line by its first word and the others
 abbrev pub sentence : List ℕ → List (List ℕ) → Result Meaning LineFault
 sentence verb rest = if bytes_eq verb (codes "analyst") then after_analyst rest
     else (if bytes_eq verb (codes "fork") then after_fork rest
@@ -119,11 +119,11 @@ abbrev pub begins_comment : List ℕ → Bool
 begins_comment [] = false
 begins_comment (b ∷ bs) = b == 35
 
--- no words and a comment say nothing
+-- a line without words, or a comment, means nothing
 abbrev pub saying : List (List ℕ) → Result Meaning LineFault
 saying [] = Ok Nothing
 saying (w ∷ ws) = if begins_comment w then Ok Nothing else sentence w ws
 
--- what a line says, or the first rule that it breaks
+-- the meaning of a line, or the first rule that it breaks
 abbrev pub line_saying : List ℕ → Result Meaning LineFault
 line_saying line = if is_ascii line then saying (words line) else Err NotAscii

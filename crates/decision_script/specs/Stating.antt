@@ -1,4 +1,4 @@
--- What a script is, and which rules every script meets.
+-- Scripts, and the rules that every script meets.
 use Rattle.std.specs.Prelude.{ℕ, ◌-◌, ◌≤◌, ◌≡◌, ◌==◌, true, MatchBool}
 use Rattle.std.specs.Prelude.{codes, List, [], length, slice_get, unwrap_or, Some}
 use Rattle.std.specs.List.{All}
@@ -41,22 +41,22 @@ IsDecision (Set who at station change) = IsName who × Fits32 at × IsName stati
     × IsChange change.param change.a change.b
 IsDecision (End who at) = IsName who × Fits32 at
 
--- the same of an act: a decision that is so, or a look with two names
+-- the same for an act: such a decision, or a look with two names
 abbrev pub IsAct : Act → Type 0
 IsAct (Decide decision) = IsDecision decision
 IsAct (Look who station) = IsName who × IsName station
 
--- one of so many analysts has this number
+-- the number of one of `analysts` analysts
 pub record IsAnalyst (analysts number : ℕ) : Type 0 where
   pub low : 1 ≤ number
   pub high : number ≤ analysts
 
--- an item of one of so many analysts
+-- an item of one of `analysts` analysts
 pub record IsItem (analysts : ℕ) (item : Item) : Type 0 where
   pub analyst : IsAnalyst analysts item.analyst
   pub act : IsAct item.act
 
--- the first analyst is main, no two have one name, and nothing is more than a script may have
+-- the first analyst is main, no two have the same name, and no limit of a script is exceeded
 pub record IsScript (s : ScriptView) : Type 0 where
   pub first : slice_get s.analysts 0 ≡ Some (codes "main")
   pub named : All IsName s.analysts

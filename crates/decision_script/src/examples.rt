@@ -1,8 +1,7 @@
-//! Worked examples, computed by the checker from the definitions of what a text states, of the
-//! canonical text, and of the decisions that reach one clone.
+//! Worked examples, computed by the checker from the definitions of a text's script, of the canonical text, and of the
+//! decisions that reach one clone.
 //!
-//! The texts stand in `specs/Examples.antt`. Each function's contract is a theorem; there is nothing
-//! to run.
+//! The texts are in `specs/Examples.antt`. Each function's contract is a theorem; there is nothing to run.
 ghost use Rattle.std.specs.Prelude.{◌≡◌, ◌++◌, ◌∷◌, [], Ok, Err, codes};
 ghost use Rattle.sim_base.specs.declared.number.TheConstants.{MOST_DIGITS};
 ghost use Rattle.decision_script.specs.Alone.{alone_of};
@@ -24,7 +23,7 @@ pub fn limits_in_numbers()
     ensures number { MOST_NUMBER ≡ 4294967295 }
 {}
 
-/// Texts and the scripts that they state.
+/// Texts and their scripts.
 pub fn texts_that_are_read()
     ensures clones { script two_clones_text ≡ Ok two_clones }
     ensures again { script clone_of_clone_text ≡ Ok clone_of_clone }

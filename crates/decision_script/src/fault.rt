@@ -5,8 +5,7 @@ ghost use Rattle.decision_script.specs.Faults.{fault_line, fault_number};
 use sim_base::NoMemory;
 use std::alloc::{AllocError, AllocFailed};
 
-/// The first rule that a text breaks, or out of memory. `line` is the number of the first line that
-/// breaks one, from 1.
+/// The first rule that a text breaks, or out of memory. `line` is the number of the first faulty line, from 1.
 #[derive(Clone, Copy, Debug, PartialEq, Eq)]
 pub enum ScriptFault {
     /// More bytes than [`MOST_FILE_BYTES`](sim_base::MOST_FILE_BYTES).
@@ -15,11 +14,11 @@ pub enum ScriptFault {
     NotAscii { line: u32 },
     /// The line has no known form.
     BadLine { line: u32 },
-    /// The line has a known form, but where a number is to stand there is none of 32 bits.
+    /// The line has a known form, but no 32-bit number in the place of a number.
     BadNumber { line: u32 },
     /// A decision or look after [`MOST_ITEMS`](crate::MOST_ITEMS) others.
     TooManyLines { line: u32 },
-    /// A section of one analyst more than [`MOST_ANALYSTS`](crate::MOST_ANALYSTS).
+    /// A section of one more analyst than [`MOST_ANALYSTS`](crate::MOST_ANALYSTS).
     TooManyAnalysts { line: u32 },
     /// Out of memory.
     NoMemory,
@@ -89,15 +88,15 @@ impl From<NoMemory> for ScriptFault {
     }
 }
 
-/// The first rule that a line breaks, whatever the lines before it, or out of memory.
+/// The first rule that a line breaks, independent of the lines before it, or out of memory.
 #[derive(Clone, Copy, Debug, PartialEq, Eq)]
 pub enum LineFault {
     /// A byte of 128 or more, also in a comment.
     NotAscii,
     /// The line has no known form.
     BadLine,
-    /// The line has a known form, but one of its numbers is not written in digits without a leading zero, or needs more
-    /// than 32 bits.
+    /// The line has a known form, but one of its numbers is not plain digits without a leading zero, or needs more than
+    /// 32 bits.
     BadNumber,
     /// Out of memory.
     NoMemory,

@@ -1,4 +1,4 @@
-//! What a script asks for.
+//! The items of a script.
 ghost use Rattle.std.specs.Prelude.{◌≡◌, ◌++◌, ◌∷◌, [], OnOk, OnErr};
 
 use sim_base::{Decision, Name, NoMemory};
@@ -8,16 +8,16 @@ use sim_base::{Decision, Name, NoMemory};
 pub enum Act {
     /// A decision on the clones.
     Decide(Decision),
-    /// A question how far a station has come in a clone.
+    /// A question about a station's progress in a clone.
     Look { who: Name, station: Name },
 }
 
-/// An act, with the number of its line, from 1, and that of its analyst, from 1.
+/// An act, with the numbers of its line and of its analyst, both from 1.
 #[derive(Clone, Copy, Debug, PartialEq, Eq)]
 pub struct Item {
     /// Its line in the text, from 1.
     pub line: u32,
-    /// Who acts, from 1, which is `main`.
+    /// Number of the analyst; 1 is `main`.
     pub analyst: u32,
     /// What the analyst does.
     pub act: Act,

@@ -2,7 +2,7 @@
 ghost use Rattle.decision_script.specs.Alone.{AloneIsOfDecisions};
 ghost use Rattle.decision_script.specs.Laws.{CanonicalTextReadsAgain};
 
-/// The canonical text of every script is read as that script, but for the numbers of its lines.
+/// The canonical text of every script is read as that script, except for the line numbers.
 #[tactic(auto, using(crate::proofs::ReadsAgain::canonical_text_reads_again))]
 pub fn reads_again()
     ensures value { CanonicalTextReadsAgain }

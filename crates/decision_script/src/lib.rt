@@ -1,6 +1,6 @@
-//! Decision scripts: what a text states, its canonical text, and the decisions that reach one clone.
+//! Decision scripts: the script of a text, its canonical text, and the decisions that reach one clone.
 //!
-//! A planner writes down what to try, one line a decision, and the simulation branches as it says:
+//! A planner writes down what to try, one line per decision, and the simulation branches accordingly:
 //!
 //! ```text
 //! # a second desk, if the queue is long
@@ -11,23 +11,22 @@
 //! end fast at 900
 //! ```
 //!
-//! A line is a decision (`fork`, `set`, `end`), a `look`, or the beginning of an analyst's section; before the
-//! first section the analyst is `main`. Words stand between blanks; a line whose first word begins with `#` is a
-//! comment. Numbers are whole numbers of 32 bits without a leading zero.
+//! A line is a decision (`fork`, `set`, `end`), a `look`, or the beginning of an analyst's section; before the first
+//! section the analyst is `main`. Words are separated by blanks; a line whose first word begins with `#` is a comment.
+//! Numbers are whole 32-bit numbers without a leading zero.
 //!
 //! ```text
-//! let script = read_script(alloc, text)?;       // or the first line with a fault, and which
-//! let own = alone(alloc, &script, &name)?;      // what of it reaches one clone
+//! let script = read_script(alloc, text)?;       // or the first faulty line and its fault
+//! let own = alone(alloc, &script, &name)?;      // the part that reaches one clone
 //! let text = print_script(alloc, &own)?;        // its canonical text, which is read as the same script
 //! ```
 //!
-//! Reading, printing and `alone` are each one walk over the text or the items; an item takes about 100 bytes, and a
-//! script has `MOST_ITEMS` at most.
+//! Reading, printing and `alone` are each one walk over the text or the items. An item takes about 100 bytes, and a
+//! script has at most `MOST_ITEMS`.
 //!
-//! The definitions in `specs/` are the grammar, and `read_script` keeps them: it gives what the text states, or
-//! the first line with a fault and the first fault of that line. Two promises rest here: the canonical text of
-//! every script is read as that script, and a clone that is run from its own script alone has the same
-//! decisions as in the whole one.
+//! The definitions in `specs/` are the grammar, and `read_script` follows them. It returns the script of the text, or
+//! the first faulty line with its first fault. Two promises rest on this. The canonical text of every script is read as
+//! that script. A clone that is run from its own script has the same decisions as in the whole one.
 #![tactic(auto)]
 
 pub mod examples;

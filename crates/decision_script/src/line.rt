@@ -1,4 +1,4 @@
-//! What one line says.
+//! The meaning of one line.
 ghost use Rattle.std.specs.Prelude.{◌≡◌, ◌≢◌, Ok, Err, map, IfOk, MatchResult};
 ghost use Rattle.sim_base.specs.Names.{is_name};
 ghost use Rattle.decision_script.specs.Lines.{words, is_blank, is_ascii};
@@ -12,18 +12,18 @@ use crate::number::read_number;
 use sim_base::{Change, Decision, Name, Param};
 use std::alloc::{AllocError, Global};
 
-/// The meaning of a line: what it says.
+/// The meaning of a line.
 #[derive(Clone, Copy, Debug, PartialEq, Eq)]
 pub(crate) enum Meaning {
     /// It is empty, or a comment.
     Nothing,
-    /// The lines from here on are those of the analyst of this name.
+    /// The lines from here on are those of the analyst with this name.
     Section(Name),
     /// It is a decision or a look.
     Says(Act),
 }
 
-/// The name that a word writes.
+/// The name that a word spells.
 pub fn read_name(word: &[u8]) -> Result<Name, LineFault>
     ensures value { result ≡ where_form (is_name word.now) (Ok word.now) }
 {
@@ -33,7 +33,7 @@ pub fn read_name(word: &[u8]) -> Result<Name, LineFault>
     }
 }
 
-/// The parameter of this word, if a set of it has this number of values.
+/// The parameter with this keyword, if it takes this number of values.
 pub fn read_param(word: &[u8], count: usize) -> Result<Param, LineFault>
     ensures value { result ≡ param_of word.now count }
 {
@@ -60,7 +60,7 @@ fn two_value_change(param: Param, a: &[u8], b: &[u8]) -> Result<Change, LineFaul
     Ok(Change { param, a, b })
 }
 
-/// The change of a parameter to the values that the words write.
+/// The change of a parameter to the values of the words.
 pub fn read_change(param: Param, values: &[&[u8]]) -> Result<Change, LineFault>
     ensures value { result ≡ change_of param (map (λ w. w.now) values.now) }
 {
@@ -241,7 +241,7 @@ fn is_blank_byte(byte: u8) -> bool
     byte == b' ' || byte == b'\t'
 }
 
-/// The words of a line: what is between its blanks, spaces and tabs.
+/// The words of a line: its parts between blanks, which are spaces and tabs.
 pub fn words_of(alloc: Global, line: &[u8]) -> Result<Vec<&[u8]>, AllocError>
     ensures value { IfOk result (λ v. map (λ w. w.now) v.items ≡ words line.now) }
 {
@@ -250,7 +250,7 @@ pub fn words_of(alloc: Global, line: &[u8]) -> Result<Vec<&[u8]>, AllocError>
         .collect(alloc)
 }
 
-/// What a line says.
+/// The meaning of a line.
 pub(crate) fn saying_of_line(alloc: Global, line: &[u8]) -> Result<Meaning, LineFault>
     ensures value { MatchResult result (λ s. line_saying line.now ≡ Ok s)
         (λ e. e ≢ LineFault.NoMemory → line_saying line.now ≡ Err e) }

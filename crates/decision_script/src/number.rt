@@ -6,7 +6,7 @@ ghost use Rattle.decision_script.specs.Sentences.{word_number};
 use crate::fault::LineFault;
 use sim_base::number::{MOST_DIGITS, are_digits, is_digit_byte, may_lead, value};
 
-/// The greatest number of a script, which is the greatest of 32 bits.
+/// The greatest number of a script: the greatest 32-bit number.
 pub const MOST_NUMBER: u64 = 4_294_967_295;
 
 fn may_be_number(word: &[u8]) -> bool
@@ -19,7 +19,7 @@ fn may_be_number(word: &[u8]) -> bool
     }
 }
 
-/// The number that the word writes.
+/// The number that the word spells.
 pub fn read_number(word: &[u8]) -> Result<u64, LineFault>
     ensures value { result ≡ word_number word.now }
 {

@@ -18,7 +18,7 @@ fn changed_clone_of(decision: &Decision) -> Name
     }
 }
 
-// The history of a clone from one place on: its items, the last first, and the clone that it goes back to.
+// The history of a clone from one place on: its items, the last first, and the clone that it descends from there.
 #[derive(Drop)]
 struct History {
     target: Name,
@@ -96,8 +96,8 @@ fn own_items(alloc: Global, items: &[Item], who: &Name) -> Result<Vec<Item>, NoM
     Ok(history.into_items())
 }
 
-/// The script with those decisions alone that reach the clone: its own, and those of the clones that
-/// it branches off from, as far as they come before the fork. Lines and analysts stay.
+/// The script with only the decisions that reach the clone. These are its own, and those of its ancestors before the
+/// forks. Lines and analysts do not change.
 pub fn alone(alloc: Global, script: &Script, who: &Name) -> Result<Script, NoMemory>
     ensures value { IfOk result (λ s. s ≡ alone_of script.now who.now) }
 {

@@ -91,8 +91,8 @@ fn push_end(out: &mut Vec<u8>, who: &Name, at: u64) -> Result<(), NoMemory>
     push_number(out, at)
 }
 
-/// Appends a decision, without the line feed. Out of memory a part of it may have been appended, and the text is to be
-/// dropped.
+/// Appends a decision, without the line feed. If out of memory, a part of it may have been appended, and the text must
+/// be dropped.
 pub fn push_decision(out: &mut Vec<u8>, decision: &Decision) -> Result<(), NoMemory>
     ensures value { OnOk result (out.new.items ≡
         out.old.items ++ join_with_byte 32 (words_of_decision decision.now)) }
@@ -187,8 +187,8 @@ fn push_items(out: &mut Vec<u8>, analysts: &[Name], items: &[Item]) -> Result<()
     Ok(())
 }
 
-/// The canonical text: a section line for each analyst from the second on, and then the items, with a
-/// section line wherever the analyst changes.
+/// The canonical text: a section line for each analyst from the second on, then the items, with a section line wherever
+/// the analyst changes.
 pub fn print_script(alloc: Global, script: &Script) -> Result<Vec<u8>, NoMemory>
     ensures value { IfOk result (λ v. v.items ≡ canonical_text script.now) }
 {

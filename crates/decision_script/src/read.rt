@@ -13,11 +13,11 @@ use sim_base::{MOST_FILE_BYTES, Name};
 use std::alloc::Global;
 use std::marker::Model;
 
-// How far the reading has come.
+// The state of the reading so far.
 #[derive(Drop)]
 struct Reader {
     analysts: Vec<Name>,
-    // the number of the analyst in force
+    // the number of the current analyst
     current: u32,
     items: Vec<Item>,
 }
@@ -176,12 +176,12 @@ fn read_lines(alloc: Global, text: &[u8]) -> Result<Reader, ScriptFault>
     Ok(reader)
 }
 
-/// Reads the script that a text states. A refusal names the first line with a fault, and of its faults
-/// the first in the order of [`ScriptFault`].
+/// Reads the script of a text. A refusal names the first faulty line, and the first of its faults in the order of
+/// [`ScriptFault`].
 pub fn read_script(alloc: Global, text: &[u8]) -> Result<Script, ScriptFault>
-    // what the text states
+    // the script of the text
     ensures ok { IfOk result (λ s. script text.now ≡ Ok s) }
-    // or the first rule that it breaks; only out of memory says nothing of the text
+    // or the first rule that it breaks; out of memory may come for every text
     ensures refused { IfErr result (λ e. e ≢ ScriptFault.NoMemory → script text.now ≡ Err e) }
 {
     if text.len() > MOST_FILE_BYTES {

@@ -1,4 +1,4 @@
-//! A script: the analysts of a text, and what they ask for in order, each item with its line and its analyst.
+//! A script: the analysts of a text and their items in order, each item with its line and its analyst.
 //!
 //! Lines and analysts are numbered from 1, items from 0. Analyst 1 is `main`.
 ghost use Rattle.std.specs.Prelude.{◌≡◌, ◌<◌, [], length, slice_get, Some, IsTrue, ◌↔◌};
@@ -8,12 +8,12 @@ use crate::item::Item;
 use sim_base::Name;
 use std::marker::Model;
 
-/// How many analysts may act in a script, `main` among them.
+/// The most analysts of a script, `main` included.
 pub const MOST_ANALYSTS: usize = sim_base::limits::MOST_ANALYSTS as usize;
-/// How many decisions and looks a script may have.
+/// The most decisions and looks of a script.
 pub const MOST_ITEMS: usize = 4_096;
 
-/// Who acts, and what is asked for, in order: what a text states, or a part of it.
+/// A script: the analysts and their items in order, of a text or a part of it.
 #[derive(Drop)]
 pub struct Script {
     pub(crate) analysts: Vec<Name>,
@@ -33,7 +33,7 @@ impl Model for Script {
 impl Script {
     ghost use Rattle.decision_script.specs.Stating.{IsScript};
 
-    /// How many items it has.
+    /// The number of items.
     pub fn len(&self) -> u32
         ensures value { result ≡ length self.now.items }
         ensures valid { IsScript self.now }
@@ -41,14 +41,14 @@ impl Script {
         self.items.len() as u32
     }
 
-    /// Whether it has none.
+    /// Whether it has no items.
     pub fn is_empty(&self) -> bool
         ensures value { IsTrue result ↔ (self.now.items ≡ []) }
     {
         self.items.is_empty()
     }
 
-    /// The item of an index, from 0.
+    /// The item with this index, from 0.
     pub fn item(&self, i: u32) -> Item
         requires there { i < length self.now.items }
         ensures value { slice_get self.now.items i ≡ Some result }
@@ -57,7 +57,7 @@ impl Script {
         self.items[i as usize]
     }
 
-    /// How many analysts it has.
+    /// The number of analysts.
     pub fn analysts(&self) -> u32
         ensures value { result ≡ length self.now.analysts }
         ensures valid { IsScript self.now }
@@ -65,7 +65,7 @@ impl Script {
         self.analysts.len() as u32
     }
 
-    /// The name of the analyst of a number, from 1, which is that of `main`.
+    /// The name of the analyst with this number, from 1; analyst 1 is `main`.
     pub fn analyst(&self, a: u32) -> Name
         requires there { IsAnalyst (length self.now.analysts) a }
         ensures value { result ≡ analyst_name self.now.analysts a }

@@ -1,17 +1,17 @@
 //! The calls that read one line of a text: its words, numbers, names and changes of parameters.
 //!
-//! They read the lines of a script, and those of any other text that is made of the same words:
+//! They read the lines of a script, and those of any other text made of the same words:
 //!
 //! ```text
 //! for part in text.split(|byte| ends_line(*byte)) {
 //!     let line = without_return(part);
 //!     // if not `is_ascii_line(line)`: `LineFault::NotAscii`
 //!     let words = words_of(alloc, line)?;
-//!     // if there are no words, or the first `is_comment`: the line says nothing
+//!     // if there are no words, or the first `is_comment`: the line means nothing
 //! }
 //! ```
 //!
-//! `read_name`, `read_param`, `read_number` and `read_change` each return what their words write, or the rule that a
+//! `read_name`, `read_param`, `read_number` and `read_change` each return the value of their words, or the rule that a
 //! word breaks. The time is proportional to the line's length. Only `words_of` allocates: one slice for each word.
 
 pub use crate::fault::LineFault;

@@ -45,14 +45,14 @@ module _ {M : Type 0} {cmp : M → M → Ordering} {time : M → ℕ} (o : IsTim
 -- ---- replay, sent_with, lines
 
 module _ {S M N : Type 0} (sim : Simulation S M N) where
-  -- the replay of two logs, one after the other
+  -- the replay of two logs in a row
   pub replay-append : (s : ℕ) (st : S) (xs ys : List (Entry M N)) →
       replay sim.to sim.handle s st (xs ++ ys)
       ≡ replay sim.to sim.handle s (replay sim.to sim.handle s st xs) ys
   replay-append s st [] ys = refl
   replay-append s st (x ∷ xs) ys = replay-append s (sim.handle s st x.msg).state xs ys
 
-  -- the sends of two logs, one after the other
+  -- the sends of two logs in a row
   pub sent_with-append : (s : ℕ) (st : S) (xs ys : List (Entry M N)) →
       sent_with sim s st (xs ++ ys)
       ≡ sent_with sim s st xs ++ sent_with sim s (replay sim.to sim.handle s st xs) ys

@@ -1,5 +1,5 @@
--- From cut to cut: copies that represent the clones are stepped to the next times and receive what others sent. They
--- then represent the clones at the next cut.
+-- From cut to cut: copies that represent the clones are stepped to the next times and receive the messages of others.
+-- They then represent the clones at the next cut.
 use Rattle.std.proofs.Common.{◌≡◌, ℕ, ◌≤◌, ◌<◌, min, List, [], inl}
 use Rattle.std.proofs.Common.{inr, Bool, true, ◌==◌, nat_lt, sym, ap, ◌∙◌, subst, arith, length}
 use Rattle.std.proofs.lemmas.Bool.{lt-ltb, ltb-true}

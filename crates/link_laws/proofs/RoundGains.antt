@@ -1,4 +1,5 @@
--- Handled once in a round, and the clones over the limit: the lemmas by logs of run_laws, at the times of a round.
+-- The number handled once in a round, and the clones over the limit: the lemmas by logs of run_laws, at the times of a
+-- round.
 use Rattle.std.proofs.Common.{◌≡◌, ◌↔◌, ℕ, ◌+◌, ◌*◌, ◌≤◌, ◌<◌, List, Bool, true, length}
 use Rattle.std.specs.List.{AllByRecursion}
 use Rattle.sim_base.specs.Clones.{Clone, clone_at}
@@ -28,7 +29,7 @@ module _ {S M N K : Type 0} {sim : Simulation S M N} {Good : ℕ → S → Type 
   taken_late a c i h = all_from (λ m. cut s ≤ sim.time m) (messages_taken sim has (ends_of sim cs) c a.pending)
       (λ z k. let w = (((stood s here).waiting a c i h).exact z).0 k in w.late)
 
-  -- handled once at the next time is handled once at the station's time plus what the copies gain
+  -- the number handled once at the next time is that at the station's time plus the gains of the copies
   pub round_grows : (same : Entry M N → Entry M N → Bool) (total : ℕ) → TellsEntries same →
       AreWithinLimitAt sim cs s (next s) → GainTogether sim has (ends_of sim cs) s (next s) (olds s) total →
       handled_once sim same cs s (next s) ≡ handled_once sim same cs s (cut s) + total

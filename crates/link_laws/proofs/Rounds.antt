@@ -1,4 +1,5 @@
--- In a round each station, alone, handles what the clone's run handles between the station's time and its next one.
+-- In a round each station alone handles the messages that the clone's run handles between the station's time and its
+-- next one.
 use Rattle.std.proofs.Common.{◌≡◌, ℕ, ◌<◌, ◌≤◌, min, List, [], ◌∷◌, ◌++◌, ◌⊎◌, not}
 use Rattle.std.proofs.Common.{inl, inr, refl, sym, ap, ◌∙◌, subst, arith, append_assoc, append-nil, ◌==◌}
 use Rattle.std.specs.declared.cmp.Ordering.{Ordering}

@@ -1,7 +1,8 @@
--- Cuts and rounds: what is known at a cut, what waits at each station, and how all stations go on to the next cut.
+-- Cuts and rounds: the known messages at a cut, the waiting messages at each station, and how all stations continue to
+-- the next cut.
 --
 -- A cut is a time for each station, like a consistent cut of a distributed computation. A front is the cut with one
--- time for all stations. Nothing here says how cuts are chosen: link clocks are one way, in Clocks.
+-- time for all stations. Any choice of cuts is allowed here: link clocks are one, in Clocks.
 use Rattle.std.specs.Prelude.{◌≡◌, ◌⊎◌, ◌↔◌, ℕ, ◌<◌, ◌≤◌, List, [], ◌∷◌, ◌++◌}
 use Rattle.sim_base.specs.Clones.{Clone}
 use Rattle.sim_base.specs.declared.entry.Entry.{Entry}
@@ -22,12 +23,12 @@ module _ {S M N : Type 0} (sim : Simulation S M N) where
   abbrev pub sent_before : Clone → ℕ → ℕ → List M
   sent_before c x time = sent_with x (sim.setup x).state (log_at sim c x time)
 
-  -- a message is known at a cut: it is pending at the start of the run, or a station x sends it before the time of x
+  -- a message is known at a cut if it is pending at the start of the run, or a station sends it before the station's
+  -- time
   abbrev pub IsKnown : Clone → (ℕ → ℕ) → M → Type 0
   IsKnown c cut m = In m (first_world sim c.plans).pending ⊎ ((x : ℕ) × In m (sent_before c x (cut x)))
 
-  -- a message waits at station s at a cut: it is known, it is for s, and it comes at the time of s or later and before
-  -- the clone's end
+  -- a message waits at station s at a cut. It is known, for s, not before the time of s, and before the clone's end
   pub record Waits (c : Clone) (cut : ℕ → ℕ) (s : ℕ) (m : M) : Type 0 where
     pub known : IsKnown c cut m
     pub here : sim.to m ≡ s
@@ -44,15 +45,15 @@ module _ {S M N : Type 0} (sim : Simulation S M N) where
   window_from c cut next s q = local_run sim s (log_at sim c s (cut s)) (state_at sim c s (cut s)) q (next s)
       (end_of sim c)
 
-  -- a round: each station may go alone from its time at one cut to its time at the next. A station in a good state that
-  -- handles any message at its time or later sends nothing to another station before that station's next time
+  -- a round: each station may run alone from its time at one cut to its time at the next. A station in a good state
+  -- that handles any message at its time or later sends nothing to another station before that station's next time
   pub record IsRound (Good : ℕ → S → Type 0) (cut next : ℕ → ℕ) : Type 0 where
     pub later : (s : ℕ) → cut s ≤ next s
     pub apart : (x : ℕ) (st : S) (m z : M) → Good x st → In z (sim.handle x st m).sends → ¬ (sim.to z ≡ x) →
         cut x ≤ sim.time m → next (sim.to z) ≤ sim.time z
 
-  -- the windows of the stations end with the logs and states of the clone's run. The messages that wait at a station
-  -- then come before the clone's end: its own window leaves them, or another window lays them aside for it
+  -- the windows of the stations end with the logs and states of the clone's run. The messages that then wait at a
+  -- station are left by its own window, or laid aside for it by another, and come before the clone's end
   pub record RoundGives (c : Clone) (cut next : ℕ → ℕ) (q : ℕ → List M) : Type 0 where
     pub log : (s : ℕ) → log_at sim c s (next s) ≡ (window_from c cut next s (q s)).at.log
     pub state : (s : ℕ) → state_at sim c s (next s) ≡ (window_from c cut next s (q s)).at.state

@@ -1,4 +1,4 @@
--- What is proved of link clocks and of rounds, in words that contracts cite.
+-- The laws of link clocks and of rounds, as statements that contracts cite.
 use Rattle.std.specs.Prelude.{◌≡◌, ◌⊎◌, ◌↔◌, ℕ, suc, ◌+◌, ◌*◌, ◌/◌, ◌<◌, ◌≤◌, List, Bool, true, length}
 use Rattle.sim_base.specs.Clones.{Clone, clone_at}
 use Rattle.sim_base.specs.Marked.{JoinsMarks}
@@ -44,7 +44,7 @@ module _ {S M N : Type 0} (sim : Simulation S M N) where
       IsLeastLinkTime delays sim.stations (clock delays sim.stations sim.horizon k) s sim.horizon
       (clock delays sim.stations sim.horizon (suc k) s)
 
-  -- a loop that makes rounds until all clocks are at the horizon makes exactly the number of rounds
+  -- a loop that does rounds until all clocks are at the horizon does exactly the number of rounds
   abbrev pub FirstDoneIsRounds : Type 0
   FirstDoneIsRounds = (delays : Delays) (k : ℕ) → AreDone delays sim.stations sim.horizon k →
       ((j : ℕ) → k ≡ suc j → ¬ (AreDone delays sim.stations sim.horizon j)) →
@@ -75,7 +75,7 @@ module _ {S M N : Type 0} (sim : Simulation S M N) (Good : ℕ → S → Type 0)
   ClocksMakeRounds = (delays : Delays) (k : ℕ) → KeepsToLinks sim Good delays →
       IsRound sim Good (clock delays sim.stations sim.horizon k) (clock delays sim.stations sim.horizon (suc k))
 
-  -- in a round the stations, each alone, reach what the clone's run reaches
+  -- in a round the windows of the stations, each alone, end with the logs and states of the clone's run
   abbrev pub RoundsGiveRuns : Type 0
   RoundsGiveRuns = (c : Clone) (cut next : ℕ → ℕ) (q : ℕ → List M) → IsRound sim Good cut next →
       ((s : ℕ) → AreWaiting sim c cut s (q s)) → RoundGives sim c cut next q
@@ -100,7 +100,7 @@ module _ {S M N : Type 0} (K : Type 0) (sim : Simulation S M N) where
 
 module _ {S M N : Type 0} (K : Type 0) (sim : Simulation S M N) (Good : ℕ → S → Type 0) where
   -- let the copies of all stations represent the clones at a cut, and let each station be stepped to its next time.
-  -- Once station s has received what others sent it, its copies represent the clones at the next cut
+  -- Once station s has received the messages of others, its copies represent the clones at the next cut
   abbrev pub StandsAfterRound : Type 0
   StandsAfterRound = (has : K → ℕ → Bool) (cs : List Clone) (cut next : ℕ → ℕ)
       (olds news : ℕ → List (Copy S M N K)) (sent : ℕ → List (M × K)) (s : ℕ) (done : List (Copy S M N K)) →
@@ -125,15 +125,15 @@ module _ {S M N : Type 0} (K : Type 0) (sim : Simulation S M N) (Good : ℕ → 
     pub here : IsStation sim s
     pub gained : GainTogether sim has (ends_of sim cs) s (next s) (olds s) total
 
-  -- if no log gets too long in a round, handled once at the next time is handled once at the station's time plus the
-  -- gain
+  -- if no log gets too long in a round, the number handled once grows by the gain from the station's time to its next
+  -- one
   abbrev pub HandledGrowsInRound : Type 0
   HandledGrowsInRound = (w : Counting M N K) (cs : List Clone) (cut next : ℕ → ℕ) (olds : ℕ → List (Copy S M N K))
       (s total : ℕ) →
       GainInRound w.has cs cut next olds s total → AreWithinLimitAt sim cs s (next s) →
       handled_once sim w.same cs s (next s) ≡ handled_once sim w.same cs s (cut s) + total
 
-  -- handled once at the station's time plus the gain is at most the limit times the number of clones, even if logs get
+  -- the number handled once at the station's time, plus the gain, is at most the limit for each clone, even if logs get
   -- too long
   abbrev pub HandledIsFewInRound : Type 0
   HandledIsFewInRound = (w : Counting M N K) (cs : List Clone) (cut next : ℕ → ℕ) (olds : ℕ → List (Copy S M N K))

@@ -19,7 +19,7 @@ pub fn clocks_reach_the_horizon<S, M, N, T: Stations<S, M, N>>()
     ensures rounds { FirstDoneIsRounds T.sim }
 {}
 
-/// In a round each station may go alone, from its clock to its next one.
+/// In a round each station may run alone, from its clock to its next one.
 pub fn rounds_give_runs<S, M, N, T: Stations<S, M, N>>()
     ensures clocks { ClocksMakeRounds T.sim T.good }
     ensures alone { RoundsGiveRuns T.sim T.good }

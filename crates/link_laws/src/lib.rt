@@ -21,17 +21,18 @@
 //! The condition is on all messages, pending or not. So bounds that are chosen by pending messages do not meet it in
 //! general: a window that skips idle time is no round.
 //!
-//! `specs/` has all definitions, and reads upwards: Cuts, CutCopies, Clocks, RoundLaws, Examples. There is nothing to
-//! run and nothing that costs time: the contract of each function in `laws` is a law, and `examples` pins the clocks by
-//! worked values.
+//! `specs/` has all definitions. Read them in this order: Cuts, CutCopies, Clocks, RoundLaws, Examples. There is
+//! nothing to run, and nothing costs time. The contract of each function in `laws` is a law, and `examples` pins the
+//! clocks by worked values.
 //!
 //! It promises, for every simulation that meets the laws of `run_laws` and keeps to its links (`KeepsToLinks`):
 //!
 //! - the clocks rise to the horizon, in at most horizon / lookahead + 1 rounds if the lookahead is positive;
-//! - in a round every station, alone, handles exactly what each clone's own run handles there;
-//! - copies that represent the clones at a cut, stepped and given what was sent, represent them at the next cut;
-//! - handled once grows by what the copies gain, and the limit holds as in windows;
-//! - at a cut with one time for all stations this is the meaning of fronts in `run_laws`.
+//! - in a round every station alone handles exactly the messages that each clone's own run handles there;
+//! - copies that represent the clones at a cut, stepped and given the messages sent to them, represent them at the next
+//!   cut;
+//! - the number handled once grows by the gains of the copies, and the limit holds as in windows;
+//! - at a cut with one time for all stations these laws are those of fronts in `run_laws`.
 //!
 //! Library laws, not used by `cloner`.
 #![tactic(auto)]

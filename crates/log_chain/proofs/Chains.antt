@@ -1,4 +1,4 @@
--- Segments that are cut and joined, and how many of them there are.
+-- Segments that are cut and joined, and their number.
 use Rattle.std.proofs.Common.{◌≡◌, ℕ, zero, suc, ◌+◌, ◌*◌, ◌-◌, ◌^◌, ◌<◌, ◌≤◌}
 use Rattle.std.proofs.Common.{List, [], ◌∷◌, ◌++◌, length, take, drop, get_or, insert, refl}
 use Rattle.std.proofs.Common.{sym, ap, ◌∙◌, arith, append_assoc, append-nil, length-append, length-drop, length-take-le}
@@ -14,7 +14,7 @@ use Rattle.log_chain.specs.Segments.{entries_of_segment, entries_in, lengths, Is
 
 -- ---- take
 
--- what is put at a place, and all before it
+-- the element put at a place, and all before it
 pub take-insert : {A : Type 0} (xs : List A) (k : ℕ) (x : A) → k ≤ length xs
     → take (k + 1) (insert xs k x) ≡ take k xs ++ x ∷ []
 take-insert xs k x within =
@@ -28,7 +28,7 @@ take-rest xs j = rw (← length-drop j xs) (take-length (drop j xs))
 -- ---- entries_in
 
 module _ {X Z : Type 0} where
-  -- the segments before one, this one, and those behind it
+  -- the segments before one, this one, and those after it
   pub entries_in-around : (segments : List (Arc (List X) Z)) (i : ℕ) (s : Arc (List X) Z) → i < length segments
       → s ≡ get_or segments i s
       → entries_in segments ≡ entries_in (take i segments)
@@ -39,7 +39,7 @@ module _ {X Z : Type 0} where
       ap (λ l. entries_of_segment x ++ l) (entries_in-around xs i s (omega arith) e)
       ∙ sym (append_assoc (entries_of_segment x) _ _)
 
-  -- the first segments, and those behind them
+  -- the first segments, and those after them
   entries_in-split : (segments : List (Arc (List X) Z)) (k : ℕ)
       → entries_in (take k segments) ++ entries_in (drop k segments) ≡ entries_in segments
   entries_in-split [] zero = refl
@@ -73,7 +73,7 @@ module _ {X Z : Type 0} where
 
 -- ---- IsHalving
 
--- a fitting segment behind the first k of halving ones
+-- a fitting segment after the first k of halving ones
 halving-put : (ns : List ℕ) (k n : ℕ) → IsHalving ns → 0 < n → IsFit ns k n → IsHalving (take k ns ++ n ∷ [])
 halving-put [] zero n h some fit = (omega (arith, some), tt)
 halving-put [] (suc k) n h some fit = (omega (arith, some), tt)

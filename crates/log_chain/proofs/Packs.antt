@@ -17,7 +17,7 @@ use Rattle.log_chain.specs.declared.packed.PackedEntry.{PackedEntry}
 
 -- ---- entry_by
 
--- an entry, out of the side list or not
+-- an entry, from the side list or not
 abbrev entry_by : Bool → List (Entry Msg Line) → ℕ → Entry Msg Line → Entry Msg Line
 entry_by b wide n e = if b then slice_index_or wide n e else e
 
@@ -27,7 +27,7 @@ entry_by-more : (b : Bool) (wide more : List (Entry Msg Line)) (n : ℕ) (e : En
 entry_by-more true wide more n e h = get_or-append wide more e n (h refl)
 entry_by-more false wide more n e h = refl
 
--- nor does another, where the entry fits
+-- nor does another, if the entry fits
 entry_by-other : (b : Bool) (wide other : List (Entry Msg Line)) (n : ℕ) (e : Entry Msg Line) → (b ≡ true → n < 0)
     → entry_by b wide n e ≡ entry_by b other n e
 entry_by-other true wide other n e h = let below : n < 0 = h refl in absurd (omega arith)
@@ -55,7 +55,7 @@ entries_of-more wide more (p ∷ ps) h =
     ap₂ (λ e es. e ∷ es) (entry_by-more (is_wide p.msg.kind) wide more p.msg.count (unpacked_entry p) h.0.wide)
     (entries_of-more wide more ps h.1)
 
--- nor does another, where all entries fit
+-- nor does another, if all entries fit
 pub entries_of-other : (wide other : List (Entry Msg Line)) (ps : List PackedEntry) → ArePlaced 0 ps
     → entries_of wide ps ≡ entries_of other ps
 entries_of-other wide other [] h = refl
@@ -74,7 +74,7 @@ entries_of-push_wide wide ps p e h is place =
 
 -- ---- IsPlaced, ArePlaced
 
--- what a side list has, a longer one has too
+-- a longer side list keeps the entries of a shorter one
 pub placed-more : (n m : ℕ) (ps : List PackedEntry) → n ≤ m → ArePlaced n ps → ArePlaced m ps
 placed-more n m ps l h = all_weaker (IsPlaced n) (IsPlaced m) ps (λ p f. record {
   wide = λ e. let below : p.msg.count < n = f.wide e in omega arith;
@@ -93,7 +93,7 @@ entry_by-fits : (b : Bool) (wide : List (Entry Msg Line)) (n : ℕ) (e : Entry M
 entry_by-fits true wide n e h f = let below : n < 0 = h refl in absurd (omega arith)
 entry_by-fits false wide n e h f = f refl
 
--- where nothing is in the side list, each key fits one word
+-- if nothing is in the side list, each key fits one word
 pub fit_words-packed : (wide : List (Entry Msg Line)) (ps : List PackedEntry) → ArePlaced 0 ps
     → FitWords (entries_of wide ps)
 fit_words-packed wide [] h = tt

@@ -1,4 +1,4 @@
--- Blocks of one size: a push to the last one, and the block of a place.
+-- Blocks of one size: a push to the last one, and the block of an index.
 use Rattle.std.proofs.Common.{◌≡◌, ℕ, zero, suc, ◌+◌, ◌*◌, ◌<◌, ◌≤◌, List, [], ◌∷◌, ◌++◌, length, drop, get_or, set}
 use Rattle.std.proofs.Common.{refl, sym, ap, ◌∙◌, arith, append_assoc, append-nil, length-append}
 use Rattle.std.specs.Prelude.{Result, Ok, Err, OnOk, OnErr}
@@ -36,7 +36,7 @@ module _ {X : Type 0} where
   blocks-set_last (x ∷ y ∷ z ∷ zs) (suc (suc i)) c h long small =
       (h.0, blocks-set_last (y ∷ z ∷ zs) (suc i) c h.1 (omega (arith, long)) small)
 
-  -- to a new block, where the last one is full or there is none
+  -- to a new block, if the last one is full or there is none
   pub blocks-push : (bs : List (List X)) (b : List X) (e : X) → AreFullButLast bs → b ≡ e ∷ []
       → ((i : ℕ) (l : List X) → length bs ≡ i + 1 → l ≡ get_or bs i l → ENTRIES_OF_BLOCK ≤ length l)
       → AreFullButLast (bs ++ b ∷ [])
@@ -68,7 +68,7 @@ module _ {X : Type 0} where
   all_of-few (x ∷ []) h = omega (arith, h, length-append x [])
   all_of-few (x ∷ y ∷ ys) h = omega (arith, h.0, length-append x (of_blocks (y ∷ ys)), all_of-few (y ∷ ys) h.1)
 
-  -- behind the last entry of a block that is not full is no other
+  -- after the last entry of a block that is not full there is no other
   pub all_of-short : (bs : List (List X)) (i left : ℕ) (b : List X) → AreFullButLast bs → i < length bs
       → b ≡ get_or bs i b → length b ≤ left → left < ENTRIES_OF_BLOCK
       → length (of_blocks bs) ≤ ENTRIES_OF_BLOCK * i + left
@@ -92,7 +92,7 @@ push-length (Err x) old new e ok err small = omega (arith, ap length err)
 
 -- ---- OnErr
 
--- what holds anyway holds of a failure
+-- a property that holds anyway holds of a failure
 pub on_err : {A E : Type 0} {P : Type 0} (r : Result A E) → P → OnErr r P
 on_err (Ok a) p = tt
 on_err (Err e) p = p

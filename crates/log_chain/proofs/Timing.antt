@@ -1,4 +1,4 @@
--- Where the entries at a time or later begin.
+-- The first entry at a time or later.
 use Rattle.std.proofs.Common.{◌≡◌, ℕ, zero, suc, ◌<◌, ◌≤◌, Bool, true, false, not, List}
 use Rattle.std.proofs.Common.{[], ◌∷◌, length, drop, get_or, refl, sym, ap, ◌∙◌, arith}
 use Rattle.std.specs.Prelude.{Some, option_map, slice_get, nat_lt, if◌then◌else◌}
@@ -32,7 +32,7 @@ if_not-false : {X : Type 0} (b : Bool) (x : X) (xs : List X) → (b ≡ true →
 if_not-false true x xs n = absurd (n refl)
 if_not-false false x xs n = refl
 
--- the entries at a time or later begin where those before it end
+-- the entries at a time or later begin at the end of those before it
 pub from_time-drop : (es : List (Entry Msg Line)) (t n : ℕ) → n ≤ length es
     → ((k : ℕ) → k < n → get_or (times_of es) k 0 < t)
     → ((k : ℕ) → n ≤ k → k < length es → t ≤ get_or (times_of es) k 0) → drop n es ≡ from_time t es

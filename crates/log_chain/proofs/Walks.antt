@@ -1,4 +1,4 @@
--- A walk that begins in a segment, and one that goes on.
+-- A walk that begins in a segment, and a walk that continues.
 use Rattle.std.proofs.Common.{◌≡◌, ℕ, suc, ◌+◌, ◌-◌, ◌*◌, ◌<◌, ◌≤◌, List, ◌++◌, length}
 use Rattle.std.proofs.Common.{take, drop, get_or, sym, ap, ap₂, ◌∙◌, arith, append_assoc, add-one}
 use Rattle.std.specs.declared.sync.Arc.{Arc}
@@ -35,11 +35,11 @@ module _ {X Z : Type 0} where
       ∙ (ap (λ l. drop left l) (append_assoc (entries_of_segment s) behind rest)
       ∙ drop-append-le left (entries_of_segment s) (behind ++ rest) within))))
 
--- the elements behind a first list
+-- the elements after a first list
 pub drop-behind : {A : Type 0} (xs ys : List A) (at n : ℕ) → at ≡ length xs + n → drop at (xs ++ ys) ≡ drop n ys
 drop-behind xs ys at n place = ap (λ k. drop k (xs ++ ys)) place ∙ drop-append-add xs ys n
 
--- what is left of packed entries
+-- the rest of packed entries
 entries_of-drop : (wide : List (Entry Msg Line)) (ps : List PackedEntry) (es : List (Entry Msg Line)) (left : ℕ)
     → entries_of wide ps ≡ es → entries_of wide (take (length ps - left) (drop left ps)) ≡ drop left es
 entries_of-drop wide ps es left is = ap (entries_of wide) (take-rest ps left)

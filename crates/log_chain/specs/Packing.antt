@@ -20,11 +20,11 @@ use Rattle.log_chain.specs.declared.packed.PackedEntry.{PackedEntry}
 use Rattle.log_chain.specs.declared.packed.PackedMsg.{PackedMsg}
 use Rattle.log_chain.specs.declared.packed.PackedLine.{PackedLine}
 
--- a set of a parameter, its two values where a job has its count and its time of making
+-- a set of a parameter; its two values are stored as a job's count and birth
 abbrev pub set_payload : Param → Job → Payload
 set_payload p j = payload.Set (record { param = p; a = j.count; b = j.born })
 
--- what a message of a kind tells
+-- the payload of a message of a kind
 abbrev pub payload_of : Kind → Job → Payload
 payload_of kind.Wide j = payload.Tick
 payload_of kind.Tick j = payload.Tick
@@ -60,7 +60,7 @@ counts_of line.Sink l = Sink l.first (l.third * 2 ^ 32 + l.second)
 abbrev pub unpacked_line : PackedLine → Line
 unpacked_line l = counts_of l.kind l
 
--- the entry that a packed one has in its own numbers
+-- the entry that a packed one stores itself
 abbrev pub unpacked_entry : PackedEntry → Entry Msg Line
 unpacked_entry p = record { msg = msg_of p.msg; line = unpacked_line p.line }
 
@@ -69,7 +69,7 @@ abbrev pub is_wide : Kind → Bool
 is_wide kind.Wide = true
 is_wide _ = false
 
--- the entry, which is in the side list where it did not fit
+-- the entry, read from the side list if it did not fit
 abbrev pub entry_of : List (Entry Msg Line) → PackedEntry → Entry Msg Line
 entry_of wide p = if is_wide p.msg.kind then slice_index_or wide p.msg.count (unpacked_entry p) else unpacked_entry p
 
@@ -77,17 +77,17 @@ entry_of wide p = if is_wide p.msg.kind then slice_index_or wide p.msg.count (un
 abbrev pub entries_of : List (Entry Msg Line) → List PackedEntry → List (Entry Msg Line)
 entries_of wide ps = map (entry_of wide) ps
 
--- a message that fits, and its key fits one word
+-- a message that fits, with a key that fits one word
 pub record IsNarrow (m : PackedMsg) : Type 0 where
   pub narrow : is_wide m.kind ≡ false
   pub word : FitsWord (key_of m)
 
--- the entry fits, or the side list of n entries has it
+-- the entry fits, or is in the side list of n entries
 pub record IsPlaced (n : ℕ) (p : PackedEntry) : Type 0 where
   pub wide : is_wide p.msg.kind ≡ true → p.msg.count < n
   pub narrow : is_wide p.msg.kind ≡ false → FitsWord (key_of p.msg)
 
--- each of them does
+-- so it is for each entry
 abbrev pub ArePlaced : ℕ → List PackedEntry → Type 0
 ArePlaced n ps = AllByRecursion (IsPlaced n) ps
 

@@ -1,4 +1,4 @@
--- How a log is stored: segments that other logs may share, and a tail of its own.
+-- The storage of a log: segments that other logs may share, and a tail of its own.
 use Rattle.std.specs.Prelude.{◌≡◌, ℕ, ◌+◌, ◌*◌, ◌-◌, ◌<◌, ◌≤◌, List, [], ◌∷◌, length, map, flat_map, slice_index}
 use Rattle.std.specs.Arc.{arc_value}
 use Rattle.std.specs.declared.sync.Arc.{Arc}
@@ -15,7 +15,7 @@ module _ {X Z : Type 0} where
   abbrev pub entries_in : List (Arc (List X) Z) → List X
   entries_in segments = flat_map entries_of_segment segments
 
-  -- how long each segment is
+  -- the length of each segment
   abbrev pub lengths : List (Arc (List X) Z) → List ℕ
   lengths segments = map (λ s. length (entries_of_segment s)) segments
 
@@ -28,7 +28,7 @@ IsHalving (n ∷ ns) = (2 * slice_index ns 0 < n) × IsHalving ns
 abbrev pub IsFit : List ℕ → ℕ → ℕ → Type 0
 IsFit ns k size = 0 < k → 2 * size < slice_index ns (k - 1)
 
--- a log's segments and how many entries they have, its blocks and how many those have
+-- a log's segments and the number of their entries, and its blocks and the number of theirs
 pub record IsChain {X Z : Type 0} (segments : List (Arc (List X) Z)) (shared : ℕ) (blocks : List (List X))
     (more : ℕ) : Type 0 where
   pub halving : IsHalving (lengths segments)

@@ -14,7 +14,7 @@ Rises (n ∷ ns) = AllByRecursion (λ m. n ≤ m) ns × Rises ns
 abbrev pub times_of : List (Entry Msg Line) → List ℕ
 times_of es = map (λ e. e.msg.key.time) es
 
--- no entry is of a later time than one behind it
+-- no entry is later than an entry after it
 abbrev pub RiseByTime : List (Entry Msg Line) → Type 0
 RiseByTime es = Rises (times_of es)
 

@@ -8,10 +8,10 @@ use crate::entry_list::EntryList;
 use sim_base::{Entry, NoMemory};
 use std::alloc::Global;
 
-/// A block has so many entries, the last one at most so many.
+/// The number of entries in a full block; only the last block may have fewer.
 pub const ENTRIES_OF_BLOCK: usize = 64;
 
-/// Adds an entry behind those of the blocks: to the last one, or to a new one where that is full.
+/// Appends an entry: to the last block, or to a new one if that is full.
 pub fn push(blocks: &mut Vec<EntryList>, entry: &Entry) -> Result<(), NoMemory>
     requires blocks { AreFullButLast blocks.old.items }
     ensures blocks { AreFullButLast blocks.new.items }
@@ -28,7 +28,7 @@ pub fn push(blocks: &mut Vec<EntryList>, entry: &Entry) -> Result<(), NoMemory>
     Ok(())
 }
 
-/// Second blocks with the same entries.
+/// A copy of the blocks with the same entries.
 pub fn copy_blocks(alloc: Global, blocks: &[EntryList]) -> Result<Vec<EntryList>, NoMemory>
     ensures value { IfOk result (λ v. v.items ≡ blocks.now) }
 {

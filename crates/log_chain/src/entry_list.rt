@@ -1,4 +1,4 @@
-//! Entries that lie side by side in memory.
+//! Entries that are contiguous in memory.
 ghost use Rattle.std.specs.Prelude.{◌≡◌, ◌++◌, ◌∷◌, [], length, OnOk, OnErr, IfOk, IsTrue};
 ghost use Rattle.log_chain.specs.Packing.{entries_of, FitWords};
 
@@ -30,7 +30,7 @@ impl Model for EntryList {
 }
 
 impl EntryList {
-    /// No entries, and memory for so many that fit in 32 bytes.
+    /// An empty list with memory for `capacity` entries that fit in 32 bytes.
     pub fn with_capacity(alloc: Global, capacity: usize) -> Result<EntryList, NoMemory>
         ensures value { IfOk result (λ r. r ≡ []) }
     {
@@ -40,7 +40,7 @@ impl EntryList {
         })
     }
 
-    /// Adds an entry at the end.
+    /// Appends an entry.
     pub fn push(&mut self, entry: &Entry) -> Result<(), NoMemory>
         ensures ok { OnOk result (self.new ≡ self.old ++ entry.now ∷ []) }
         ensures err { OnErr result (self.new ≡ self.old) }
@@ -54,7 +54,7 @@ impl EntryList {
         }
     }
 
-    // the entry goes to the side list, and its place there to its own place
+    // the entry goes to the side list, and its index there is packed in its stead
     fn push_wide(&mut self, entry: &Entry) -> Result<(), NoMemory>
         ensures ok { OnOk result (self.new ≡ self.old ++ entry.now ∷ []) }
         ensures err { OnErr result (self.new ≡ self.old) }
@@ -68,7 +68,7 @@ impl EntryList {
         Ok(())
     }
 
-    /// Adds the entries of another list at the end.
+    /// Appends the entries of another list.
     pub fn append(&mut self, other: &EntryList) -> Result<(), NoMemory>
         ensures ok { OnOk result (self.new ≡ self.old ++ other.now) }
     {
@@ -82,7 +82,7 @@ impl EntryList {
         Ok(())
     }
 
-    /// A second list with the same entries.
+    /// A copy of the list with the same entries.
     pub fn copy(&self, alloc: Global) -> Result<EntryList, NoMemory>
         ensures value { IfOk result (λ r. r ≡ self.now) }
     {
@@ -92,21 +92,21 @@ impl EntryList {
         })
     }
 
-    /// How many entries it has.
+    /// The number of entries.
     pub fn len(&self) -> usize
         ensures value { result ≡ length self.now }
     {
         self.packed.len()
     }
 
-    /// The entries as they lie in memory, and the side list.
+    /// The entries as stored, and the side list.
     pub fn entries(&self) -> (&[PackedEntry], &[Entry])
         ensures value { entries_of result.1.now result.0.now ≡ self.now }
     {
         (self.packed.as_slice(), self.wide.as_slice())
     }
 
-    /// Whether all its entries are in 32 bytes: then each key fits one word of 64 bits.
+    /// Whether all entries are packed in 32 bytes: then each key fits a 64-bit word.
     pub fn is_packed(&self) -> bool
         ensures words { IsTrue result → FitWords self.now }
     {

@@ -1,8 +1,8 @@
-//! Logs that share what they have in common.
+//! Logs that share their common past.
 //!
-//! A log is what a station has handled, in order: messages, each with the counts after it. When a physical copy
-//! splits, both halves go on from the same past. A `Log` is a list of segments that logs share, and a tail of its own
-//! in blocks, so `share` keeps one copy of that past:
+//! A log has the messages that a station has handled, in order, each with the counts after it. When a physical copy
+//! splits, both halves continue from the same past. A `Log` is a list of segments that logs share, and a tail of its
+//! own in blocks. So `share` keeps one copy of that past:
 //!
 //! ```text
 //! [ entries 0 .. 999 ]--[ 1000 .. 1399 ]--[64]-[64]-[17]    one half
@@ -10,24 +10,23 @@
 //! ```
 //!
 //! ```text
-//! let mut twin = log.share(alloc)?;    // both have the same list, and each grows by itself
+//! let mut twin = log.share(alloc)?;    // both have the same entries, and each grows on its own
 //! log.push(entry)?;
 //! let mut walk = twin.walk_from(1_000);
 //! while let Some(entry) = walk.next() { .. }
 //! ```
 //!
-//! An entry takes 104 bytes. A log keeps it in 32 where its numbers are small enough, as those of a run within the
-//! model's limits are, and in a side list of its block or segment where they are not: what is pushed comes back
-//! exactly. Where all entries are packed (`is_packed`), each key fits one word of 64 bits, which a merge of logs may
-//! compare.
+//! An entry takes 104 bytes. A log packs it into 32 if its numbers are small enough, as those of a run within the
+//! model's limits are. Otherwise the entry is in a side list of its block or segment. Either way, it is read back
+//! exactly. If all entries are packed (`is_packed`), each key fits a 64-bit word, which a merge of logs may compare.
 //!
-//! A push writes 32 bytes and moves no entry that is there. `share` makes the tail a segment, which takes in those
-//! before it for as long as they are at most twice as long: an entry is copied once for each doubling, and a log of
-//! `MOST_HANDLED` entries has at most `MOST_SEGMENTS` segments. A walk takes no memory and meets each segment once;
-//! where times rise it may begin at a time (`walk_from_time`), found by halving.
+//! A push writes 32 bytes and moves no entry. `share` makes the tail a segment, which absorbs the segments before it
+//! while they are at most twice as long. So an entry is copied once for each doubling, and a log of `MOST_HANDLED`
+//! entries has at most `MOST_SEGMENTS` segments. A walk allocates nothing and visits each segment once. If times rise
+//! it may begin at a time (`walk_from_time`), found by binary search.
 //!
-//! Contracts see a log as the list of its entries, so sharing cannot be told from copying: that copies may share their
-//! past without a trace of it in any text rests on this.
+//! Contracts see a log as the list of its entries, so sharing and copying look the same to them. The promise that
+//! copies share their past without any effect on the texts rests on this.
 #![tactic(auto)]
 
 mod blocks;

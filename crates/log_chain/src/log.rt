@@ -14,21 +14,21 @@ use sim_base::{Entry, NoMemory};
 use std::alloc::Global;
 use std::marker::Model;
 
-/// The most entries of a log: so many of 32 bytes are 2^63 bytes, and no list has more.
+/// The most entries of a log: with 32 bytes each they take 2^63 bytes, and no list is longer.
 pub const MOST_ENTRIES: u64 = 1 << 58;
 
-/// The most segments of a log of `MOST_HANDLED` entries, the most that a run within the model's limits gives one.
+/// The most segments of a log of `MOST_HANDLED` entries. A run within the model's limits makes no more.
 pub const MOST_SEGMENTS: u32 = 16;
 
-/// What a station has handled, in order: a list of entries. Logs may share what they have in common, and each grows by
-/// itself.
+/// The log of a station: the entries of the messages that it has handled, in order. Logs may share their past, and each
+/// grows independently.
 #[derive(Drop)]
 pub struct Log {
     segments: Vec<Segment>,
-    // how many entries the segments have
+    // number of entries in the segments
     shared: u64,
     blocks: Vec<EntryList>,
-    // how many entries the blocks have
+    // number of entries in the blocks
     more: usize,
 }
 
@@ -48,7 +48,7 @@ impl Model for Log {
 }
 
 impl Log {
-    /// No entries. It takes no memory.
+    /// An empty log. Allocates nothing.
     pub fn new(alloc: Global) -> Log
         ensures value { result ≡ [] }
     {
@@ -60,7 +60,7 @@ impl Log {
         }
     }
 
-    /// Adds an entry at the end. No entry that is there already is moved.
+    /// Appends an entry. No existing entry is moved.
     pub fn push(&mut self, entry: Entry) -> Result<(), NoMemory>
         ensures ok { OnOk result (self.new ≡ self.old ++ entry ∷ []) }
         ensures err { OnErr result (self.new ≡ self.old) }
@@ -73,8 +73,8 @@ impl Log {
         Ok(())
     }
 
-    /// Makes the tail a segment, which takes in the one before it for as long as that one is at most twice as long. A
-    /// log that is sealed is copied without its entries.
+    /// Makes the tail a segment, which absorbs the segment before it while that is at most twice as long. Copying a
+    /// sealed log copies no entries.
     pub fn seal(&mut self, alloc: Global) -> Result<(), NoMemory>
         ensures same { self.new ≡ self.old }
     {
@@ -95,7 +95,7 @@ impl Log {
         Ok(())
     }
 
-    /// A second log with the same list: this one is sealed, and then copied.
+    /// A second log with the same entries: this one is sealed, and then copied.
     pub fn share(&mut self, alloc: Global) -> Result<Log, NoMemory>
         ensures ok { IfOk result (λ log. log ≡ self.old) }
         ensures same { self.new ≡ self.old }
@@ -104,7 +104,7 @@ impl Log {
         self.copy(alloc)
     }
 
-    /// A second log with the same list, through a shared reference: the tail is copied.
+    /// A second log with the same entries, through a shared reference: the tail is copied.
     pub fn copy(&self, alloc: Global) -> Result<Log, NoMemory>
         ensures value { IfOk result (λ log. log ≡ self.now) }
     {
@@ -116,14 +116,14 @@ impl Log {
         })
     }
 
-    /// How many entries it has.
+    /// The number of entries.
     pub fn len(&self) -> u64
         ensures value { result ≡ length self.now }
     {
         self.shared + self.more as u64
     }
 
-    /// Whether it has none.
+    /// Whether it is empty.
     pub fn is_empty(&self) -> bool
         ensures value { IsTrue result ↔ (self.now ≡ []) }
     {
@@ -142,7 +142,7 @@ impl Log {
         }
     }
 
-    /// A walk along the entries from a place on.
+    /// A walk over the entries from a place on.
     pub fn walk_from(&self, at: u64) -> Walk<'_>
         ensures value { result ≡ drop at self.now }
     {
@@ -155,7 +155,7 @@ impl Log {
         }
     }
 
-    /// A walk along the entries at a time or later.
+    /// A walk over the entries at a time or later.
     pub fn walk_from_time(&self, time: u64) -> Walk<'_>
         requires rises { RiseByTime self.now }
         ensures value { result ≡ from_time time self.now }
@@ -163,7 +163,7 @@ impl Log {
         self.walk_from(self.place_of_time(time))
     }
 
-    /// How many entries come before a time. It is found by halving.
+    /// The number of entries before a time, found by binary search.
     pub fn place_of_time(&self, time: u64) -> u64
         requires rises { RiseByTime self.now }
         ensures within { result ≤ length self.now }
@@ -193,14 +193,14 @@ impl Log {
         }
     }
 
-    /// Whether all its entries are in 32 bytes. Then each of their keys fits one word of 64 bits.
+    /// Whether all entries are packed in 32 bytes. Then each of their keys fits a 64-bit word.
     pub fn is_packed(&self) -> bool
         ensures words { IsTrue result → FitWords self.now }
     {
         are_packed(self.segments.as_slice()) && blocks::are_packed(self.blocks.as_slice())
     }
 
-    /// How many segments it has. It takes no memory.
+    /// The number of segments. Allocates nothing.
     pub fn segments(&self) -> u32
         ensures many { 2 ^ result ≤ length self.now + 1 }
         ensures few { length self.now ≤ MOST_HANDLED → result ≤ MOST_SEGMENTS }

@@ -1,4 +1,4 @@
-//! Entries in 32 bytes, where their numbers are small enough.
+//! Entries in 32 bytes, if their numbers are small enough.
 ghost use Rattle.std.specs.Prelude.{◌≡◌, true, false, IfSome};
 ghost use Rattle.sim_base.specs.declared.message.Job.{Job as JobOf};
 ghost use Rattle.log_chain.specs.Packing.{set_payload, payload_of, key_of, msg_of, unpacked_line};
@@ -6,7 +6,7 @@ ghost use Rattle.log_chain.specs.Packing.{is_wide, unpacked_entry, IsNarrow};
 
 use sim_base::{Change, Entry, Job, Key, Line, Msg, Param, Payload};
 
-/// What a packed message tells, or that the entry does not fit and is in the side list.
+/// The kind of a packed message's payload, or that the entry does not fit and is in the side list.
 #[derive(Clone, Copy)]
 pub enum Kind {
     Wide,
@@ -21,7 +21,7 @@ pub enum Kind {
     Weight,
 }
 
-/// Which counts a packed line has.
+/// The kind of a packed line.
 #[derive(Clone, Copy)]
 pub enum LineKind {
     Source,
@@ -30,7 +30,8 @@ pub enum LineKind {
     Sink,
 }
 
-/// A message in 20 bytes. `count` and `born` are a job's, or the two values of a set, or the place in the side list.
+/// A message in 20 bytes. `count` and `born` are those of a job, or the two values of a set, or the index in the side
+/// list.
 #[derive(Clone, Copy)]
 pub struct PackedMsg {
     pub time: u32,
@@ -43,8 +44,8 @@ pub struct PackedMsg {
     pub kind: Kind,
 }
 
-/// A line in 12 bytes: jobs done, lost, waiting and in service of a server; jobs that came to a sink and the sum of
-/// their times, its low 32 bits and those above; of the others one number.
+/// A line in 12 bytes. For a server: jobs done, lost, waiting and in service. For a sink: the arrived jobs, and the low
+/// and high 32 bits of the sum of their times. Other lines have one number.
 #[derive(Clone, Copy)]
 pub struct PackedLine {
     pub first: u32,
@@ -54,7 +55,7 @@ pub struct PackedLine {
     pub kind: LineKind,
 }
 
-/// An entry in 32 bytes, or its place in the side list.
+/// An entry in 32 bytes, or its index in the side list.
 #[derive(Clone, Copy)]
 pub struct PackedEntry {
     pub msg: PackedMsg,
@@ -82,7 +83,7 @@ impl PackedEntry {
         u32::from(self.msg.to)
     }
 
-    /// What its message tells.
+    /// The payload of its message.
     #[inline(always)]
     pub fn payload(&self) -> Payload
         ensures value { result ≡ (unpacked_entry self.now).msg.payload }
@@ -98,7 +99,7 @@ impl PackedEntry {
         unpack_line(&self.line)
     }
 
-    /// The entry.
+    /// The unpacked entry.
     #[inline(always)]
     pub fn entry(&self) -> Entry
         ensures value { result ≡ unpacked_entry self.now }
@@ -110,7 +111,7 @@ impl PackedEntry {
     }
 }
 
-/// The entry in 32 bytes, or None where a number of it is too large.
+/// The entry in 32 bytes, or None if one of its numbers is too large.
 pub fn pack(entry: &Entry) -> Option<PackedEntry>
     ensures value { IfSome result (λ p. unpacked_entry p ≡ entry.now) }
     ensures narrow { IfSome result (λ p. IsNarrow p.msg) }
@@ -120,7 +121,7 @@ pub fn pack(entry: &Entry) -> Option<PackedEntry>
     Some(PackedEntry { msg, line })
 }
 
-/// The packed form of the entry at a place of the side list.
+/// The packed form of the entry at an index of the side list.
 pub fn pack_place(place: u32) -> PackedEntry
     ensures wide { is_wide result.msg.kind ≡ true }
     ensures place { result.msg.count ≡ place }
@@ -157,7 +158,7 @@ pub fn is_wide(msg: &PackedMsg) -> bool
     }
 }
 
-// The message in 20 bytes, or None where a number of it is too large.
+// The message in 20 bytes, or None if one of its numbers is too large.
 fn pack_msg(msg: &Msg) -> Option<PackedMsg>
     ensures value { IfSome result (λ m. msg_of m ≡ msg.now) }
     ensures narrow { IfSome result (λ m. IsNarrow m) }
@@ -177,7 +178,7 @@ fn pack_msg(msg: &Msg) -> Option<PackedMsg>
     }
 }
 
-// The message with this kind and job, or None where a number is too large.
+// The message with this kind and job, or None if a number is too large.
 fn with_payload(msg: &Msg, kind: Kind, job: Job) -> Option<PackedMsg>
     requires narrow { is_wide kind ≡ false }
     ensures value { IfSome result (λ m. msg_of m ≡ record msg.now { payload = payload_of kind job }) }
@@ -220,7 +221,7 @@ fn kind_of(param: Param) -> Kind
     }
 }
 
-// The counts in 12 bytes, or None where one is too large.
+// The counts in 12 bytes, or None if one is too large.
 fn pack_line(line: &Line) -> Option<PackedLine>
     ensures value { IfSome result (λ l. unpacked_line l ≡ line.now) }
 {
@@ -243,7 +244,7 @@ fn pack_line(line: &Line) -> Option<PackedLine>
     }
 }
 
-// A line of this kind with these counts, or None where one is too large.
+// A line of this kind with these counts, or None if one is too large.
 fn with_counts(kind: LineKind, first: u64, second: u64, third: u64, busy: u64) -> Option<PackedLine>
     ensures value { IfSome result (λ l. l ≡ record {
       first = first;
@@ -266,7 +267,6 @@ fn with_counts(kind: LineKind, first: u64, second: u64, third: u64, busy: u64) -
     }
 }
 
-// The key of a packed message.
 #[inline(always)]
 fn unpack_key(msg: &PackedMsg) -> Key
     ensures value { result ≡ key_of msg.now }
@@ -278,7 +278,6 @@ fn unpack_key(msg: &PackedMsg) -> Key
     }
 }
 
-// A packed message.
 #[inline(always)]
 fn unpack_msg(msg: &PackedMsg) -> Msg
     ensures value { result ≡ msg_of msg.now }
@@ -290,7 +289,7 @@ fn unpack_msg(msg: &PackedMsg) -> Msg
     }
 }
 
-// What a packed message tells.
+// The payload of a packed message.
 #[inline(always)]
 fn unpack_payload(msg: &PackedMsg) -> Payload
     ensures value { result ≡ (msg_of msg.now).payload }
@@ -313,7 +312,7 @@ fn unpack_payload(msg: &PackedMsg) -> Payload
     }
 }
 
-// A set of the parameter: its two values stand where a job has its count and its time of making.
+// A set of the parameter: `values` has its two values as a job's count and birth.
 #[inline(always)]
 fn set(param: Param, values: &Job) -> Payload
     ensures value { result ≡ set_payload param values.now }
@@ -325,7 +324,6 @@ fn set(param: Param, values: &Job) -> Payload
     })
 }
 
-// The counts of a packed line.
 #[inline(always)]
 fn unpack_line(line: &PackedLine) -> Line
     ensures value { result ≡ unpacked_line line.now }

@@ -26,8 +26,8 @@ pub fn share_segments(alloc: Global, segments: &[Segment]) -> Result<Vec<Segment
     Ok(copies)
 }
 
-/// How many segments stay as they are when `size` entries come behind them, and how long the segment after those is,
-/// which takes in the others.
+/// The number of segments that remain unchanged when `size` entries are appended, and the length of the next segment,
+/// which absorbs the others.
 pub fn fit_behind(segments: &[Segment], size: usize) -> (usize, usize)
     requires most { length (entries_in segments.now) + size ≤ MOST_ENTRIES }
     ensures within { result.0 ≤ length segments.now }
@@ -43,7 +43,7 @@ pub fn fit_behind(segments: &[Segment], size: usize) -> (usize, usize)
     (before, size)
 }
 
-/// A new segment: the entries of the segments and then those of the blocks, `size` entries together.
+/// A new segment: the entries of the segments, then those of the blocks, `size` in all.
 pub fn join_segments(
     alloc: Global,
     size: usize,
@@ -62,7 +62,7 @@ pub fn join_segments(
     Ok(Arc::new(alloc, list)?)
 }
 
-/// Puts a segment behind the first `before` ones, in place of the others.
+/// Replaces all segments after the first `before` ones by one segment.
 pub fn put_behind(
     segments: &mut Vec<Segment>,
     before: usize,

@@ -4,13 +4,13 @@ ghost use Rattle.std.specs.Prelude.{◌≡◌};
 use crate::packed::{PackedEntry, is_wide};
 use sim_base::{Entry, Key};
 
-/// An entry of a log as the log stores it: packed in 32 bytes, or whole where a number of it is too large. What writes
-/// a packed entry somewhere else reads it part by part, and never has the whole entry in memory.
+/// An entry as the log stores it: packed in 32 bytes, or whole if one of its numbers is too large. A caller that copies
+/// a packed entry into another format reads it part by part, and never has the whole entry in memory.
 #[derive(Clone, Copy)]
 pub enum StoredEntry<'a> {
-    /// In 32 bytes.
+    /// Packed in 32 bytes.
     Packed(&'a PackedEntry),
-    /// In the side list.
+    /// Whole, in the side list.
     Whole(&'a Entry),
 }
 
@@ -18,7 +18,7 @@ impl<'a> StoredEntry<'a> {
     ghost use Rattle.log_chain.specs.Packing.{entry_of};
     ghost use Rattle.log_chain.specs.Stored.{entry_in};
 
-    /// The entry of a packed one; `wide` is the side list.
+    /// The stored form of a packed entry; `wide` is the side list.
     #[inline(always)]
     pub(crate) fn new(packed: &'a PackedEntry, wide: &'a [Entry]) -> StoredEntry<'a>
         ensures value { entry_in result ≡ entry_of wide.now packed.now }

@@ -1,4 +1,4 @@
-//! Walks along a log.
+//! Walks over a log.
 ghost use Rattle.std.specs.Prelude.{◌≡◌, ◌++◌, ◌∷◌, [], ◌<◌, ◌≤◌, length, drop, IfSome, IfNone, option_map, slice_get};
 ghost use Rattle.sim_base.specs.Blocks.{of_blocks};
 ghost use Rattle.log_chain.specs.Blocks.{AreFullButLast};
@@ -13,16 +13,16 @@ use crate::stored::StoredEntry;
 use sim_base::{Entry, Key};
 use std::marker::Model;
 
-/// The entries of a log from some place on. A walk meets each segment once, and takes no memory.
+/// Iterator over the entries of a log from some place on. A walk visits each segment once, and allocates nothing.
 #[derive(Drop)]
 pub struct Walk<'a> {
-    // what is left of the part where the walk is
+    // the rest of the current part
     packed: &'a [PackedEntry],
     wide: &'a [Entry],
     // the parts after it
     segments: &'a [Segment],
     blocks: &'a [EntryList],
-    // bytes of entries some places on: reading them early brings their memory near
+    // bytes of entries some places ahead: reading them prefetches the entries
     ahead: u8,
 }
 
@@ -44,7 +44,7 @@ impl<'a> Model for Walk<'a> {
 }
 
 impl<'a> Walk<'a> {
-    /// The next entry, None exactly at the end.
+    /// The next entry, or None at the end.
     #[inline(always)]
     pub fn next(&mut self) -> Option<Entry>
         ensures some { IfSome result (λ e. self.old ≡ e ∷ self.new) }
@@ -56,7 +56,7 @@ impl<'a> Walk<'a> {
         Some(self.take().entry())
     }
 
-    /// The next entry of a walk that is not at its end, as the log stores it.
+    /// The next entry as the log stores it. The walk must not be at its end.
     #[inline(always)]
     pub fn take(&mut self) -> StoredEntry<'a>
         requires some { 1 ≤ length self.old }
@@ -66,7 +66,7 @@ impl<'a> Walk<'a> {
             unreachable!()
         };
         let entry = StoredEntry::new(packed, self.wide);
-        // one of eight, so that their memory comes at once and is not waited for each time
+        // once in eight entries, so that their cache misses overlap
         if rest.len() % 8 == 7 {
             self.ahead = bytes_ahead(rest);
         }
@@ -78,7 +78,7 @@ impl<'a> Walk<'a> {
         entry
     }
 
-    /// The key of the next entry, None exactly at the end. The entry itself is not unpacked.
+    /// The key of the next entry, or None at the end. The entry itself is not unpacked.
     #[inline(always)]
     pub fn key(&self) -> Option<Key>
         ensures value { result ≡ option_map (λ e. e.msg.key) (slice_get self.now 0) }
@@ -88,7 +88,7 @@ impl<'a> Walk<'a> {
     }
 }
 
-// A byte of every second entry, eight to fourteen places on: two entries share a line of the processor's memory.
+// Reads a byte of every second entry, eight to fourteen places ahead: two entries share a cache line.
 #[inline(always)]
 fn bytes_ahead(rest: &[PackedEntry]) -> u8 {
     if rest.len() <= 14 {
@@ -97,7 +97,7 @@ fn bytes_ahead(rest: &[PackedEntry]) -> u8 {
     rest[8].msg.sender ^ rest[10].msg.sender ^ rest[12].msg.sender ^ rest[14].msg.sender
 }
 
-/// A walk along all of the segments and blocks.
+/// A walk over all segments and blocks.
 pub fn walk_along<'a>(segments: &'a [Segment], blocks: &'a [EntryList]) -> Walk<'a>
     ensures value { result ≡ entries_in segments.now ++ of_blocks blocks.now }
 {
@@ -116,7 +116,7 @@ pub fn walk_along<'a>(segments: &'a [Segment], blocks: &'a [EntryList]) -> Walk<
     walk_along_blocks(blocks)
 }
 
-// A walk along all of the blocks.
+// A walk over all blocks.
 fn walk_along_blocks<'a>(blocks: &'a [EntryList]) -> Walk<'a>
     ensures value { result ≡ of_blocks blocks.now }
 {
@@ -135,7 +135,7 @@ fn walk_along_blocks<'a>(blocks: &'a [EntryList]) -> Walk<'a>
     at_end()
 }
 
-/// A walk from a place among the segments' entries on.
+/// A walk from a place among the segments' entries.
 pub fn from_segment<'a>(segments: &'a [Segment], blocks: &'a [EntryList], at: usize) -> Walk<'a>
     requires there { at < length (entries_in segments.now) }
     ensures value { result ≡ drop at (entries_in segments.now ++ of_blocks blocks.now) }
@@ -157,7 +157,7 @@ pub fn from_segment<'a>(segments: &'a [Segment], blocks: &'a [EntryList], at: us
     unreachable!()
 }
 
-/// A walk from a place among the blocks' entries on.
+/// A walk from a place among the blocks' entries.
 pub fn from_block<'a>(blocks: &'a [EntryList], at: usize) -> Walk<'a>
     requires sizes { AreFullButLast blocks.now }
     ensures value { result ≡ drop at (of_blocks blocks.now) }

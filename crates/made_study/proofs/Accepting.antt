@@ -1,5 +1,4 @@
--- The made script is accepted by every made network: plan by plan, each in the situation that the plans before it
--- leave.
+-- Every made network accepts the made script: plan by plan, each in the situation after the plans before it.
 use Rattle.std.proofs.Common.{◌≡◌, ℕ, zero, suc, ◌+◌, ◌*◌, ◌/◌, ◌%◌, List, [], ◌∷◌, ◌++◌, refl}
 use Rattle.std.proofs.Common.{ap, ◌∙◌, subst, arith, None, Some, Ok, nat_lt, nat_le, ◌==◌, true, false, length}
 use Rattle.std.specs.Fmt.{digits}
@@ -28,12 +27,12 @@ use Rattle.made_study.specs.Scripts.{fork_of_plan, made_script, plan_name, set_o
 
 -- ---- the situations between the plans
 
--- the situation with these clones after so many calls, at a network with so many wards beside the first
+-- the situation with these clones after this number of calls, at a network with this number of further wards
 abbrev situation_with : ℕ → ℕ → List Clone → ℕ → Situation
 situation_with n others clones calls =
     record { net = net_with n (suc others); clones = clones; front = 0; calls = calls }
 
--- the situation after so many plans
+-- the situation after this number of plans
 abbrev situation_after : ℕ → ℕ → ℕ → Situation
 situation_after n others count = situation_with n others (clones_of_plans count) (2 * count)
 
@@ -75,7 +74,7 @@ set_accepted net clones calls c at who station change left begun there going fou
 not_late : (at : ℕ) → nat_lt at 0 ≡ false
 not_late at = grind (arith, nat_tests)
 
--- what an accepted set leads to
+-- the situation after an accepted set
 set_leads : (net : Net) (clones : List Clone) (calls c at : ℕ) (who station : List ℕ) (change : Change)
     → reply (record { net = net; clones = clones; front = 0; calls = calls }) (Set who at station change) ≡ Accepted
     → place_of who clones ≡ Some c
@@ -89,7 +88,7 @@ set_leads : (net : Net) (clones : List Clone) (calls c at : ℕ) (who station : 
     }
 set_leads net clones calls c at who station change accepted there found = rw (accepted, there, found) refl
 
--- the clones between the two decisions of the next plan: it has what the plan has that it is a fork of
+-- the clones between the two decisions of the next plan: it has the decisions of its parent
 abbrev clones_between : ℕ → List Clone
 clones_between count =
     clones_of_plans count
@@ -105,7 +104,8 @@ clones_after_set count = clones_with_plan (clones_between count) (count + 1) (ow
 
 -- ---- the next plan
 
--- what is computed of the next plan: the fork is accepted and leads there, and the set meets no row of the table
+-- facts about the next plan, by computation: the fork is accepted and leads there, and the set meets no row of the
+-- table
 abbrev Facts : ℕ → ℕ → ℕ → Type 0
 Facts n others count =
     (reply (situation_after n others count) (fork_of_plan (count + 1)) ≡ Accepted)
@@ -118,7 +118,7 @@ Facts n others count =
     × (nat_le 5000 (100 * (count + 1)) ≡ false)
     × (situation_with n others (clones_after_set count) (2 * count + 1 + 1) ≡ situation_after n others (count + 1))
 
--- they hold of each plan, whatever the number and however many wards there are
+-- they hold of each plan, for every number and every number of wards
 facts : (n others : ℕ) → AllByRecursion (Facts n others) (range_with_len 0 PLANS)
 unfolding digits
 facts n others = (
@@ -196,7 +196,7 @@ is_next n others count (fork, forks, left, there, going, takes, free, early, add
 
 -- ---- first_refusal and after_all
 
--- the decisions of so many plans, from one on
+-- the decisions of this number of plans, from one on
 abbrev decisions_of_plans : ℕ → ℕ → List Decision
 decisions_of_plans first count = flat_map (λ j. fork_of_plan j ∷ set_of_plan j ∷ []) (range_with_len first count)
 

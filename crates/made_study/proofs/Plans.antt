@@ -8,7 +8,7 @@ use Rattle.made_study.specs.Scripts.{fork_of_plan, made_script, set_of_plan}
 
 -- ---- canonical_text
 
--- a one as it is written
+-- the digit 1 as it is written
 decimal_one : decimal 1 ≡ codes "1"
 unfolding digits
 decimal_one = refl
@@ -24,12 +24,12 @@ plans_are_canonical = refl
 
 -- ---- line_text
 
--- the words of a set, where its numbers are written as a, b, c, d and e
+-- the words of a set with its numbers written as a, b, c, d and e
 abbrev words_of_set : List ℕ → List ℕ → List ℕ → List ℕ → List ℕ → List (List ℕ)
 words_of_set a b c d e =
     codes "set" ∷ (codes "plan" ++ a) ∷ codes "at" ∷ b ∷ (codes "ward" ++ c) ∷ codes "service" ∷ d ∷ e ∷ []
 
--- the line of a set, where its numbers are written as a, b, c, d and e
+-- the line of a set with its numbers written as a, b, c, d and e
 set_line : (a b c d e : List ℕ)
     → line_text (words_of_set a b c d e)
     ≡ codes "set plan"

@@ -1,4 +1,4 @@
--- Texts of the numbers of a range, with one number more.
+-- Texts of the numbers of a range, with one more number.
 use Rattle.std.proofs.Common.{◌≡◌, ℕ, zero, suc, ◌+◌, ◌-◌, ◌≤◌, List, [], ◌∷◌, ◌++◌, ap, ◌∙◌, arith, append-nil}
 use Rattle.std.specs.List.{flat_map, join_by, range_with_len}
 use Rattle.std.proofs.lemmas.Grind.{flat_map-append}
@@ -35,7 +35,7 @@ texts-more f a i l =
 
 -- ---- join_by
 
--- the first of some texts, and then each further one after what separates them
+-- the first of some texts, and then each further one after the separator
 pub join_by-range : {A : Type 0} (f : ℕ → List A) (between : List A) (n : ℕ)
     → 1 ≤ n
     → join_by f between (range_with_len 1 n)

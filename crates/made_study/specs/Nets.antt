@@ -7,15 +7,15 @@ use Rattle.net_model.specs.declared.station.Link.{Link}
 use Rattle.net_model.specs.Net.{Net, Site, link}
 use Rattle.made_study.specs.Numbers.{longest_gap, longest_service, ward_name, ward_servers, wards}
 
--- the way from the triage to the ward of this number, which is station i + 2
+-- the link from the triage to ward i, which is station i + 2
 abbrev pub way : ℕ → Link
 way i = record { to = i + 2; delay = 2; weight = i }
 
--- the source of at most 5000 patients, who come up to the longest gap apart and go to the triage
+-- the source of at most 5000 patients, who come at most the longest gap apart and go to the triage
 abbrev pub door : ℕ → Site
 door n = record { name = codes "door"; kind = Source 1 (longest_gap n) 5000 1; stream = 1; links = link 2 2 ∷ [] }
 
--- the router that sends each patient to one of so many wards, drawn by the weights of the ways
+-- the router that sends each patient to one of `count` wards, drawn by the weights of the links
 abbrev pub triage : ℕ → Site
 triage count = record {
   name = codes "triage";
@@ -24,7 +24,7 @@ triage count = record {
   links = map way (range_with_len 1 count);
 }
 
--- the ward of this number among so many
+-- ward i of `count`
 abbrev pub ward : ℕ → ℕ → Site
 ward count i = record {
   name = ward_name i;
@@ -37,16 +37,16 @@ ward count i = record {
 abbrev pub walk : ℕ → Site
 walk count = record { name = codes "walk"; kind = Delay 0 4; stream = count + 3; links = link (count + 4) 2 ∷ [] }
 
--- the sink behind it
+-- the sink after the walk
 abbrev pub exit : ℕ → Site
 exit count = record { name = codes "exit"; kind = Sink; stream = count + 4; links = [] }
 
--- a network with so many wards
+-- the stations of a network with `count` wards
 abbrev pub made_sites : ℕ → ℕ → List Site
 made_sites n count =
     door n ∷ triage count ∷ map (ward count) (range_with_len 1 count) ++ walk count ∷ exit count ∷ []
 
--- a network of this seed with so many wards
+-- the network with this seed and `count` wards
 abbrev pub net_with : ℕ → ℕ → Net
 net_with n count = record {
   format = 1;
@@ -57,6 +57,6 @@ net_with n count = record {
   sites = made_sites n count;
 }
 
--- the network of this number
+-- the network with this number
 abbrev pub made_net : ℕ → Net
 made_net n = net_with n (wards n)

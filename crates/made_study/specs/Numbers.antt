@@ -6,18 +6,18 @@ use Rattle.made_study.specs.declared.model.TheConstants.{MOST_WARDS}
 abbrev pub longest_gap : ℕ → ℕ
 longest_gap n = 1 + n % 5
 
--- how many wards there are
+-- the number of wards
 abbrev pub wards : ℕ → ℕ
 wards n = 1 + n % MOST_WARDS
 
--- how many jobs the ward of this number serves at a time
+-- the number of patients that ward i serves at a time
 abbrev pub ward_servers : ℕ → ℕ
 ward_servers i = 1 + i % 3
 
--- and for how long it serves one at most
+-- and its longest service
 abbrev pub longest_service : ℕ → ℕ
 longest_service i = 3 + 2 * i
 
--- what the ward of this number is called
+-- the name of ward i
 abbrev pub ward_name : ℕ → List ℕ
 ward_name i = codes "ward" ++ decimal i

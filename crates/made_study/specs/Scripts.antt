@@ -11,11 +11,11 @@ use Rattle.decision_script.specs.Stating.{ScriptView}
 use Rattle.made_study.specs.Numbers.{ward_name}
 use Rattle.made_study.specs.declared.script.TheConstants.{PLANS}
 
--- what the plan of this number is called
+-- the name of plan j
 abbrev pub plan_name : ℕ → List ℕ
 plan_name j = codes "plan" ++ decimal j
 
--- what a plan is a fork of: the first of the base, and each other one of the plan of half its number
+-- the parent of a plan: the base for the first, and the plan with half its number for each other
 abbrev pub parent : ℕ → List ℕ
 parent j = if j == 1 then codes "base" else plan_name (j / 2)
 
@@ -23,11 +23,11 @@ parent j = if j == 1 then codes "base" else plan_name (j / 2)
 abbrev pub fork_of_plan : ℕ → Decision
 fork_of_plan j = Fork (plan_name j) (parent j)
 
--- when a plan changes the first ward
+-- the time when a plan changes the first ward
 abbrev pub time_of_plan : ℕ → ℕ
 time_of_plan j = 100 * j
 
--- how it changes it: the ward serves a patient for 1 to 2 + j
+-- its change: the ward serves a patient for 1 to 2 + j
 abbrev pub change_of_plan : ℕ → Change
 change_of_plan j = record { param = Service; a = 1; b = 2 + j }
 

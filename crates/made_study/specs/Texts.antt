@@ -3,14 +3,14 @@ use Rattle.std.specs.Prelude.{ℕ, List, ◌++◌, codes, decimal}
 use Rattle.std.specs.List.{flat_map, join_by, range_with_len}
 use Rattle.made_study.specs.Numbers.{longest_gap, longest_service, ward_name, ward_servers, wards}
 
--- what stands at the top
+-- the top of the file
 abbrev pub top_text : ℕ → List ℕ
 top_text n =
     codes "lookahead = 2\n"
     ++ codes "horizon = 5000\n"
     ++ codes "seed = " ++ decimal n ++ codes "\n"
 
--- patients come in
+-- patients enter
 abbrev pub door_text : ℕ → List ℕ
 door_text n =
     codes "[[station]]\n"
@@ -20,11 +20,11 @@ door_text n =
     ++ codes "jobs = 5000\n"
     ++ codes "link = [{ to = \"triage\", delay = 2 }]\n"
 
--- the way to the ward of this number, which has it as its weight
+-- the link to ward i, with weight i
 abbrev pub way_text : ℕ → List ℕ
 way_text i = codes "{ to = \"" ++ ward_name i ++ codes "\", delay = 2, weight = " ++ decimal i ++ codes " }"
 
--- patients are sent to one of so many wards
+-- patients are sent to one of `count` wards
 abbrev pub triage_text : ℕ → List ℕ
 triage_text count =
     codes "[[station]]\n"
@@ -33,7 +33,7 @@ triage_text count =
     ++ codes "by = \"weights\"\n"
     ++ codes "link = [" ++ join_by way_text (codes ", ") (range_with_len 1 count) ++ codes "]\n"
 
--- the ward of this number
+-- ward i
 abbrev pub ward_text : ℕ → List ℕ
 ward_text i =
     codes "[[station]]\n"
@@ -44,7 +44,7 @@ ward_text i =
     ++ codes "service = [3, " ++ decimal (longest_service i) ++ codes "]\n"
     ++ codes "link = [{ to = \"walk\", delay = 3 }]\n"
 
--- patients go out
+-- patients leave
 abbrev pub ways_out_text : List ℕ
 ways_out_text =
     codes "[[station]]\n"
@@ -56,7 +56,7 @@ ways_out_text =
     ++ codes "name = \"exit\"\n"
     ++ codes "kind = \"sink\"\n"
 
--- the text of the model of this number
+-- the text of the model with this number
 abbrev pub model_text : ℕ → List ℕ
 model_text n =
     top_text n

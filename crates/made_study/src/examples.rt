@@ -1,8 +1,8 @@
-//! What the made texts state, computed by the checker from the definitions of what texts state.
+//! The made texts as they are read, computed by the checker from the definitions of reading.
 //!
-//! The script's text is read as the made script, and the made networks accept each of its decisions, whatever the
-//! number. That a model's text is read as the made network is computed for three numbers; for others it is tested.
-//! Each function's contract is a theorem; there is nothing to run.
+//! The script's text is read as the made script, and the made networks accept each of its decisions, for every number.
+//! A model's text is read as the made network: this is computed for three numbers, and tested for others. Each
+//! function's contract is a theorem; there is nothing to run.
 ghost use Rattle.std.specs.Prelude.{◌≡◌, ℕ, Ok, None};
 ghost use Rattle.decision_book.specs.Scripts.{first_refusal, lists_of};
 ghost use Rattle.decision_script.specs.Alone.{decisions};
@@ -16,7 +16,7 @@ ghost use Rattle.made_study.specs.declared.model.TheConstants.{MOST_WARDS};
 ghost use Rattle.made_study.specs.declared.script.TheConstants.{PLANS};
 ghost use Rattle.net_model.specs.Text.{model};
 
-/// How many plans a made script has, and how many wards a made model has at most.
+/// The number of plans of a made script, and the most wards of a made model.
 pub fn limits_in_numbers()
     ensures plans { PLANS ≡ 16 }
     ensures wards { MOST_WARDS ≡ 8 }
@@ -27,13 +27,13 @@ pub fn made_script_is_read()
     ensures { script (canonical_text made_script) ≡ Ok made_script }
 {}
 
-/// No decision of the script is refused, whatever the number, and the script leaves a clone for each plan.
+/// No decision of the script is refused, for every number, and the script leaves a clone for each plan.
 pub fn decisions_are_accepted()
     ensures accepted { (n : ℕ) → first_refusal (made_net n) (decisions made_script.items) ≡ None }
     ensures clones { (n : ℕ) → lists_of (made_net n) (decisions made_script.items) ≡ clones_of_plans PLANS }
 {}
 
-/// The texts of the least and the greatest number, and of one between, are read as the made networks.
+/// The texts of the least and the greatest number, and of one in between, are read as the made networks.
 pub fn made_models_are_read()
     ensures first { model (model_text 1) ≡ Ok (made_net 1) }
     ensures seventh { model (model_text 7) ≡ Ok (made_net 7) }

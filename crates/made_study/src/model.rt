@@ -9,10 +9,10 @@ use sim_base::NoMemory;
 use std::alloc::Global;
 use std::fmt::Write;
 
-/// How many wards a made model has at most.
+/// The most wards of a made model.
 pub const MOST_WARDS: u32 = 8;
 
-// How many wards there are.
+// The number of wards.
 fn ward_count(n: u32) -> u32
     ensures value { result ≡ wards n }
     ensures some { 1 ≤ result }
@@ -38,7 +38,7 @@ fn write_door(text: &mut String, n: u32) -> Result<(), NoMemory>
     Ok(())
 }
 
-// The way to a ward.
+// The link to a ward.
 fn write_way(text: &mut String, i: u32) -> Result<(), NoMemory>
     ensures value { OnOk result (string_bytes text.new ≡ string_bytes text.old ++ way_text i) }
 {
@@ -46,7 +46,7 @@ fn write_way(text: &mut String, i: u32) -> Result<(), NoMemory>
     Ok(())
 }
 
-// The ways to all wards.
+// The links to all wards.
 fn write_ways(text: &mut String, wards: u32) -> Result<(), NoMemory>
     requires some { 1 ≤ wards }
     requires few { wards ≤ MOST_WARDS }
@@ -107,7 +107,7 @@ fn write_ways_out(text: &mut String) -> Result<(), NoMemory>
     Ok(())
 }
 
-/// The text of the model of a number.
+/// The text of the model with this number.
 pub fn model_text(alloc: Global, n: u32) -> Result<Vec<u8>, NoMemory>
     ensures value { IfOk result (λ v. v.items ≡ model_text_of n) }
 {

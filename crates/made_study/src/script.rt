@@ -7,10 +7,10 @@ use sim_base::NoMemory;
 use std::alloc::Global;
 use std::fmt::Write;
 
-/// How many plans every made script has.
+/// The number of plans of every made script.
 pub const PLANS: u32 = 16;
 
-// What a plan is a fork of.
+// The clone that a plan is a fork of.
 fn write_parent(text: &mut String, j: u32) -> Result<(), NoMemory>
     ensures value { OnOk result (string_bytes text.new ≡ string_bytes text.old ++ parent j) }
 {
@@ -44,7 +44,7 @@ fn write_set(text: &mut String, j: u32) -> Result<(), NoMemory>
     Ok(())
 }
 
-/// The text of the script of every number.
+/// The text of the script, which is the same for every number.
 pub fn script_text(alloc: Global) -> Result<Vec<u8>, NoMemory>
     ensures value { IfOk result (λ v. v.items ≡ canonical_text made_script) }
 {

@@ -1,4 +1,5 @@
-//! A made study: the texts of its model and of its script. The number gives the model; the script is the same for all.
+//! A made study: the texts of its model and of its script. The number determines the model; the script is the same for
+//! all.
 ghost use Rattle.std.specs.Prelude.{◌≡◌, IfOk};
 ghost use Rattle.decision_script.specs.Printing.{canonical_text};
 ghost use Rattle.made_study.specs.Texts.{model_text as model_text_of};
@@ -9,7 +10,7 @@ use crate::script::script_text;
 use sim_base::NoMemory;
 use std::alloc::Global;
 
-/// The two texts of a study, as two files would have them.
+/// The two texts of a study, in the form of its two files.
 #[derive(Debug, Drop)]
 pub struct Made {
     /// The text of the model.
@@ -18,7 +19,7 @@ pub struct Made {
     pub script: Vec<u8>,
 }
 
-/// The study of a number. The program asks for 1 to 999,999.
+/// The study with this number. The program asks for 1 to 999,999.
 pub fn generate(alloc: Global, n: u32) -> Result<Made, NoMemory>
     ensures model { IfOk result (λ made. made.model.items ≡ model_text_of n) }
     ensures script { IfOk result (λ made. made.script.items ≡ canonical_text made_script) }

@@ -20,7 +20,7 @@ is_caller Idle = false
 is_caller (Working t) = false
 is_caller _ = true
 
--- the task that a seat has out, or the other where it has none
+-- the task that a seat has out, or the other if it has none
 abbrev task_or : {T : Type 0} → T → MailView T → T
 task_or d (Sent t) = t
 task_or d (Working t) = t
@@ -75,14 +75,14 @@ module _ {T A : Type 0} where
 
   -- ---- steps of one seat, by the states of the mailbox
 
-  -- a view and an act that keep the rule, and what the step then tells
+  -- a view and an act that keep the rule, and the effect of the step
   abbrev Shows : (T → A → Type 0) → Hand T A → (ℕ → ℕ) → (Hand T A → ℕ → Hand T A → Type 0)
       → State (Slot T A) (MailView T) → ℕ → Type 0
   Shows answers m f tells s id = (w : MailView T) × (a : Act (Slot T A)) × Valid s.homes m.1 a
       × IsMailbox answers (stepped s 0 (f (slice_index s.words 0)) id m.1 w a)
       × tells m (slice_index s.words 0) (w, carried_after m.1 a)
 
-  -- a step of the caller is allowed that is shown in each state in which the caller knows so much
+  -- a step of the caller is allowed if it is shown in each state in which the caller knows as much
   Allows-caller : (answers : T → A → Type 0) (slots id : ℕ) (m k : Hand T A) (f : ℕ → ℕ)
       (tells : Hand T A → ℕ → Hand T A → Type 0) → m ≡ k → is_caller k.0 ≡ true
       → ((mail : Mail T A) → HasRightAnswer answers mail → caller_of mail ≡ k.0
@@ -112,7 +112,7 @@ module _ {T A : Type 0} where
 
   -- ---- the caller takes the slot
 
-  -- in the one state in which the caller opens, what it does is in order
+  -- in the one state in which the caller opens, its step keeps the rule
   Shows-opens : (answers : T → A → Type 0) (mail : Mail T A) → HasRightAnswer answers mail → caller_of mail ≡ Opening
       → Shows answers (Opening, []) (λ n. n) (λ m _ w. HasOpened m w) (state_of mail) 0
   Shows-opens answers unshared r e = absurd cc
@@ -130,7 +130,7 @@ module _ {T A : Type 0} where
 
   -- ---- a task is given
 
-  -- in the one state in which the caller holds the slot, it gives in order
+  -- in the one state in which the caller holds the slot, giving keeps the rule
   Shows-gives : (answers : T → A → Type 0) (x : T) (mail : Mail T A) → HasRightAnswer answers mail
       → caller_of mail ≡ Holding
       → Shows answers (Holding, (0, Some (Task x)) ∷ []) (λ _. WAITS) (λ m _ w. HasGiven m w) (state_of mail) 0
@@ -199,7 +199,7 @@ module _ {T A : Type 0} where
 
   -- ---- and answers it
 
-  -- in the one state in which the worker has this task, it leaves an answer in order
+  -- in the one state in which the worker has this task, leaving an answer keeps the rule
   Shows-leaves : (answers : T → A → Type 0) (x : T) (a : A) → answers x a → (mail : Mail T A)
       → HasRightAnswer answers mail → worker_of mail ≡ Working x ∷ []
       → Shows answers (Working x, (0, Some (Answer a)) ∷ []) (λ _. ANSWERED) (λ m _ w. HasGivenAnswer m w)

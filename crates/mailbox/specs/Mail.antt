@@ -1,4 +1,4 @@
--- The rule of a mailbox: what its word, its slot and its seats are in each of its states.
+-- The rule of a mailbox: the values of its word, its slot and its seats in each of its states.
 use Rattle.std.specs.Prelude.{◌≡◌, ℕ, List, [], ◌∷◌, nat_eq, MatchBool, Some, None}
 use Rattle.std.specs.declared.option.Option.{Option as Option'}
 use mathlib.Core.Option.{Option, some, none}
@@ -10,11 +10,11 @@ use Rattle.mailbox.specs.declared.mail.Letter.TheVariants.{Task, Answer}
 use Rattle.mailbox.specs.declared.mail.MailView.{MailView}
 use Rattle.mailbox.specs.declared.mail.MailView.TheVariants.{Alone, Opening, Holding, Sent, Idle, Working}
 
--- what lies in the slot
+-- the contents of the slot
 abbrev pub Slot : Type 0 → Type 0 → Type 0
 Slot T A = Option' (Letter T A)
 
--- what a seat has: its view, and the slots that are out with it
+-- the hand of a seat: its view, and the slots that it has out
 abbrev pub Hand : Type 0 → Type 0 → Type 0
 Hand T A = Me (Slot T A) (MailView T)
 
@@ -37,7 +37,7 @@ module _ {T A : Type 0} where
   stage_of (taken t) = TAKEN
   stage_of (answered t a) = ANSWERED
 
-  -- what lies in the slot, where no seat has it
+  -- the contents of the slot, unless a seat has it
   abbrev pub home_of : Mail T A → Option (Slot T A)
   home_of unshared = some None
   home_of unopened = some None
@@ -64,7 +64,7 @@ module _ {T A : Type 0} where
   worker_of (taken t) = Working t ∷ []
   worker_of (answered t a) = Idle ∷ []
 
-  -- all of it
+  -- the word, the slot and the seats together
   abbrev pub state_of : Mail T A → State (Slot T A) (MailView T)
   state_of mail = record {
     words = stage_of mail ∷ [];
@@ -72,7 +72,7 @@ module _ {T A : Type 0} where
     views = caller_of mail ∷ worker_of mail;
   }
 
-  -- the answer that lies there is one to the task
+  -- an answer in the mailbox is one to its task
   abbrev pub HasRightAnswer : (T → A → Type 0) → Mail T A → Type 0
   HasRightAnswer answers (answered t a) = answers t a
   HasRightAnswer answers _ = Unit {0}
@@ -87,14 +87,14 @@ pub record IsMailbox {T A : Type 0} (answers : T → A → Type 0) (s : State (S
 abbrev pub IsSeatOf : TableId → TableId → Type 0
 IsSeatOf table seat = (seat ≡ table) × (table.words ≡ 1)
 
--- the task that is out, of what the caller or the worker knows
+-- the task that is out, as the caller or the worker knows it
 abbrev pub task_of : {T : Type 0} → MailView T → Option' T
 task_of (Sent t) = Some t
 task_of (Working t) = Some t
 task_of _ = None
 
 module _ {T A : Type 0} where
-  -- ---- what the two seats have between two calls
+  -- ---- the hands of the two seats between two calls
 
   -- the caller has nothing out, and holds the slot, which is empty
   abbrev pub IsHolding : Hand T A → Type 0
@@ -128,13 +128,13 @@ module _ {T A : Type 0} where
   IsWorker (Working t, slots) = slots ≡ (0, None) ∷ []
   IsWorker _ = ⊥
 
-  -- ---- what the steps tell, of what the seat had, the word that was found, and what the seat has then
+  -- ---- the effect of each step: the seat's hand before, the word that was found, and the hand after
 
   -- the caller has the slot
   abbrev pub HasOpened : Hand T A → Hand T A → Type 0
   HasOpened m m' = m' ≡ (Holding, (0, None) ∷ m.1)
 
-  -- what the caller knows once it has given this
+  -- what the caller knows once it has given this letter
   abbrev pub sent_with : List (ℕ × Slot T A) → MailView T
   sent_with ((k, Some (Task t)) ∷ slots) = Sent t
   sent_with _ = Holding
@@ -148,7 +148,7 @@ module _ {T A : Type 0} where
   letter_of (Sent t) = Some (Task t)
   letter_of _ = None
 
-  -- where the letter waited still, the caller has it back
+  -- if the letter still waited, the caller has it back
   abbrev pub HasUndone : Hand T A → ℕ → Hand T A → Type 0
   HasUndone m n m' = MatchBool (nat_eq n WAITS) (m' ≡ (Holding, (0, letter_of m.0) ∷ m.1)) (m' ≡ m)
 
@@ -157,15 +157,15 @@ module _ {T A : Type 0} where
   Answers answers (Sent t) a = answers t a
   Answers answers _ a = Unit {0}
 
-  -- where there was an answer, the caller has it
+  -- if there was an answer, the caller has it
   abbrev pub HasCollected : (T → A → Type 0) → Hand T A → ℕ → Hand T A → Type 0
   HasCollected answers m n m' = MatchBool (nat_eq n ANSWERED)
       ((a : A) × Answers answers m.0 a × (m' ≡ (Holding, (0, Some (Answer a)) ∷ m.1))) (m' ≡ m)
 
-  -- where a letter waited, the worker has it
+  -- if a letter waited, the worker has it
   abbrev pub HasTaken : Hand T A → ℕ → Hand T A → Type 0
   HasTaken m n m' = MatchBool (nat_eq n WAITS) ((t : T) × (m' ≡ (Working t, (0, Some (Task t)) ∷ m.1))) (m' ≡ m)
 
-  -- the worker gave what it had in the slot
+  -- the worker gave the contents of its slot
   abbrev pub HasGivenAnswer : Hand T A → Hand T A → Type 0
   HasGivenAnswer m m' = m' ≡ (Idle, rest m.1)

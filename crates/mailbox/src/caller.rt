@@ -1,5 +1,5 @@
-//! The end that gives tasks, one at a time. A task that is out is taken back or its answer is collected before the next
-//! one is given.
+//! The end that gives tasks, one at a time. The caller must take back a task, or collect its answer, before it gives
+//! the next one.
 ghost use Rattle.std.specs.Prelude.{◌≡◌, Some, None, MatchOption};
 
 use crate::errand::Errand;
@@ -8,7 +8,7 @@ use crate::steps::{give_task, undo, wait_for_answer};
 use std::marker::Model;
 use std::sync::{Arc, Wait};
 
-/// The end that gives tasks. Contracts see it as the task that is out, if one is.
+/// Sending end of a mailbox: it gives tasks. Contracts see it as the task that is out, if any.
 #[derive(Drop)]
 pub struct Caller<T, A, E: Errand<T, A>> {
     /// The mailbox, which the worker shares.
@@ -38,7 +38,7 @@ impl<T: Drop, A: Drop, E: Errand<T, A>> Caller<T, A, E> {
         give_task(&self.table.shared, &mut self.seat, task);
     }
 
-    /// Takes the task back, if the worker has not taken it.
+    /// Takes the task back, unless the worker has taken it.
     pub fn take_back(&mut self) -> Option<T>
         requires given { (task : T) × (self.old ≡ Some task) }
         ensures value { MatchOption result (self.new ≡ self.old)

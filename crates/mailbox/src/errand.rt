@@ -1,6 +1,6 @@
 //! What a worker is asked to do.
 
-/// Which answers a task may get. It is a property of a type, since a rule between threads is.
+/// The allowed answers to a task. A type carries it, since the rule between threads is a property of types.
 pub trait Errand<T, A>: Sync {
     ghost answers: { T → A → Type 0 };
 }

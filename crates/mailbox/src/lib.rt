@@ -1,8 +1,8 @@
-//! A mailbox between two threads: one gives tasks, the other answers them (a channel of capacity one, with replies).
+//! A mailbox between two threads: a channel of capacity one, with a reply to each task.
 //!
-//! A [`Caller`] and a [`Worker`] share one slot. The caller lays a task there, and the worker takes it when it comes
-//! by. Later the worker lays its answer there, and the caller collects it. A task that the worker has not taken yet can
-//! be taken back:
+//! A [`Caller`] and a [`Worker`] share one slot. The caller puts a task there, and the worker takes it when it looks.
+//! Later the worker puts its answer there, and the caller collects it. The caller can take back a task that the worker
+//! has not taken yet:
 //!
 //! ```text
 //!            give            take            answer
@@ -23,16 +23,16 @@
 //! let bill = caller.collect(&rt);         // a bill for this very lot
 //! ```
 //!
-//! What it costs: `open` takes memory for the slot, and nothing else takes any. A call is one or two atomic steps and a
-//! move of the task or the answer. `collect` yields its processor between looks, and does not sleep.
-//! [`Caller::is_answered`] and [`Worker::has_task`] are one load each; what they say may be past when it is read.
+//! Cost: `open` allocates the slot, and nothing else allocates. A call is one or two atomic steps and a move of the
+//! task or the answer. `collect` yields its processor between looks, and does not sleep. [`Caller::is_answered`] and
+//! [`Worker::has_task`] are one load each; their results may be out of date when they are read.
 //!
-//! The promise that it carries: **the answer that is collected is an answer to the very task that was given**, whatever
-//! the threads do in between. Which answers a task may get is said by an [`Errand`]. And a task that is taken back is
-//! the one that was given: either the worker gets it, or the caller has it back.
+//! Promise: **the collected answer is an answer to the very task that was given**, whatever the threads do in between.
+//! An [`Errand`] defines the allowed answers to a task. A task that is taken back is the one that was given: either the
+//! worker gets it, or the caller has it back.
 //!
-//! `specs/Mail.antt` has the rule: a table of the mailbox's states, with the word, the slot and what each end knows. No
-//! contract says that the worker ever takes a task, or answers it: where its end is gone, `collect` waits forever.
+//! `specs/Mail.antt` has the rule: a table of the mailbox's states, with the word, the slot and what each end knows. It
+//! is not proved that the worker ever takes or answers a task: if its end is dropped, `collect` waits forever.
 #![tactic(auto)]
 
 pub mod caller;

@@ -1,19 +1,19 @@
-//! What lies in a mailbox, what its seats know, and the rule of its table.
+//! The contents of a mailbox, the knowledge of its seats, and the rule of its table.
 use crate::errand::Errand;
 use atomic_table::{Play, Seat, Shared, Split, Table, TableRule};
 use std::alloc::Global;
 use std::marker::PhantomData;
 
-/// The word of a mailbox in which nothing is out.
+/// The word of an empty mailbox.
 pub const EMPTY: u64 = 0;
-/// The word where a task waits.
+/// The word while a task waits.
 pub const WAITS: u64 = 1;
-/// The word where the worker has taken the task.
+/// The word once the worker has taken the task.
 pub const TAKEN: u64 = 2;
-/// The word where the worker has answered.
+/// The word once the worker has answered.
 pub const ANSWERED: u64 = 3;
 
-/// What lies in the slot.
+/// The contents of the slot.
 #[derive(Drop)]
 pub enum Letter<T, A> {
     /// The caller's task.
@@ -22,7 +22,7 @@ pub enum Letter<T, A> {
     Answer(A),
 }
 
-/// What a seat knows. No value of it is made.
+/// What a seat knows. Only contracts use it; the program never makes a value.
 pub enum MailView<T> {
     /// The only seat, before there is a worker.
     Alone,
@@ -108,7 +108,7 @@ impl<T, A> Play<Option<Letter<T, A>>, MailView<T>> for Leave {
     ghost then = { λ _ m _ w. HasGivenAnswer m w };
 }
 
-/// The worker's seat is cut off the caller's.
+/// The worker's seat is split off the caller's.
 pub struct Hire;
 
 impl<T> Split<MailView<T>> for Hire {
@@ -122,7 +122,7 @@ impl<T> Split<MailView<T>> for Hire {
 /// A seat at the table.
 pub type Chair<T, A> = Seat<Option<Letter<T, A>>, MailView<T>>;
 
-/// The table, as the seats share it.
+/// The table as the seats share it.
 pub type Board<T, A, E> = Shared<Option<Letter<T, A>>, MailView<T>, (), MailRule<E>>;
 
 /// The table with its memory.

@@ -11,11 +11,11 @@ use sim_base::NoMemory;
 use std::alloc::Global;
 use std::sync::Arc;
 
-/// Both ends of a new mailbox.
+/// Opens a new mailbox and returns both ends.
 ///
 /// # Errors
 ///
-/// [`NoMemory`], where there is no memory for it.
+/// [`NoMemory`], if the slot cannot be allocated.
 pub fn open<T: Drop, A: Drop, E: Errand<T, A>>(
     alloc: Global,
 ) -> Result<(Caller<T, A, E>, Worker<T, A, E>), NoMemory>

@@ -1,5 +1,5 @@
-//! The steps of the two seats: each is one atomic step on the word, and most move a letter while the seat has the slot.
-//! A letter is laid down before the word tells of it, and taken out after the word was won.
+//! The steps of the two seats. Each is one atomic step on the word, and most move a letter while the seat has the slot.
+//! A letter is stored before the word announces it, and removed after the word was won.
 ghost use Rattle.std.specs.Prelude.{◌≡◌, [], Some, None, MatchOption};
 ghost use Rattle.mailbox.specs.Mail.{IsSeatOf, IsHolding, IsSent, HasTaskOut, IsIdle, IsWorking};
 ghost use Rattle.mailbox.specs.declared.mail.MailView.TheVariants.{Opening};
@@ -11,7 +11,7 @@ use crate::mail::{
 use std::sync::Wait;
 use std::thread;
 
-// The task of a letter that has one.
+// The task in a letter.
 fn task_of<T: Drop, A: Drop>(letter: Option<Letter<T, A>>) -> T
     requires task { (t : T) × (letter ≡ Some (Letter.Task t)) }
     ensures task { letter ≡ Some (Letter.Task result) }
@@ -22,7 +22,7 @@ fn task_of<T: Drop, A: Drop>(letter: Option<Letter<T, A>>) -> T
     task
 }
 
-// The answer of a letter that has one.
+// The answer in a letter.
 fn answer_of<T: Drop, A: Drop>(letter: Option<Letter<T, A>>) -> A
     requires answer { (a : A) × (letter ≡ Some (Letter.Answer a)) }
     ensures answer { letter ≡ Some (Letter.Answer result) }
@@ -33,7 +33,6 @@ fn answer_of<T: Drop, A: Drop>(letter: Option<Letter<T, A>>) -> A
     answer
 }
 
-/// The caller takes the slot.
 pub(crate) fn take_slot<T: Drop, A: Drop, E: Errand<T, A>>(
     board: &Board<T, A, E>,
     seat: &mut Chair<T, A>,
@@ -61,7 +60,7 @@ pub(crate) fn give_task<T: Drop, A: Drop, E: Errand<T, A>>(
     board.store::<Give>(seat, 0, WAITS);
 }
 
-/// The caller takes its task back, where it waits still.
+/// The caller takes its task back, if it still waits.
 pub(crate) fn undo<T: Drop, A: Drop, E: Errand<T, A>>(
     board: &Board<T, A, E>,
     seat: &mut Chair<T, A>,

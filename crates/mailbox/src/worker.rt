@@ -1,4 +1,4 @@
-//! The end that takes tasks, one at a time. A task that was taken is answered before the next one is taken.
+//! The end that takes tasks, one at a time. The worker answers a task before it takes the next one.
 ghost use Rattle.std.specs.Prelude.{◌≡◌, Some, None};
 
 use crate::errand::Errand;
@@ -7,7 +7,7 @@ use crate::steps::{give_answer, take_task};
 use std::marker::Model;
 use std::sync::Arc;
 
-/// The end that takes tasks. Contracts see it as the task that it has taken and not yet answered.
+/// Receiving end of a mailbox: it takes tasks. Contracts see it as the task that was taken and not yet answered.
 #[derive(Drop)]
 pub struct Worker<T, A, E: Errand<T, A>> {
     /// The mailbox, which the caller shares.
@@ -29,7 +29,7 @@ impl<T, A, E: Errand<T, A>> Model for Worker<T, A, E> {
 }
 
 impl<T: Drop, A: Drop, E: Errand<T, A>> Worker<T, A, E> {
-    /// Takes the task that waits, if one does.
+    /// Takes the waiting task, if there is one.
     pub fn take(&mut self) -> Option<T>
         requires idle { self.old ≡ None }
         ensures value { self.new ≡ result }

@@ -1,4 +1,4 @@
--- To put marked messages in their places keeps for which clones they are, and the order.
+-- Putting marked messages in their places keeps their clones and the order.
 use Rattle.std.proofs.Common.{◌≡◌, ℕ, Bool, true, false, ◌||◌, ◌&&◌, List, []}
 use Rattle.std.proofs.Common.{◌∷◌, Ordering, Less, Equal, Greater, refl, sym, ap, ◌∙◌}
 use Rattle.std.specs.List.Sorted.{IsStrictlySortedBy}
@@ -75,7 +75,7 @@ module _ (m : Msg) (c : ℕ) where
 
 -- ---- SortedMarked
 
--- the order of messages stays where all pairs are put in their places
+-- the order of messages stays if all pairs are put in their places
 sorted_onto : (xs q : List (Msg × ℕ)) → SortedMarked msg_cmp q → SortedMarked msg_cmp (group_onto xs q)
 sorted_onto [] q s = s
 sorted_onto (x ∷ xs) q s =

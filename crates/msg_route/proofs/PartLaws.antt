@@ -1,4 +1,4 @@
--- The parts are exactly the nonempty meets.
+-- The parts are exactly the nonempty intersections.
 use Rattle.std.proofs.Common.{◌≡◌, ◌≢◌, ℕ, zero, suc, ◌+◌, ◌<◌, ◌==◌, Bool, true, false, Some, None}
 use Rattle.std.proofs.Common.{List, [], ◌∷◌, map, length, Less, refl, ap, ◌∙◌, subst, arith, nat_cmp}
 use Rattle.std.specs.Prelude.{option_map, if◌then◌else◌}
@@ -15,7 +15,7 @@ use Rattle.msg_route.specs.Routing.{part_for, parts_of, meet_at, IsShared, IsCut
 use Rattle.msg_route.specs.declared.parts.Part.{Part}
 
 module _ (s : ℕ) where
-  -- the parts where the first receiver has the number n
+  -- the parts if the first receiver has the number n
   abbrev parts_from : ℕ → List ℕ → List Part
   parts_from n rs = filter_map (part_for s) (enumerate_from n rs)
 
@@ -62,7 +62,7 @@ module _ (s : ℕ) where
 
   -- ---- Contains
 
-  -- what a list has, it has with a part before it that may be none
+  -- a list keeps its elements after an optional part in front
   contains_before : (b : Bool) (n set : ℕ) (p : Part) (ps : List Part) → Contains ps p
       → Contains (part_before b n set ps) p
   contains_before true n set p ps h = h
@@ -119,7 +119,7 @@ module _ (s : ℕ) where
 
   -- ---- IsCut
 
-  -- a part of the receiver at a place is what they share
+  -- the part of the receiver at a place has the clones in common
   shared_from : (rs : List ℕ) (p : Part) → Among 0 rs p → IsShared s rs p
   shared_from rs p h =
       let e : h.i ≡ p.receiver = omega (arith, h.number) in record {

@@ -1,4 +1,4 @@
--- Which messages a clone takes.
+-- The messages that a clone takes.
 use Rattle.std.proofs.Common.{◌≡◌, inl, inr, ℕ, ◌<◌, true, ◌&&◌, List, [], ◌∷◌}
 use Rattle.std.proofs.Common.{sym, ap, ◌∙◌, subst, arith}
 use Rattle.std.specs.Prelude.{◌↔◌, nat_lt}
@@ -26,7 +26,7 @@ same_msg m x e = subst (λ y. is_eq (msg_cmp m y) ≡ true) e (ap is_eq (tied_it
 module _ (ends : ℕ → ℕ) (m : Msg) (c : ℕ) where
   -- ---- taken_at
 
-  -- what a clone takes is for it, and before its end
+  -- a message that a clone takes is for it, and before its end
   taken_is_for : (sent : List (Msg × ℕ)) → In m (taken_at ends c sent)
       → (is_for m c sent ≡ true) × (m.key.time < ends c)
   taken_is_for [] h = absurd h

@@ -10,12 +10,12 @@ use Rattle.sim_base.specs.declared.message.Msg.{Msg}
 use Rattle.clone_sets.specs.Sets.{has, union}
 use Rattle.clone_sets.specs.declared.set.CloneSet.{CloneSet}
 
--- one message after the other is put in its place, or joined to its equal
+-- each message in turn is put in its place, or joined to its equal
 abbrev pub group_onto : List (Msg × CloneSet) → List (Msg × CloneSet) → List (Msg × CloneSet)
 group_onto [] grouped = grouped
 group_onto (x ∷ xs) grouped = group_onto xs (insert_marked union msg_cmp x.0 x.1 grouped)
 
--- all of them, from none on
+-- all of them, starting with none
 abbrev pub group_of : List (Msg × CloneSet) → List (Msg × CloneSet)
 group_of sent = group_onto sent []
 

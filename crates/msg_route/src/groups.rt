@@ -1,4 +1,4 @@
-//! Equal messages of several copies are one message.
+//! Equal messages of several copies become one message.
 ghost use Rattle.std.specs.Prelude.{◌≡◌, IfOk};
 ghost use Rattle.msg_route.specs.Grouping.{group_of, IsGrouped};
 
@@ -6,7 +6,7 @@ use clone_sets::CloneSet;
 use sim_base::{Msg, NoMemory, Pending};
 use std::alloc::Global;
 
-/// Joins equal messages, and gives them in the order of messages.
+/// Merges equal messages, and returns them in the order of messages.
 pub fn group(alloc: Global, sent: Vec<(Msg, CloneSet)>) -> Result<Vec<(Msg, CloneSet)>, NoMemory>
     ensures value { IfOk result (λ grouped. grouped.items ≡ group_of sent.items) }
     ensures grouped { IfOk result (λ grouped. IsGrouped sent.items grouped.items) }

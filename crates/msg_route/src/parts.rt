@@ -1,4 +1,4 @@
-//! Which copies of a receiver a message of some clones goes to.
+//! The copies of a receiver that a message for some clones goes to.
 ghost use Rattle.std.specs.Prelude.{◌≡◌, ◌<◌, ◌^◌, length, IfOk};
 ghost use Rattle.msg_route.specs.Routing.{parts_of, IsCut};
 
@@ -9,14 +9,14 @@ use std::alloc::Global;
 /// One copy of the receiver, and the clones whose message it gets.
 #[derive(Clone, Copy, Debug, PartialEq, Eq)]
 pub struct Part {
-    /// Its place among the receiver's copies.
+    /// Its index among the receiver's copies.
     pub receiver: u32,
     /// The clones that it shares with the senders.
     pub set: CloneSet,
 }
 
-/// The parts of a message that the senders sent: in rising order of receiver, one for each that
-/// shares clones with them.
+/// The parts of a message from the senders, one for each receiver that shares clones with them, in rising order of
+/// receiver.
 pub fn cut(alloc: Global, senders: CloneSet, receivers: &[CloneSet]) -> Result<Vec<Part>, NoMemory>
     requires { length receivers.now < 2 ^ 32 }
     ensures value { IfOk result (λ parts. parts.items ≡ parts_of senders receivers.now) }

@@ -25,13 +25,13 @@ IsAscii-list_all p small (b ∷ bs) h =
 
 -- ---- tree, model
 
--- the tree of an ASCII text is what the parser finds
+-- the tree of an ASCII text is the parser's result
 tree-ascii : (text : List ℕ) → list_all (λ b. nat_lt b 128) text ≡ true → tree text ≡ parse_document text
 tree-ascii text h =
     let ascii = IsAscii-list_all (λ b. nat_lt b 128) (λ b below. ltb-true b 128 below) text h in
     rw (is_utf8-from_IsUtf8 text (IsUtf8-from_ascii text ascii)) refl
 
--- the model that a text states, where it is parsed without the test that it is UTF-8
+-- the model of a text, if it is parsed without the test for UTF-8
 abbrev pub model_parsed : List ℕ → Result Net ModelFault
 model_parsed text = if nat_lt MOST_FILE_BYTES (length text) then Err TooLong else model_of_tree (parse_document text)
 

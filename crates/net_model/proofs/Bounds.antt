@@ -1,4 +1,4 @@
--- What is known of the values that are read.
+-- Properties of the values that are read.
 use Rattle.std.proofs.Common.{◌≡◌, refl, ap, sym, ◌∙◌, ℕ, ℤ, pos, negsuc, ◌≤◌, ◌&&◌, nat_le, Bool, true, false}
 use Rattle.std.proofs.Common.{List, [], ◌∷◌, Option, Some, None, Result, Ok, Err, if◌then◌else◌, subst}
 use Rattle.std.proofs.lemmas.Bool.{and_parts, leb-true}
@@ -31,13 +31,13 @@ Err-not-Ok e y h = cc
 
 -- ---- if
 
--- a result that is a fault where a test fails, and is Ok, passed the test, and has the value that is given then
+-- if a test decides between Ok and a fault, an Ok result passed the test and has the value of Ok
 pub if-Ok : {A : Type 0} (b : Bool) (x y : A) (e : ModelFault)
     → ◌≡◌ {A = Result A ModelFault} (if b then Ok x else Err e) (Ok y) → (b ≡ true) × (x ≡ y)
 if-Ok true x y e h = (refl, Ok-injective x y h)
 if-Ok false x y e h = absurd (Err-not-Ok e y h)
 
--- a result that is a fault where a test passes, and is Ok, failed the test, and is what is given then
+-- if a passed test means a fault, an Ok result failed the test and is the result of the other case
 pub if-Err : {A : Type 0} (b : Bool) (r : Result A ModelFault) (y : A) (e : ModelFault)
     → ◌≡◌ {A = Result A ModelFault} (if b then Err e else r) (Ok y) → (b ≡ false) × (r ≡ Ok y)
 if-Err true r y e h = absurd (Err-not-Ok e y h)
@@ -50,7 +50,7 @@ pub is_within-bounds : (low high n : ℕ) → is_within low high n ≡ true → 
 is_within-bounds low high n h = let parts = and_parts (nat_le low n) (nat_le n high) h in
     (leb-true low n parts.0, leb-true n high parts.1)
 
--- and what is found to be a range of times is one
+-- and a range of times that was found is one
 pub is_range-bounds : (low lo hi : ℕ) → is_range low lo hi ≡ true → IsRange low lo hi
 is_range-bounds low lo hi h =
     let parts = and_parts (nat_le low lo && nat_le lo hi) (nat_le hi MOST_TIME) h in
@@ -80,7 +80,7 @@ module _ (station : ℕ) (field : Field) where
   integer_of-bounds low high (array ds) n h = absurd (Err-not-Ok (WrongType station field) n h)
   integer_of-bounds low high (table ms) n h = absurd (Err-not-Ok (WrongType station field) n h)
 
-  -- one without a default, by what was found
+  -- one without a default, by the value found
   found_integer-required : (low high : ℕ) (found : Option Data) (n : ℕ)
       → found_integer station field low high None found ≡ Ok n → (low ≤ n) × (n ≤ high)
   found_integer-required low high None n h = absurd (Err-not-Ok (Missing station field) n h)
@@ -98,7 +98,7 @@ module _ (station : ℕ) (field : Field) where
       → integer_at station field low high None t ≡ Ok n → (low ≤ n) × (n ≤ high)
   integer_at-required low high t n h = found_integer-required low high (get (key_of field) t) n h
 
-  -- so is one with a default, where the default is in the range
+  -- so is one with a default, if the default is in the range
   pub integer_at-usual : (low high usual : ℕ) (t : Data) (n : ℕ) → low ≤ usual → usual ≤ high
       → integer_at station field low high (Some usual) t ≡ Ok n → (low ≤ n) × (n ≤ high)
   integer_at-usual low high usual t n a b h =

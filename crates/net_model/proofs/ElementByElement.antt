@@ -1,4 +1,4 @@
--- A list that is read element by element: what is there so far, and what is left.
+-- A list that is read element by element: the part so far, and the rest.
 use Rattle.std.proofs.Common.{◌≡◌, refl, ap, sym, ◌∙◌, ℕ, ◌+◌, ◌<◌, List, [], ◌∷◌, ◌++◌, length, map, drop, get_or}
 use Rattle.std.proofs.Common.{position, option_map, unwrap_or, Some, None, Bool, Result, Ok, Err, append_assoc}
 use Rattle.std.specs.List.{list_any}
@@ -22,12 +22,12 @@ use Rattle.sim_base.proofs.ListLaws.{position-map}
 
 -- ---- after
 
--- the rest that is read, behind what is there
+-- the rest that is read, after the elements so far
 abbrev pub after : {A : Type 0} → List A → Result (List A) ModelFault → Result (List A) ModelFault
 after done (Ok rest) = Ok (done ++ rest)
 after done (Err e) = Err e
 
--- an element moves from the rest to what is there
+-- an element moves from the rest to the elements so far
 after-cons : {A : Type 0} (done : List A) (x : A) (rest : Result (List A) ModelFault)
     → after done (rest >>= (λ xs. Ok (x ∷ xs))) ≡ after (done ++ x ∷ []) rest
 after-cons done x (Ok xs) = ap Ok (sym (append_assoc done (x ∷ []) xs))
@@ -41,18 +41,18 @@ after-one done r rest x h =
 
 -- ---- map, list_any, has_name, position
 
--- the element at an index, and those behind it
+-- the element at an index, and those after it
 map-drop : {X Y : Type 0} (f : X → Y) (xs : List X) (i : ℕ) (d : X) → i < length xs
     → map f (drop i xs) ≡ f (get_or xs i d) ∷ map f (drop (i + 1) xs)
 map-drop f xs i d h = ap (map f) (drop_more xs i d h)
 
--- an image passes where what it is the image of does
+-- an image passes if its original does
 list_any-map : {X Y : Type 0} (p : Y → Bool) (f : X → Y) (xs : List X)
     → list_any p (map f xs) ≡ list_any (λ x. p (f x)) xs
 list_any-map p f [] = refl
 list_any-map p f (x ∷ xs) = rw (list_any-map p f xs) refl
 
--- a name is taken among drafts as plain data where a draft has it
+-- a name is taken among drafts as plain data if a draft has it
 pub has_name_drafts : (name : List ℕ) (drafts : List Draft)
     → has_name name (map as_draft drafts) ≡ list_any (λ draft. bytes_eq draft.name name) drafts
 has_name_drafts name drafts = list_any-map (λ draft. bytes_eq draft.name name) as_draft drafts

@@ -1,4 +1,4 @@
--- The bytes of a key text: zeros stand behind them, and they are text.
+-- The bytes of a key text: they are padded with zeros, and they are text.
 use Rattle.std.proofs.Common.{◌≡◌, ℕ, ◌-◌, ◌<◌, ◌≤◌, min, refl, ap, sym, ◌∙◌, List}
 use Rattle.std.proofs.Common.{[], ◌∷◌, ◌++◌, length, map, take, drop, replicate, true, inl, inr, arith, length-take-le}
 use Rattle.std.specs.List.{list_all}
@@ -16,7 +16,7 @@ use Rattle.net_model.proofs.AsciiTexts.{IsAscii-list_all}
 
 -- ---- is_shown
 
--- what a byte is shown as is shown
+-- the shown form of a byte is a byte that may be shown
 is_shown-shown_byte : (b : ℕ) → is_shown (shown_byte b) ≡ true
 is_shown-shown_byte b =
     elim (cases_Bool (is_name_byte b)) [
@@ -24,7 +24,7 @@ is_shown-shown_byte b =
       | inr is ↦ rw is refl
     ]
 
--- so is each byte of what is shown
+-- so is each byte of a shown key
 list_all-is_shown : (bs : List ℕ) → list_all is_shown (map shown_byte bs) ≡ true
 list_all-is_shown [] = refl
 list_all-is_shown (b ∷ bs) = rw (is_shown-shown_byte b) (list_all-is_shown bs)
@@ -33,13 +33,13 @@ list_all-is_shown (b ∷ bs) = rw (is_shown-shown_byte b) (list_all-is_shown bs)
 is_shown-small : (b : ℕ) → is_shown b ≡ true → b < 128
 is_shown-small b h = grind (arith, nat_tests)
 
--- what is shown of a key is text
+-- the shown form of a key is text
 pub is_shown-IsUtf8 : (bs : List ℕ) → list_all is_shown bs ≡ true → IsUtf8 bs
 is_shown-IsUtf8 bs h = IsUtf8-from_ascii bs (IsAscii-list_all is_shown is_shown-small bs h)
 
 -- ---- drop
 
--- what stands behind a prefix of so many bytes
+-- the bytes after a prefix of this length
 drop-append : (xs ys : List ℕ) (n : ℕ) → length xs ≡ n → drop n (xs ++ ys) ≡ ys
 drop-append xs ys n h = ap (λ k. drop k (xs ++ ys)) (sym h) ∙ drop-append_seam xs ys
 
@@ -58,7 +58,7 @@ module _ (key : List ℕ) (len : ℕ) (copied prefix : List ℕ)
   copied_len : length copied ≡ len
   copied_len = ap length copy ∙ length-take-le len key (omega (arith, size))
 
-  -- what is shown is what the copied bytes are shown as
+  -- the shown prefix is the shown form of the copied bytes
   prefix-shown : prefix ≡ map shown_byte copied
   prefix-shown =
       show ∙ ap (map shown_byte) (take-append copied (drop len (replicate LONGEST_KEY_TEXT 0)) len copied_len)
@@ -67,7 +67,7 @@ module _ (key : List ℕ) (len : ℕ) (copied prefix : List ℕ)
   prefix-length : length prefix ≡ len
   prefix-length = ap length prefix-shown ∙ (length-map copied shown_byte ∙ copied_len)
 
-  -- zeros stand behind the copied bytes
+  -- zeros follow the copied bytes
   drop-copied : drop len (copied ++ drop len (replicate LONGEST_KEY_TEXT 0)) ≡ replicate (LONGEST_KEY_TEXT - len) 0
   drop-copied =
       drop-append copied (drop len (replicate LONGEST_KEY_TEXT 0)) len copied_len
@@ -81,7 +81,7 @@ module _ (key : List ℕ) (len : ℕ) (copied prefix : List ℕ)
       take-append prefix (drop len (copied ++ drop len (replicate LONGEST_KEY_TEXT 0))) len prefix-length
       ∙ (prefix-shown ∙ ap (map shown_byte) (copy ∙ first))
 
-  -- and all the bytes are a key text, with zeros behind it
+  -- and all the bytes are a key text, padded with zeros
   pub key_text_padded : IsKeyText (prefix ++ drop len (copied ++ drop len (replicate LONGEST_KEY_TEXT 0))) len
   key_text_padded = record {
     behind = record {

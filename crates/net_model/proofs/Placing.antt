@@ -1,4 +1,4 @@
--- Stations by their numbers and names, in the model and in the network that it is.
+-- Stations by number and name, in the model and in its network.
 use Rattle.std.proofs.Common.{◌≡◌, ℕ, zero, suc, ◌+◌, ◌-◌, ◌≤◌, List, map}
 use Rattle.std.proofs.Common.{Some, slice_get, option_map, position, ap, ◌∙◌, arith}
 use Rattle.std.specs.Str.{bytes_eq}

@@ -1,4 +1,4 @@
--- The model of a tree, by what is found at each step.
+-- The model of a tree, by the results of each step.
 use Rattle.std.proofs.Common.{◌≡◌, ap, ◌∙◌, List, Result, Ok, Err}
 use Rattle.toml.specs.Data.{Data}
 use Rattle.net_model.specs.declared.fault.ModelFault.{ModelFault}
@@ -14,7 +14,7 @@ use Rattle.net_model.specs.Top.{stations_at, top_of}
 abbrev with_sites_read : Top → Result (List Site) ModelFault → Result Net ModelFault
 with_sites_read top sites = sites >>= (λ sites. Ok (with_sites top sites))
 
--- the model of what was found at each step: the test of the keys, the top, and the tables of the stations
+-- the model from the results of each step: the test of the keys, the top, and the tables of the stations
 abbrev from_parts : Result (Unit {0}) ModelFault → Result Top ModelFault → Result (List Data) ModelFault
     → Result Net ModelFault
 from_parts known top tables = known >>=
@@ -23,7 +23,7 @@ from_parts known top tables = known >>=
 -- ---- model_of
 
 module _ (root : Data) where
-  -- the model of a tree is that of what is found in it
+  -- the model of a tree is that of its parts
   model_of-parts : model_of root ≡ from_parts (only_known 0 top_keys root) (top_of root) (stations_at root)
   unfolding model_of
   model_of-parts i = from_parts (only_known 0 top_keys root) (top_of root) (stations_at root)
@@ -33,33 +33,33 @@ module _ (root : Data) where
   model_of-unknown_key e known = model_of-parts ∙ ap (λ k. from_parts k (top_of root) (stations_at root)) known
 
   module _ (known : only_known 0 top_keys root ≡ Ok tt) where
-    -- the model, where the keys are known
+    -- the model, if the keys are known
     model_of-known_keys : model_of root ≡ from_parts (Ok tt) (top_of root) (stations_at root)
     model_of-known_keys = model_of-parts ∙ ap (λ k. from_parts k (top_of root) (stations_at root)) known
 
-    -- where the keys are known, a fault of the numbers at the top is that of the model
+    -- if the keys are known, a fault of the numbers at the top is that of the model
     pub model_of-top_refused : (e : ModelFault) → top_of root ≡ Err e → model_of root ≡ Err e
     model_of-top_refused e top = model_of-known_keys ∙ ap (λ t. from_parts (Ok tt) t (stations_at root)) top
 
     module _ (top : Top) (read : top_of root ≡ Ok top) where
-      -- and where the top is read
+      -- and if the top is read
       model_of-with_top : model_of root ≡ from_parts (Ok tt) (Ok top) (stations_at root)
       model_of-with_top = model_of-known_keys ∙ ap (λ t. from_parts (Ok tt) t (stations_at root)) read
 
-      -- where those are read too, a fault of the tables of stations is that of the model
+      -- if those are read too, a fault of the tables of stations is that of the model
       pub model_of-tables_refused : (e : ModelFault) → stations_at root ≡ Err e → model_of root ≡ Err e
       model_of-tables_refused e tables = model_of-with_top ∙ ap (from_parts (Ok tt) (Ok top)) tables
 
       module _ (ds : List Data) (found : stations_at root ≡ Ok ds) where
-        -- and where the tables are found
+        -- and if the tables are found
         model_of-with_tables : model_of root ≡ with_sites_read top (sites_of_tables top ds)
         model_of-with_tables = model_of-with_top ∙ ap (from_parts (Ok tt) (Ok top)) found
 
-        -- where the tables are found too, a fault of the stations in them is that of the model
+        -- if the tables are found too, a fault of the stations in them is that of the model
         pub model_of-sites_refused : (e : ModelFault) → sites_of_tables top ds ≡ Err e → model_of root ≡ Err e
         model_of-sites_refused e sites = model_of-with_tables ∙ ap (with_sites_read top) sites
 
-        -- and where these are read as well, the model is the network of this top and these stations
+        -- and if these are read as well, the model is the network of this top and these stations
         pub model_of-Ok : (sites : List Site) → sites_of_tables top ds ≡ Ok sites
             → model_of root ≡ Ok (with_sites top sites)
         model_of-Ok sites found = model_of-with_tables ∙ ap (with_sites_read top) found

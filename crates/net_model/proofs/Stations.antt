@@ -1,4 +1,4 @@
--- What is known of the stations that are read, before their links are resolved.
+-- Properties of the stations that are read, before their links are resolved.
 use Rattle.std.proofs.Common.{◌≡◌, ◌≢◌, refl, ap, sym, ◌∙◌, subst, ℕ, ◌+◌, ◌≤◌, ◌==◌, nat_lt, eq-eqb, Bool, true, false}
 use Rattle.std.proofs.Common.{codes, if◌then◌else◌, List, [], ◌∷◌, ◌++◌, length, map, Option, Some, None, Ok, arith}
 use Rattle.std.specs.List.{AllByRecursion}
@@ -60,7 +60,7 @@ abbrev is_sink_word : KindWord → Bool
 is_sink_word SinkWord = true
 is_sink_word _ = false
 
--- what a station does keeps to the rules, and is a sink's or not
+-- a station keeps the rules of its kind, and is a sink or not
 abbrev KindHolds : ℕ → Bool → Kind → Type 0
 KindHolds format sink kind = IsKind kind × (format ≡ 1 → IsOfFormat1 kind) × (is_sink kind ≡ sink)
 
@@ -151,7 +151,7 @@ kind_of-holds format station SinkWord d kind h =
 
 -- ---- link_of, each_link, links_of
 
--- a link as it is named keeps its bounds
+-- a named link keeps its bounds
 pub record IsNamedLink (link : NamedLink) : Type 0 where
   pub small : link.delay ≤ MOST_TIME
   pub weight : IsWeight link.weight
@@ -259,7 +259,7 @@ station_name_at-holds station earlier d name h =
     (name_at-is_name station Name d first e2, bytes_eq-differs first other) in
     subst (λ (n : List ℕ). NameHolds earlier n) (Ok-injective second name same_2) (start.0, start.1, free)
 
--- what a test tells of links, the same test tells
+-- a property of the number of links under one test holds under an equal test
 links-same_test : (a b : Bool) (n : ℕ) → a ≡ b → (b ≡ true → n ≡ 0) → a ≡ true → n ≡ 0
 links-same_test a b n same f e = f (sym same ∙ e)
 
@@ -317,7 +317,7 @@ draft_of-holds format earlier station d draft near h =
 
 -- ---- drafts_of
 
--- names that are new behind one more station are new without it, and others than its own
+-- names that are new after one more station are new without it, and differ from its own
 has_name-append : (earlier : List DraftSite) (draft : DraftSite) (rest : List DraftSite)
     → AllByRecursion (λ x. has_name x.name (earlier ++ draft ∷ []) ≡ false) rest
     → AllByRecursion (λ x. has_name x.name earlier ≡ false) rest × AllByRecursion (λ y. bytes_eq draft.name y ≡ false)

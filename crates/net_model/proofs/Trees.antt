@@ -19,11 +19,11 @@ use Rattle.net_model.specs.Text.{tree}
 
 -- ---- tree
 
--- the tree of a UTF-8 text is what the parser finds
+-- the tree of a UTF-8 text is the parser's result
 pub tree-Some : (text : List ℕ) (ms : Members) → IsUtf8 text → parse_document text ≡ Some ms → tree text ≡ Some ms
 tree-Some text ms u p = rw (is_utf8-from_IsUtf8 text u) p
 
--- a text in which the parser finds nothing where it is UTF-8 has no tree
+-- a text has no tree if the parser finds nothing in it as UTF-8
 pub tree-None : (text : List ℕ) → (IsUtf8 text → parse_document text ≡ None) → tree text ≡ None
 tree-None text p =
     elim (cases_Bool (is_utf8 text)) [
@@ -38,7 +38,7 @@ list_of-items_view : (vs : List Value) → list_of (items_view vs) ≡ map view 
 list_of-items_view [] = refl
 list_of-items_view (v ∷ vs) = ap (λ ds. view v ∷ ds) (list_of-items_view vs)
 
--- the value of an array, by what `as_array` gives
+-- the value of an array, by the result of `as_array`
 as_array-Some : (d : Data) (ds : Items) → Some ds ≡ as_array d → d ≡ array ds
 as_array-Some (array es) ds h = ap array (same_Some _ _ (sym h))
 as_array-Some (string s) ds h = absurd (cc)
@@ -50,7 +50,7 @@ as_array-Some (table ms) ds h = absurd (cc)
 
 -- ---- tables_of
 
--- the elements of an array are read where all of them are tables, and else its type is wrong
+-- the elements of an array are read if all of them are tables, otherwise its type is wrong
 tables_of-array : (station : ℕ) (field : Field) (d : Data) (vs : List Value) → Some (items_view vs) ≡ as_array d
     → tables_of station field d ≡ (if list_all (λ v. is_some (as_table (view v))) vs then Ok (map view vs) else Err
     (WrongType station field))
@@ -59,12 +59,12 @@ tables_of-array station field d vs h =
     ∙ (ap (all_tables station field) (list_of-items_view vs)
     ∙ rw (list_all-map (λ d. is_some (as_table d)) view vs) refl)
 
--- where all elements of an array are tables, they are read
+-- if all elements of an array are tables, they are read
 pub tables_of-Ok : (station : ℕ) (field : Field) (d : Data) (vs : List Value) → Some (items_view vs) ≡ as_array d
     → list_all (λ v. is_some (as_table (view v))) vs ≡ true → Ok (map view vs) ≡ tables_of station field d
 tables_of-Ok station field d vs h all = sym (tables_of-array station field d vs h ∙ rw all refl)
 
--- where one of them is no table, the array has the wrong type
+-- if one of them is not a table, the array has the wrong type
 pub tables_of-Err : (station : ℕ) (field : Field) (d : Data) (vs : List Value) → Some (items_view vs) ≡ as_array d
     → list_all (λ v. is_some (as_table (view v))) vs ≡ false → Err (WrongType station field) ≡ tables_of station field d
 tables_of-Err station field d vs h all = sym (tables_of-array station field d vs h ∙ rw all refl)

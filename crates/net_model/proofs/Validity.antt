@@ -333,7 +333,7 @@ top_of-holds root top h =
       short = limits.1;
     })
 
--- what is not 0 is 1 or more
+-- a number other than 0 is 1 or more
 not_zero : (n : ℕ) → (n == 0) ≡ false → 1 ≤ n
 not_zero n h = grind (arith, nat_tests)
 
@@ -350,7 +350,7 @@ stations_at-count root ds h =
 
 -- ---- sites_of_tables, model_of
 
--- the network of such a top and of the stations of so many tables meets the rules
+-- the network of such a top and of the stations of these tables meets the rules
 sites_of_tables-holds : (top : Top) (ds : List Data) (sites : List Site) → IsTop top
     → (1 ≤ length ds) × (length ds ≤ MOST_STATIONS) → sites_of_tables top ds ≡ Ok sites → IsNet (with_sites top sites)
 sites_of_tables-holds top ds sites is count h =

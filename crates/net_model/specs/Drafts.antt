@@ -1,4 +1,4 @@
--- The stations as the file states them, before their links are resolved.
+-- The stations as in the file, before their links are resolved.
 use Rattle.std.specs.Prelude.{ℕ, ◌+◌, Bool, codes, if◌then◌else◌, List, [], ◌∷◌, ◌++◌, Some, Result, Ok, Err}
 use Rattle.std.specs.List.{list_any}
 use Rattle.std.specs.Str.{bytes_eq}
@@ -31,19 +31,19 @@ as_draft d = record { name = d.name; kind = d.kind; stream = d.stream; links = d
 abbrev pub no_analyst : ℕ → List ℕ → Result (List ℕ) ModelFault
 no_analyst station name = if bytes_eq name (codes "analyst") then Err (BadName station) else Ok name
 
--- one of these stations has the name
+-- one of these stations has this name
 abbrev pub has_name : List ℕ → List DraftSite → Bool
 has_name name drafts = list_any (λ draft. bytes_eq draft.name name) drafts
 
--- no earlier station has the name
+-- no earlier station has this name
 abbrev pub new_name : ℕ → List DraftSite → List ℕ → Result (List ℕ) ModelFault
 new_name station earlier name = if has_name name earlier then Err (NameTwice station) else Ok name
 
--- the name that a station states, which is neither `analyst` nor that of an earlier station
+-- the name of a station, which is neither `analyst` nor that of an earlier station
 abbrev pub station_name_at : ℕ → List DraftSite → Data → Result (List ℕ) ModelFault
 station_name_at station earlier d = name_at station Name d >>= no_analyst station >>= new_name station earlier
 
--- a station: its name, its kind, its keys, and last its links; its stream is its number where it states none
+-- a station: its name, its kind, its keys, and last its links; its default stream is its number
 abbrev pub draft_of : ℕ → List DraftSite → ℕ → Data → Result DraftSite ModelFault
 draft_of format earlier station d =
     station_name_at station earlier d >>= (λ name.
@@ -54,7 +54,7 @@ draft_of format earlier station d =
     links_of station word d >>= (λ links.
     Ok (record { name = name; kind = kind; stream = stream; links = links })))))))
 
--- the stations one after the other, each with the earlier ones and its number
+-- the stations one after another, each with the earlier ones and its number
 abbrev pub drafts_of : ℕ → List DraftSite → ℕ → List Data → Result (List DraftSite) ModelFault
 drafts_of format earlier station [] = Ok []
 drafts_of format earlier station (d ∷ ds) =

@@ -1,18 +1,18 @@
--- A small model and its text: a source `gate`, a server `desk` and a sink `out`, one after the other.
+-- A small model and its text: a source `gate`, a server `desk` and a sink `out`, in a row.
 use Rattle.std.specs.Prelude.{ℕ, zero, suc, List, [], ◌∷◌, ◌++◌, codes, decimal, false}
 use Rattle.net_model.specs.declared.station.Kind.TheVariants.{Source, Server, Sink}
 use Rattle.net_model.specs.declared.limits.TheConstants.{USUAL_LIMIT}
 use Rattle.net_model.specs.Net.{Net, link}
 
--- the top, with the lookahead and the horizon given as they are written
+-- the top, with this lookahead and horizon as they are written
 abbrev pub top_with : List ℕ → List ℕ → List ℕ
 top_with lookahead horizon = codes "lookahead = " ++ lookahead ++ codes "\nhorizon = " ++ horizon ++ codes "\n"
 
--- the top as it is: a lookahead of 2, and a horizon of 20
+-- the usual top: a lookahead of 2, and a horizon of 20
 abbrev pub top_text : List ℕ
 top_text = top_with (codes "2") (codes "20")
 
--- the gate, with its last line given
+-- the gate, with this last line
 abbrev pub gate_with : List ℕ → List ℕ
 gate_with last = codes "[[station]]\nname = \"gate\"\nkind = \"source\"\nevery = [3, 3]\njobs = 2\n" ++ last
 
@@ -20,7 +20,7 @@ gate_with last = codes "[[station]]\nname = \"gate\"\nkind = \"source\"\nevery =
 abbrev pub gate_text : List ℕ
 gate_text = gate_with (codes "link = [{ to = \"desk\", delay = 2 }]\n")
 
--- the desk, with its name, its times and its receiver given as they are written
+-- the desk, with this name, these times and this receiver as they are written
 abbrev pub desk_with : List ℕ → List ℕ → List ℕ → List ℕ
 desk_with name service to =
     codes "[[station]]\nname = \"" ++ name
@@ -68,7 +68,7 @@ linked_out = top_text ++ gate_text ++ desk_text ++ out_text ++ codes "link = [{ 
 abbrev pub cut_text : List ℕ
 cut_text = top_text ++ codes "[[station]]\nname = \"gate\"\nkind = \"source\"\nevery = [3"
 
--- so many sinks, `x1` and so on, with the last first
+-- `n` sinks, `x1` and so on, the last first
 abbrev pub sinks : ℕ → List ℕ
 sinks zero = []
 sinks (suc n) = codes "[[station]]\nname = \"x" ++ decimal (suc n) ++ codes "\"\nkind = \"sink\"\n" ++ sinks n

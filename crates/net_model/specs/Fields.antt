@@ -1,4 +1,4 @@
--- The keys of a model file as they are written: that of a parameter is its word.
+-- The keys of a model file as they are written; the key of a parameter is its keyword.
 use Rattle.std.specs.Prelude.{ℕ, List, codes}
 use Rattle.sim_base.specs.Params.{param_word}
 use Rattle.sim_base.specs.declared.message.Param.TheVariants as param

@@ -22,18 +22,18 @@ use Rattle.net_model.specs.KeyTexts.{key_text}
 abbrev pub is_known : List Field → List ℕ → Bool
 is_known fields key = list_any (λ field. bytes_eq key (key_of field)) fields
 
--- the lesser of a key and another, if there is one, in the order in which toml's tables keep their keys: that of bytes
+-- the lesser of a key and another, if there is one, in byte order, in which toml's tables keep their keys
 abbrev pub lesser_key : List ℕ → Option (List ℕ) → List ℕ
 lesser_key key None = key
 lesser_key key (Some other) = match_ordering (slice_cmp nat_cmp key other) key key other
 
--- the least key that is none of the fields
+-- the least key that is not among the fields
 abbrev pub least_unknown : List Field → Members → Option (List ℕ)
 least_unknown fields no_members = None
 least_unknown fields (member key d ms) = if is_known fields key then least_unknown fields ms else Some
     (lesser_key key (least_unknown fields ms))
 
--- no unknown key was found; one that was found is refused
+-- no unknown key was found; a found one is refused
 abbrev pub none_unknown : ℕ → Option (List ℕ) → Result (Unit {0}) ModelFault
 none_unknown station None = Ok tt
 none_unknown station (Some key) = Err (UnknownKey station (key_text key))
@@ -47,7 +47,7 @@ only_known station fields _ = Ok tt
 abbrev pub top_keys : List Field
 top_keys = Format ∷ Lookahead ∷ Horizon ∷ Seed ∷ Limit ∷ Station ∷ []
 
--- format 1 knows neither classes nor orders
+-- format 1 has neither classes nor orders
 abbrev pub station_keys : ℕ → KindWord → List Field
 station_keys format SourceWord =
     if format == 1 then Name ∷ Kind ∷ Stream ∷ Every ∷ Jobs ∷ Link ∷ [] else

@@ -1,4 +1,4 @@
--- What a station does, as its keys state it.
+-- The kind of a station, from its keys.
 use Rattle.std.specs.Prelude.{◌==◌, ℕ, Bool, true, false, codes, if◌then◌else◌}
 use Rattle.std.specs.Prelude.{List, Option, Some, None, Result, Ok, Err}
 use Rattle.std.specs.Str.{bytes_eq}
@@ -19,12 +19,12 @@ use Rattle.net_model.specs.Fields.{key_of}
 use Rattle.net_model.specs.Reading.{integer_at, span_at, text_at, text_of}
 use Rattle.net_model.specs.declared.limits.TheConstants.{MOST_CLASS, MOST_JOBS, MOST_SERVERS, MOST_ROOM}
 
--- a word that a key knows
+-- a keyword that a key allows
 abbrev pub known_word : {A : Type 0} → ℕ → Field → Option A → Result A ModelFault
 known_word station field (Some word) = Ok word
 known_word station field None = Err (OutOfRange station field)
 
--- the kind that a word names, None where it names none
+-- the kind of a keyword, None if it names none
 abbrev pub kind_word : List ℕ → Option KindWord
 kind_word text =
     if bytes_eq text (codes "source") then Some SourceWord
@@ -33,11 +33,11 @@ kind_word text =
     else (if bytes_eq text (codes "router") then Some RouterWord
     else (if bytes_eq text (codes "sink") then Some SinkWord else None))))
 
--- the word for its kind that a station states
+-- the keyword of a station's kind
 abbrev pub kind_word_at : ℕ → Data → Result KindWord ModelFault
 kind_word_at station d = text_at station KindField d >>= (λ text. known_word station KindField (kind_word text))
 
--- 1 in format 1, which knows no classes
+-- 1 in format 1, which has no classes
 abbrev pub class_at : ℕ → ℕ → Data → Result ℕ ModelFault
 class_at format station d = if format == 1 then Ok 1 else integer_at station Class 1 MOST_CLASS (Some 1) d
 
@@ -46,21 +46,21 @@ abbrev pub order_word : List ℕ → Option Bool
 order_word text = if bytes_eq text (codes "arrival") then Some false else
     (if bytes_eq text (codes "class") then Some true else None)
 
--- the order that a value states where one is found; by arrival where none is
+-- the order of a value if there is one, otherwise by arrival
 abbrev pub found_order : ℕ → Option Data → Result Bool ModelFault
 found_order station None = Ok false
 found_order station (Some d) = text_of station Order d >>= (λ text. known_word station Order (order_word text))
 
--- the order that a server states; by arrival in format 1
+-- the order of a server; by arrival in format 1
 abbrev pub order_at : ℕ → ℕ → Data → Result Bool ModelFault
 order_at format station d = if format == 1 then Ok false else found_order station (get (key_of Order) d)
 
--- whether a router goes by turn
+-- whether a router takes its links in turn
 abbrev pub by_word : List ℕ → Option Bool
 by_word text = if bytes_eq text (codes "weights") then Some false else
     (if bytes_eq text (codes "turn") then Some true else None)
 
--- a source: the range of its intervals, how many jobs it makes, and their class
+-- a source: the range of its intervals, the number of its jobs, and their class
 abbrev pub source_of : ℕ → ℕ → Data → Result Kind ModelFault
 source_of format station d =
     span_at station Every 1 d >>= (λ every.
@@ -81,14 +81,14 @@ server_of format station d =
 abbrev pub delay_of : ℕ → Data → Result Kind ModelFault
 delay_of station d = span_at station Hold 0 d >>= (λ hold. Ok (Delay hold.lo hold.hi))
 
--- a router: whether it goes by turn
+-- a router: whether it takes its links in turn
 abbrev pub router_of : ℕ → Data → Result Kind ModelFault
 router_of station d =
     text_at station By d >>= (λ text.
     known_word station By (by_word text) >>= (λ turn.
     Ok (Router turn)))
 
--- a station of the kind that its word names, with what its kind states
+-- a station of the kind with this keyword, with that kind's keys
 abbrev pub kind_of : ℕ → ℕ → KindWord → Data → Result Kind ModelFault
 kind_of format station SourceWord d = source_of format station d
 kind_of format station ServerWord d = server_of format station d

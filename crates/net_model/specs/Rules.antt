@@ -15,7 +15,7 @@ use Rattle.net_model.specs.declared.limits.TheConstants.{MOST_SERVERS, MOST_ROOM
 abbrev pub is_within : ℕ → ℕ → ℕ → Bool
 is_within low high n = nat_le low n && nat_le n high
 
--- whether the times from lo to hi are a range: no less than low, in order, and no more than a time may be
+-- whether the times from lo to hi are a range: no less than low, in order, and at most MOST_TIME
 abbrev pub is_range : ℕ → ℕ → ℕ → Bool
 is_range low lo hi = (nat_le low lo && nat_le lo hi) && nat_le hi MOST_TIME
 
@@ -25,21 +25,21 @@ pub record IsRange (low lo hi : ℕ) : Type 0 where
   pub ordered : lo ≤ hi
   pub small : hi ≤ MOST_TIME
 
--- a source has a range of times from 1 on, no more jobs than the most, and a class that there is
+-- a source has a range of times from 1 on, at most MOST_JOBS jobs, and an existing class
 pub record IsSource (lo hi jobs class : ℕ) : Type 0 where
   pub every : IsRange 1 lo hi
   pub few : jobs ≤ MOST_JOBS
   pub first : 1 ≤ class
   pub last : class ≤ MOST_CLASS
 
--- a server has 1 server or more, not too many, nor too much room, and a range of times from 1 on
+-- a server has at least 1 server, at most MOST_SERVERS, at most MOST_ROOM room, and a range of times from 1 on
 pub record IsServer (servers room lo hi : ℕ) : Type 0 where
   pub some : 1 ≤ servers
   pub few : servers ≤ MOST_SERVERS
   pub small : room ≤ MOST_ROOM
   pub service : IsRange 1 lo hi
 
--- what a station does keeps to the rules of its kind
+-- a station keeps the rules of its kind
 abbrev pub IsKind : Kind → Type 0
 IsKind (Source lo hi jobs class) = IsSource lo hi jobs class
 IsKind (Server servers room lo hi by_class) = IsServer servers room lo hi
@@ -47,13 +47,13 @@ IsKind (Delay lo hi) = IsRange 0 lo hi
 IsKind (Router turn) = Unit {0}
 IsKind Sink = Unit {0}
 
--- format 1 knows no classes
+-- format 1 has no classes
 abbrev pub IsOfFormat1 : Kind → Type 0
 IsOfFormat1 (Source lo hi jobs class) = class ≡ 1
 IsOfFormat1 (Server servers room lo hi by_class) = by_class ≡ false
 IsOfFormat1 _ = Unit {0}
 
--- a link leads to a station that takes jobs, and is no faster than the lookahead
+-- a link leads to a station that takes jobs, and its delay is at least the lookahead
 pub record IsLink (net : Net) (link : Link) : Type 0 where
   pub is_station : HasStation net link.to
   pub receives : is_source (site_of net link.to).kind ≡ false
@@ -61,12 +61,12 @@ pub record IsLink (net : Net) (link : Link) : Type 0 where
   pub small : link.delay ≤ MOST_TIME
   pub weight : IsWeight link.weight
 
--- jobs leave every station but a sink, where they leave the network
+-- every station except a sink has a link; at a sink jobs leave the network
 abbrev pub HasWayOut : Kind → List Link → Type 0
 HasWayOut Sink links = length links ≡ 0
 HasWayOut _ links = 1 ≤ length links
 
--- a station keeps to the rules of a network: its name, its stream, its kind, and its links
+-- a station keeps the rules of a network: its name, its stream, its kind, and its links
 pub record IsSite (net : Net) (site : Site) : Type 0 where
   pub named : is_name site.name ≡ true
   pub no_analyst : site.name ≢ codes "analyst"
@@ -77,7 +77,7 @@ pub record IsSite (net : Net) (site : Site) : Type 0 where
   pub links : AllByRecursion (IsLink net) site.links
   pub way : HasWayOut site.kind site.links
 
--- a network keeps to the rules: its numbers are within bounds, and its stations have different names and keep to theirs
+-- a network keeps the rules: its numbers are within bounds, and its stations have different names and keep theirs
 pub record IsNet (net : Net) : Type 0 where
   pub format : (net.format ≡ 1) ⊎ (net.format ≡ 2)
   pub ahead : 1 ≤ net.lookahead

@@ -1,4 +1,4 @@
--- A model's stations as plain data, and the network that they make.
+-- A model's stations as plain data, and their network.
 use Rattle.std.specs.Prelude.{List, map}
 use Rattle.net_model.specs.declared.station.Station.{Station}
 use Rattle.net_model.specs.declared.top.Top.{Top}

@@ -1,4 +1,4 @@
--- The model that a text states, or the first rule that it breaks.
+-- The model of a text, or the first rule that it breaks.
 use Rattle.std.specs.Prelude.{ℕ, nat_lt, if◌then◌else◌, List, [], length, Option, Some, None, Result, Ok, Err}
 use Rattle.std.specs.Str.{is_utf8}
 use Rattle.toml.specs.Data.{Data, Members, table}
@@ -15,15 +15,15 @@ use Rattle.net_model.specs.Sites.{with_sites}
 use Rattle.net_model.specs.Top.{stations_at, top_of}
 use Rattle.sim_base.specs.declared.limits.TheConstants.{MOST_FILE_BYTES}
 
--- the tree that a text states, as `toml` reads it
+-- the tree of a text, as `toml` reads it
 abbrev pub tree : List ℕ → Option Members
 tree text = if is_utf8 text then parse_document text else None
 
--- the stations that some tables state
+-- the stations of some tables
 abbrev pub sites_of_tables : Top → List Data → Result (List Site) ModelFault
 sites_of_tables top ds = drafts_of top.format [] 1 ds >>= (λ drafts. sites_of top.lookahead drafts 1 drafts)
 
--- the model that a tree states
+-- the model of a tree
 unfoldable pub model_of : Data → Result Net ModelFault
 model_of root =
     only_known 0 top_keys root >>= (λ _.
@@ -32,11 +32,11 @@ model_of root =
     sites_of_tables top ds >>= (λ sites.
     Ok (with_sites top sites)))))
 
--- the model that a tree states, refused where there is no tree
+-- the model of a tree, refused if there is no tree
 abbrev pub model_of_tree : Option Members → Result Net ModelFault
 model_of_tree None = Err NotToml
 model_of_tree (Some ms) = model_of (table ms)
 
--- the model that a text states
+-- the model of a text
 abbrev pub model : List ℕ → Result Net ModelFault
 model text = if nat_lt MOST_FILE_BYTES (length text) then Err TooLong else model_of_tree (tree text)

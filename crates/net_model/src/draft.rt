@@ -75,7 +75,7 @@ fn read_draft(
     })
 }
 
-/// The stations that the tables state, in order.
+/// The stations of the tables, in order.
 pub fn read_drafts(alloc: Global, format: u32, tables: &[Value]) -> Result<Vec<Draft>, ModelFault>
     requires { length tables.now ≤ MOST_STATIONS }
     ensures count { IfOk result (λ v. length v.items ≡ length tables.now) }

@@ -1,7 +1,6 @@
-//! Worked examples, computed by the checker from the definition of the model that a text states.
+//! Worked examples, computed by the checker from the definition of a text's model.
 //!
-//! The texts stand in `specs/Examples.antt`. Each function's contract is a theorem; there is nothing
-//! to run.
+//! The texts are in `specs/Examples.antt`. Each function's contract is a theorem; there is nothing to run.
 ghost use Rattle.std.specs.Prelude.{◌≡◌, ◌++◌, [], Ok, Err, codes};
 ghost use Rattle.sim_base.specs.declared.limits.TheConstants.{MOST_FILE_BYTES};
 ghost use Rattle.sim_base.specs.declared.name.TheConstants.{LONGEST_NAME};
@@ -17,12 +16,12 @@ ghost use Rattle.net_model.specs.declared.limits.TheConstants.{USUAL_LIMIT};
 
 use crate::fault::ModelFault;
 
-/// A text and the model that it states.
+/// A text and its model.
 pub fn small_model()
     ensures { model small_text ≡ Ok small }
 {}
 
-/// Texts that are refused for what stands at the top, or for their form.
+/// Texts that are refused for their top level, or for their form.
 pub fn refused_at_the_top()
     ensures empty { model [] ≡ Err (ModelFault.Missing 0 Lookahead) }
     ensures unknown { model (codes "speed = 3\n" ++ small_text) ≡ Err (ModelFault.UnknownKey 0 (codes "speed")) }
@@ -33,7 +32,7 @@ pub fn refused_at_the_top()
     ensures crowd { model (top_text ++ sinks 65) ≡ Err (ModelFault.TooMany 0) }
 {}
 
-/// Texts that are refused for what a station states of itself.
+/// Texts that are refused for a station's own keys.
 pub fn refused_stations()
     ensures twice { model (named_desk (codes "gate")) ≡ Err (ModelFault.NameTwice 2) }
     ensures capital { model (named_desk (codes "Desk")) ≡ Err (ModelFault.BadName 2) }
@@ -43,14 +42,14 @@ pub fn refused_stations()
     ensures open { model linked_out ≡ Err (ModelFault.UnknownKey 3 (codes "link")) }
 {}
 
-/// Texts that are refused for where a link leads, or for the lack of one.
+/// Texts that are refused for the target of a link, or for a missing link.
 pub fn refused_links()
     ensures nowhere { model (linked_desk (codes "exit")) ≡ Err (ModelFault.UnknownStation 2) }
     ensures back { model (linked_desk (codes "gate")) ≡ Err (ModelFault.IntoSource 2) }
     ensures none { model without_link ≡ Err (ModelFault.NoWayOut 1) }
 {}
 
-/// The limits in numbers, as the format of model files gives them.
+/// The limits as numbers, as the format of model files has them.
 pub fn limits_in_numbers()
     ensures bytes { MOST_FILE_BYTES ≡ 1048576 }
     ensures name { LONGEST_NAME ≡ 16 }

@@ -7,21 +7,21 @@ use crate::field::Field;
 use crate::key_text::KeyText;
 use std::alloc::{AllocError, AllocFailed};
 
-/// The first rule that a model text breaks, or out of memory. `place` is the number of the station
-/// that breaks it, or 0 for the top of the file.
+/// The first rule that a model text breaks, or out of memory. `place` is the number of the station that breaks it, or 0
+/// for the top of the file.
 #[derive(Clone, Copy, Debug, PartialEq, Eq)]
 pub enum ModelFault {
     /// More bytes than [`MOST_FILE_BYTES`](sim_base::MOST_FILE_BYTES).
     TooLong,
-    /// No TOML text.
+    /// Not a TOML text.
     NotToml,
     /// A required key is absent.
     Missing { place: u32, field: Field },
-    /// A value is of another type than its key wants.
+    /// A value has the wrong type for its key.
     WrongType { place: u32, field: Field },
-    /// A key that is none of those that may stand there: the least one in byte order.
+    /// A key that is not allowed there: the least such key in byte order.
     UnknownKey { place: u32, key: KeyText },
-    /// A name of a station that is none.
+    /// The name of a station is not a valid name.
     BadName { place: u32 },
     /// An earlier station has this name.
     NameTwice { place: u32 },
@@ -36,7 +36,7 @@ pub enum ModelFault {
     /// More stations than [`MOST_STATIONS`](crate::limits::MOST_STATIONS), or more links of a station than
     /// [`MOST_LINKS`](crate::limits::MOST_LINKS).
     TooMany { place: u32 },
-    /// Memory was refused.
+    /// Out of memory.
     NoMemory,
     /// A link leads to a source.
     IntoSource { place: u32 },
@@ -85,7 +85,7 @@ impl ModelFault {
         }
     }
 
-    /// The key that it names, None where it names none. Of an unknown key its text.
+    /// The key that it names, or None if it names none. Of an unknown key its text.
     pub fn key(&self) -> Option<&str>
         ensures value { option_copied result ≡ fault_key self.now }
         ensures short { IfSome result (λ key. length key.now ≤ LONGEST_KEY_TEXT) }

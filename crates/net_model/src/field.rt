@@ -16,46 +16,46 @@ pub enum Field {
     Horizon,
     /// The seed of all draws.
     Seed,
-    /// How many messages a station may handle in one clone.
+    /// The most messages that a station may handle in one clone.
     Limit,
     /// The stations.
     Station,
     /// A station's name.
     Name,
-    /// What a station is.
+    /// The kind of a station.
     Kind,
     /// The stream that a station draws from.
     Stream,
-    /// The times between a source's jobs.
+    /// The range of times between a source's jobs.
     Every,
-    /// How many jobs a source makes.
+    /// The number of jobs that a source makes.
     Jobs,
     /// The class of a source's jobs.
     Class,
-    /// How many jobs a server serves at a time.
+    /// The number of jobs that a server serves at a time.
     Servers,
-    /// How many jobs may wait at a server.
+    /// The most jobs that may wait at a server.
     Room,
-    /// The durations of a server's services.
+    /// The range of a server's service times.
     Service,
-    /// Who is served next.
+    /// The order in which waiting jobs are served.
     Order,
-    /// How long a delay holds a job.
+    /// The range of times that a delay holds a job.
     Hold,
-    /// How a router picks a link.
+    /// The rule by which a router picks a link.
     By,
     /// A station's links.
     Link,
-    /// The name of the station that a link leads to.
+    /// The name of the station at the end of a link.
     To,
-    /// The time on a link.
+    /// The travel time of a link.
     Delay,
     /// A link's share among those of its station.
     Weight,
 }
 
 impl Field {
-    /// The key as it stands in a file.
+    /// The key as it is written in a file.
     pub fn key(&self) -> &'static str
         ensures value { result.now ≡ key_of self.now }
         ensures short { length result.now ≤ LONGEST_KEY_TEXT }

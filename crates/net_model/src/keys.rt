@@ -9,7 +9,7 @@ use crate::field::Field;
 use crate::key_text::KeyText;
 use toml::{Table, Value};
 
-/// The kind of a station as its word names it.
+/// The kind of a station, as its keyword names it.
 #[derive(Clone, Copy, Debug, PartialEq, Eq)]
 pub enum KindWord {
     /// `source`
@@ -38,7 +38,7 @@ pub fn top_fields() -> &'static [Field]
     ]
 }
 
-/// The keys of a station of a kind; classes and orders came with format 2.
+/// The keys of a station of a kind; classes and orders need format 2.
 pub fn station_fields(format: u32, word: KindWord) -> &'static [Field]
     ensures { result.now ≡ station_keys format word }
 {
@@ -126,7 +126,7 @@ fn is_field(fields: &[Field], key: &str) -> bool
     fields.iter().any(|field| key == field.key())
 }
 
-/// Refuses a table with a key that is none of the fields, and names the least such key.
+/// Refuses a table with a key that is not among the fields, and names the least such key.
 pub fn only_fields(station: u32, fields: &[Field], value: &Value) -> Result<(), ModelFault>
     ensures { result ≡ only_known station fields.now (view value.now) }
 {

@@ -1,4 +1,4 @@
-//! Reads what a station does.
+//! Reads the kind of a station.
 ghost use Rattle.std.specs.Prelude.{◌≡◌, ◌≤◌, IfOk};
 ghost use Rattle.toml.specs.View.{view};
 ghost use Rattle.net_model.specs.Kinds.{by_word, class_at, delay_of, kind_of, kind_word, kind_word_at};
@@ -34,7 +34,7 @@ fn kind_named(text: &str) -> Option<KindWord>
     None
 }
 
-/// The word that names a station's kind.
+/// The keyword of a station's kind.
 pub fn kind_key(station: u32, table: &Value) -> Result<KindWord, ModelFault>
     ensures { result ≡ kind_word_at station (view table.now) }
 {
@@ -161,7 +161,7 @@ fn read_router(station: u32, table: &Value) -> Result<Kind, ModelFault>
     }
 }
 
-/// What a station of a kind does, by that kind's keys.
+/// The kind of a station, from that kind's keys.
 pub fn read_kind(
     format: u32,
     station: u32,

@@ -1,9 +1,9 @@
-//! The queueing network that a model file states: its stations, the links between them and its limits.
+//! The queueing network of a model file: its stations, the links between them, and its limits.
 //!
-//! A planner describes a clinic, a shop or a net of roads as a queueing network: sources make jobs (patients,
-//! orders, cars), servers with a queue serve them, delays hold them, routers choose their way and sinks count
-//! them as they leave. Stations are joined by links, each with a delay that is at least the lookahead, and all
-//! times are whole numbers. In a file:
+//! A planner describes a clinic, a shop or a road network as a queueing network. Sources make jobs (patients, orders,
+//! cars), and servers with a queue serve them. Delays hold jobs, routers choose their way, and sinks count them as they
+//! leave. Links join the stations, each with a delay that is at least the lookahead, and all times are whole numbers.
+//! In a file:
 //!
 //!     lookahead = 2
 //!     horizon = 20
@@ -15,18 +15,18 @@
 //!     jobs = 2
 //!     link = [{ to = "desk", delay = 2 }]
 //!
-//! `read_model` reads such a text, or answers the first rule that it breaks, with the station and the key:
+//! `read_model` reads such a text, or returns the first rule that it breaks, with the station and the key:
 //!
 //!     let model = read_model(alloc, text)?;           // Err(ModelFault::OutOfRange { place: 1, field: Every })
 //!     let desk = model.find(&name);                   // Some(2): stations are numbered from 1, in the file's order
 //!
-//! A text is read once, in time linear in its length, but for names: each is compared with those before it, so
-//! the time is quadratic in the stations, of which there are few. `limits` names every bound on a model's values.
+//! A text is read once, in time linear in its length, except for names. Each is compared with those before it, so this
+//! time is quadratic in the number of stations, which is small. `limits` names every bound on a model's values.
 //!
-//! Which model a text states is defined in `specs/Text.antt`, key by key and in a fixed order of the rules, and
-//! `read_model` answers exactly that, out of memory apart. Every `Model` keeps the rules of `specs/Rules.antt`,
-//! so that nobody above has to test them again. Example texts stand in `specs/Examples.antt`. Of the promises in
-//! README.md this carries "a refusal is the first one, and it is true", for the text of the model.
+//! `specs/Text.antt` defines the model of a text, key by key and in a fixed order of the rules. `read_model` returns
+//! exactly that, unless it is out of memory. Every `Model` keeps the rules of `specs/Rules.antt`, so no crate above has
+//! to test them again. Example texts are in `specs/Examples.antt`. Of the promises in README.md this crate carries "a
+//! refusal is the first one, and it is true", for the text of the model.
 #![tactic(auto)]
 
 mod draft;

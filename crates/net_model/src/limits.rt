@@ -1,4 +1,4 @@
-//! The greatest values that a model may state, each named once, and which times are a range.
+//! The greatest values that a model may have, each named once, and the test for ranges of times.
 ghost use Rattle.std.specs.Prelude.{◌≡◌};
 ghost use Rattle.net_model.specs.Rules.{is_range as is_range_of};
 
@@ -14,9 +14,9 @@ pub const MOST_TIME: u64 = sim_base::limits::MOST_TIME;
 pub const MOST_HORIZON: u64 = 1_000_000_000;
 /// The seed of all draws, and the number of a station's stream.
 pub const MOST_SEED: u64 = 9_223_372_036_854_775_807;
-/// The greatest limit that a model may state, and so the most messages that a station handles in one clone.
+/// The greatest limit of a model, and so the most messages that a station handles in one clone.
 pub const MOST_LIMIT: u64 = MOST_HANDLED;
-/// The limit of a model that states none.
+/// The limit of a model without one.
 pub const USUAL_LIMIT: u64 = 16_384;
 /// Jobs that a source makes.
 pub const MOST_JOBS: u64 = 1_000_000;

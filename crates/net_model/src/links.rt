@@ -15,7 +15,7 @@ use arrayvec::ArrayVec;
 use sim_base::Name;
 use toml::Value;
 
-/// A link as the file states it, the station that it leads to by name.
+/// A link as the file states it: it names the station at its end.
 #[derive(Clone, Copy, Debug, PartialEq, Eq)]
 pub struct NamedLink {
     pub to: Name,
@@ -24,7 +24,7 @@ pub struct NamedLink {
 }
 
 impl Default for NamedLink {
-    /// Stands where no link is.
+    /// A link to no station.
     fn default() -> NamedLink {
         match Name::read(b"nowhere") {
             Some(to) => NamedLink {

@@ -8,7 +8,7 @@ use crate::station::{Kind, Station};
 use crate::top::Top;
 use sim_base::Name;
 
-/// A model that meets every rule of `specs/Rules.antt`.
+/// The queueing network of a file; it meets every rule of `specs/Rules.antt`.
 #[derive(Drop)]
 pub struct Model {
     pub(crate) top: Top,
@@ -31,7 +31,7 @@ impl std::marker::Model for Model {
 impl Model {
     ghost use Rattle.net_model.specs.Rules.{IsNet};
 
-    /// How many stations there are.
+    /// The number of stations.
     pub fn len(&self) -> u32
         ensures value { result ≡ length self.now.sites }
         ensures valid { IsNet self.now }
@@ -39,7 +39,7 @@ impl Model {
         self.stations.len() as u32
     }
 
-    /// The station of a number, from 1.
+    /// The station with this number, from 1.
     pub fn station(&self, s: u32) -> &Station
         requires is_station { HasStation self.now s }
         ensures value { site_at self.now s ≡ Some (as_site result.now) }
@@ -48,7 +48,7 @@ impl Model {
         &self.stations[s as usize - 1]
     }
 
-    /// The class of the jobs that a station made, 1 where it is no source of the model.
+    /// The class of the jobs that a station makes, or 1 if it is not a source of the model.
     pub fn class_of(&self, source: u32) -> u32
         ensures value { result ≡ class_from self.now source }
     {
@@ -61,7 +61,7 @@ impl Model {
         }
     }
 
-    /// The number of the station of a name, None exactly where there is none.
+    /// The number of the station with this name, or None if there is none.
     pub fn find(&self, name: &Name) -> Option<u32>
         ensures value { result ≡ station_named name.now self.now }
         ensures there { IfSome result (λ s. s ≤ length self.now.sites) }
@@ -102,7 +102,7 @@ impl Model {
         self.top.seed
     }
 
-    /// How many messages a station may handle in one clone.
+    /// The most messages that a station may handle in one clone.
     pub fn limit(&self) -> u64
         ensures value { result ≡ self.now.limit }
         ensures valid { IsNet self.now }

@@ -72,11 +72,10 @@ fn read_root(alloc: Global, root: &Value) -> Result<Model, ModelFault>
     }
 }
 
-/// Reads the model that a text states, or answers the first rule that it breaks.
+/// Reads the model of a text, or returns the first rule that it breaks.
 ///
-/// The rules are tested in a fixed order: the length of the text, whether it is TOML, the keys at the
-/// top, then each station by itself, and last where the links of each station lead. Out of memory is
-/// answered as `ModelFault::NoMemory`, at whatever place it comes.
+/// The rules are tested in a fixed order: the length of the text, its TOML form, the keys at the top, each station
+/// alone, the links' targets. Out of memory is reported as `ModelFault::NoMemory`, wherever it happens.
 pub fn read_model(alloc: Global, text: &[u8]) -> Result<Model, ModelFault>
     ensures ok { IfOk result (λ m. model text.now ≡ Ok m) }
     ensures refused { IfErr result (λ e. e ≢ ModelFault.NoMemory → model text.now ≡ Err e) }

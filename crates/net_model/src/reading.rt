@@ -13,7 +13,7 @@ use crate::limits::is_range;
 use sim_base::Name;
 use toml::Value;
 
-/// Which key of which station is read; the station is 0 for the top of the file.
+/// The key and the station that are read; the station is 0 for the top of the file.
 #[derive(Clone, Copy, Debug, PartialEq, Eq)]
 pub struct Spot {
     pub station: u32,
@@ -52,7 +52,7 @@ fn wrong_type(spot: Spot) -> ModelFault
     }
 }
 
-/// The fault of a value that is none of those that the key may have.
+/// The fault of a value that the key does not allow.
 pub(crate) fn out_of_range(spot: Spot) -> ModelFault
     ensures { result ≡ ModelFault.OutOfRange spot.station spot.field }
 {
@@ -62,7 +62,7 @@ pub(crate) fn out_of_range(spot: Spot) -> ModelFault
     }
 }
 
-/// The value of a key that has to be there.
+/// The value of a required key.
 pub fn value_key<'a>(spot: Spot, table: &'a Value) -> Result<&'a Value, ModelFault>
     ensures { result_map_both (λ v. view v.now) (λ e. e) result ≡ value_at spot.station spot.field (view table.now) }
 {
@@ -86,7 +86,7 @@ fn read_integer(spot: Spot, low: u64, high: u64, value: &Value) -> Result<u64, M
     }
 }
 
-/// The integer from `low` to `high` that a key states. An absent key has its default, if one is given.
+/// The integer from `low` to `high` of a key. An absent key has its default, if there is one.
 pub fn integer_key(
     spot: Spot,
     low: u64,
@@ -108,7 +108,7 @@ pub fn integer_key(
     }
 }
 
-/// The text that a value is.
+/// The text of a value.
 pub fn read_text<'a>(spot: Spot, value: &'a Value) -> Result<&'a str, ModelFault>
     ensures { result_map_both (λ s. s.now) (λ e. e) result ≡ text_of spot.station spot.field (view value.now) }
 {
@@ -118,7 +118,7 @@ pub fn read_text<'a>(spot: Spot, value: &'a Value) -> Result<&'a str, ModelFault
     }
 }
 
-/// The text that a key states.
+/// The text of a key.
 pub fn text_key<'a>(spot: Spot, table: &'a Value) -> Result<&'a str, ModelFault>
     ensures { result_map_both (λ s. s.now) (λ e. e) result ≡ text_at spot.station spot.field (view table.now) }
 {
@@ -128,7 +128,7 @@ pub fn text_key<'a>(spot: Spot, table: &'a Value) -> Result<&'a str, ModelFault>
     }
 }
 
-/// The name that a key states.
+/// The name of a key.
 pub fn name_key(spot: Spot, table: &Value) -> Result<Name, ModelFault>
     ensures { result ≡ name_at spot.station spot.field (view table.now) }
 {
@@ -178,7 +178,7 @@ fn read_span(spot: Spot, low: u64, value: &Value) -> Result<Span, ModelFault>
     }
 }
 
-/// The range of times that a key states, with `lo` at least `low`.
+/// The range of times of a key, with `lo` at least `low`.
 pub fn span_key(spot: Spot, low: u64, table: &Value) -> Result<Span, ModelFault>
     ensures { result ≡ span_at spot.station spot.field low (view table.now) }
 {

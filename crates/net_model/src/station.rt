@@ -1,4 +1,4 @@
-//! What a model says of a station (a logical process): its name, its kind, its random number stream, and its links.
+//! Stations (logical processes) as a model describes them: name, kind, random number stream, and links.
 ghost use Rattle.std.specs.Prelude.{◌≡◌};
 ghost use Rattle.net_model.specs.Net.{is_source, is_sink, routes_by_turn, serves_by_class};
 
@@ -6,7 +6,7 @@ use crate::limits::MOST_LINKS;
 use arrayvec::ArrayVec;
 use sim_base::Name;
 
-/// A link, over which jobs go on: the station that it leads to, how long that takes, and its weight.
+/// A link that jobs travel over: the station at its end, the travel time, and its weight.
 #[derive(Clone, Copy, Debug, Default, PartialEq, Eq)]
 pub struct Link {
     pub to: u32,
@@ -14,17 +14,17 @@ pub struct Link {
     pub weight: u32,
 }
 
-/// What a station does with a job. Times are ranges, from `lo` to `hi`.
+/// The kind of a station. Times are ranges, from `lo` to `hi`.
 #[derive(Clone, Copy, Debug, PartialEq, Eq)]
 pub enum Kind {
-    /// Makes so many jobs of a class, with times between them from a range.
+    /// Makes a number of jobs of one class, with times between them from a range.
     Source {
         lo: u64,
         hi: u64,
         jobs: u64,
         class: u32,
     },
-    /// Serves jobs; so many may wait, and they leave the line as they came or by their class.
+    /// Serves jobs. A limited number may wait, and they are served in the order of arrival or by class.
     Server {
         servers: u32,
         room: u32,
@@ -37,7 +37,7 @@ pub enum Kind {
         lo: u64,
         hi: u64,
     },
-    /// Sends each job on, by turn or by the weights of its links.
+    /// Sends each job on, in turn or by the weights of its links.
     Router {
         turn: bool,
     },
@@ -46,7 +46,7 @@ pub enum Kind {
 }
 
 impl Kind {
-    /// Whether jobs begin there: no link leads to it.
+    /// Whether jobs begin there; no link leads to such a station.
     pub(crate) fn is_source(&self) -> bool
         ensures value { result ≡ is_source self.now }
     {
@@ -56,7 +56,7 @@ impl Kind {
         }
     }
 
-    /// Whether jobs leave the network there: it has no links.
+    /// Whether jobs leave the network there; such a station has no links.
     pub(crate) fn is_sink(&self) -> bool
         ensures value { result ≡ is_sink self.now }
     {
@@ -66,7 +66,7 @@ impl Kind {
         }
     }
 
-    /// Whether it is a router that takes its links by turn.
+    /// Whether it is a router that takes its links in turn.
     pub fn by_turn(&self) -> bool
         ensures value { result ≡ routes_by_turn self.now }
     {
@@ -76,7 +76,7 @@ impl Kind {
         }
     }
 
-    /// Whether it is a server whose waiting jobs are taken by their class.
+    /// Whether it is a server that serves waiting jobs by class.
     pub fn by_class(&self) -> bool
         ensures value { result ≡ serves_by_class self.now }
     {
@@ -87,7 +87,7 @@ impl Kind {
     }
 }
 
-/// A station of a model: its name, what it does, the stream of its draws, and its links in order.
+/// A station of a model: its name, its kind, the stream of its draws, and its links in order.
 #[derive(Drop)]
 pub struct Station {
     pub name: Name,

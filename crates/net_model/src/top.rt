@@ -10,7 +10,7 @@ use crate::limits::{MOST_HORIZON, MOST_LIMIT, MOST_SEED, MOST_STATIONS, MOST_TIM
 use crate::reading::{integer_key, out_of_range, read_tables, spot_at, value_key};
 use toml::Value;
 
-/// The numbers of the whole model, with the meaning that they have in a `Model`.
+/// The numbers at the top of a file, as in a `Model`.
 #[derive(Clone, Copy, Debug, PartialEq, Eq)]
 pub struct Top {
     pub format: u32,

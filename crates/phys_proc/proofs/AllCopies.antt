@@ -30,7 +30,7 @@ use Rattle.phys_proc.proofs.ComesFrom.{sets_join, good_state, comes_from-start, 
 
 -- ---- AllByRecursion and Disjoint
 
--- what holds of all elements of a list holds of the one between two parts
+-- a property of all elements of a list holds of the one between two parts
 pub holds_at : {X : Type 0} (P : X → Type 0) (ys zs : List X) (x : X) → AllByRecursion P (ys ++ x ∷ zs) → P x
 holds_at P ys zs x f = (all_right P ys (x ∷ zs) f).0
 
@@ -119,7 +119,7 @@ module _ (net : Net) (valid : IsNet net) (s : ℕ) (ends : ℕ → ℕ) (bound :
       })
       done done (done ++ x ∷ []) over over refl refl refl
 
-  -- with nothing due in those that are left, they are done as they are
+  -- with nothing due in the remaining copies, they are finished unchanged
   stepping_idle : (ys zs : List StationCopy) (steps : ℕ) → AllByRecursion (IsCopy net s) zs → IsLowerBoundOfAll bound zs
       → Disjoint has (ys ++ zs) → IsStepResult net s ends bound ys ys [] empty steps steps
       → IsStepResult net s ends bound (ys ++ zs) (ys ++ zs) [] empty steps steps
@@ -132,7 +132,7 @@ module _ (net : Net) (valid : IsNet net) (s : ℕ) (ends : ℕ → ℕ) (bound :
       (stepping_more ys zs z ys (ys ++ z ∷ []) [] [] empty empty steps steps steps dis h
       (advance-idle z ys [] empty steps f.0 late.0)))
 
-  -- where no copy has anything due, all stay
+  -- if no copy has anything due, all stay
   pub IsStepResult-idle : (xs : List StationCopy) (steps : ℕ) → AllByRecursion (IsCopy net s) xs
       → IsLowerBoundOfAll bound xs
       → Disjoint has xs → IsStepResult net s ends bound xs xs [] empty steps steps
@@ -148,7 +148,7 @@ module _ (net : Net) (valid : IsNet net) (s : ℕ) (ends : ℕ → ℕ) (bound :
     good_and_sorted : (a : StationCopy) → In a xs → IsGood net s a.state × SortedMarked msg_cmp a.pending
     good_and_sorted a j = let fa = all_in (IsCopy net s) xs a fits j in (good_state net s a fa, fa.sorted)
 
-    -- where no clone is over the limit, each clone has what its own window gives
+    -- if no clone is over the limit, each clone has the result of its own window
     pub all_stepped : over ≡ empty → IsStepped (simulation net) has ends s bound xs done sent
     all_stepped none = IsStepped-SoFar (lawful-stations net valid) sets_join ends s bound xs done sent empty over
         good_and_sorted (λ c. ap (λ k. has k c) none ∙ has-empty c) far.far
@@ -163,10 +163,10 @@ module _ (net : Net) (valid : IsNet net) (s : ℕ) (ends : ℕ → ℕ) (bound :
     all_gained n h = let k = far.counted in let e : far.count ≡ n = omega (arith, h, k) in
         subst (GainTogether (simulation net) has ends s bound xs) e far.gained
 
-    -- and no more than what the limit allows each of their clones
+    -- and at most the limit for each of their clones
     pub all_few : (n : ℕ) → n + steps0 ≡ steps → n ≤ all_sizes xs * net.limit
     all_few n h = let k = far.counted in let f = far.few in omega (arith, h, k, f)
 
-    -- with what the clones had handled alone, no more than they then have, where none is over the limit
+    -- with the number that the clones had handled alone, at most the number afterwards, if none is over the limit
     pub all_shared : (n : ℕ) → n + steps0 ≡ steps → over ≡ empty → handled_alone_by xs + n ≤ handled_alone_by done
     all_shared n h none = let k = far.counted in let f = far.shared none in omega (arith, h, k, f)

@@ -1,4 +1,4 @@
--- A copy on its way to the bound.
+-- The progress of a copy towards the bound.
 use Rattle.std.proofs.Common.{◌≡◌, ◌≢◌, ℕ, ◌+◌, ◌*◌, ◌-◌, ◌<◌, ◌≤◌, ◌&&◌, not}
 use Rattle.std.proofs.Common.{true, false, List, [], ◌∷◌, ◌++◌, ◌⊎◌, inl, inr, refl}
 use Rattle.std.proofs.Common.{sym, ap, ◌∙◌, subst, arith, append_assoc, append-nil, length, length-append}
@@ -55,8 +55,7 @@ longer_log net s copy new before after m k q p h = ap (λ (u : StationCopy). len
 -- ---- ComesFrom
 
 module _ (net : Net) (s : ℕ) (ends : ℕ → ℕ) (bound : ℕ) where
-  -- the end of a copy of the station at the bound: the copies that it becomes, what it sends, who goes over and what
-  -- it gains
+  -- the end of a copy at the bound: the copies that it becomes, its sends, the clones that go over, and its gains
   abbrev pub Comes : StationCopy → List StationCopy → MarkedMessages → MarkedMessages → CloneSet → CloneSet → ℕ → Type 0
   Comes = ComesTo (simulation net) has ends s bound
 
@@ -64,7 +63,7 @@ module _ (net : Net) (s : ℕ) (ends : ℕ → ℕ) (bound : ℕ) where
   abbrev pub From : StationCopy → StationCopy → MarkedMessages → MarkedMessages → ℕ → ℕ → Type 0
   From = ComesFrom net s ends bound
 
-  -- at first a copy is where it began, and no step was taken
+  -- at first a copy is at its start, and no step was taken
   pub comes_from-start : (first : StationCopy) (start : MarkedMessages) (steps : ℕ) → IsCopy net s first
       → From first first start start steps steps
   comes_from-start first start steps f =
@@ -115,20 +114,20 @@ module _ (net : Net) (s : ℕ) (ends : ℕ → ℕ) (bound : ℕ) where
     takes_not c i none = ap (λ b. b && takes_at ends m d.marks c) (sym (ap (λ k. has k c) (sym d.same.copy.set) ∙ i))
         ∙ sym (d.take c) ∙ none
 
-    -- where the takers are all its clones, each takes it
+    -- if the takers are all its clones, each takes it
     all_take : takers ≡ new.set → (c : ℕ) → has new.set c ≡ true → takes_at ends m d.marks c ≡ true
     all_take e c i = (takes_of c (ap (λ k. has k c) e ∙ i)).1
 
     -- ---- ComesTo
 
-    -- where all take it and the log is full, the first copy comes to no copy, and its clones go over the limit
+    -- if all take it and the log is full, the first copy has no results, and its clones go over the limit
     comes-over : takers ≡ new.set → net.limit ≤ length new.log → (over : CloneSet)
         → Comes first [] start sent over (union over new.set) (0 + o.taken)
     comes-over e full over = comes_from-new.next [] sent over (union over new.set) 0
         (comes_to-over (lawful-stations net o.fits.valid) sets_join ends s bound new m d.marks d.rest sent over
         (let h = comes_from-new.fits.short in omega arith) d.pending (all_take e) d.early)
 
-    -- where all take it and the log is not full, the copy that handles it has come one step further
+    -- if all take it and the log is not full, the copy that handles it has advanced by one step
     pub comes_from-handle : (next : StationCopy) (after : MarkedMessages) (steps1 : ℕ) → takers ≡ new.set
         → length new.log < net.limit
         → IsHandled net s new next sent after → steps1 ≡ steps + 1 → From first next start after steps0 steps1
@@ -156,7 +155,7 @@ module _ (net : Net) (s : ℕ) (ends : ℕ → ℕ) (bound : ℕ) where
         one_more : (n t : ℕ) → (n + 1) + t ≡ n + (t + 1)
         one_more n t = omega arith
 
-    -- where some take it and some do not, the first copy comes to what both halves come to
+    -- if only some take it, the results of the first copy are those of both halves
     comes-split : (mid after : MarkedMessages) (e1 e2 : List StationCopy) (over over1 over2 : CloneSet) (x1 x2 : ℕ)
         → Comes (half new takers) e1 sent mid over over1 x1
         → Comes (half new (minus new.set takers)) e2 mid after over1 over2 x2 →
@@ -181,7 +180,7 @@ module _ (net : Net) (s : ℕ) (ends : ℕ → ℕ) (bound : ℕ) where
 
     -- ---- size and may_handle
 
-    -- its log is longer than the first one by what was handled
+    -- its log is longer than the first one by the handled messages
     new_log : length new.log ≡ length first.log + o.taken
     new_log = comes_from-new.log
 
@@ -207,7 +206,7 @@ module _ (net : Net) (s : ℕ) (ends : ℕ → ℕ) (bound : ℕ) where
         let e = ap size comes_from-new.set in
         omega (arith, h, m, e)
 
-    -- the halves together may handle what the copy may
+    -- the halves together may handle as much as the copy
     pub parts_few : may_handle net.limit (half new takers) + may_handle net.limit (half new (minus new.set takers))
         ≡ may_handle net.limit new
     parts_few =
@@ -219,7 +218,7 @@ module _ (net : Net) (s : ℕ) (ends : ℕ → ℕ) (bound : ℕ) where
 
     -- ---- IsAdvance
 
-    -- where all clones take the message and the log is full, all clones of the first copy go over
+    -- if all clones take the message and the log is full, all clones of the first copy go over
     pub advance-over : (done0 done1 : List StationCopy) (over0 over1 over2 : CloneSet) → done1 ≡ done0 → over1 ≡ over0
         → takers ≡ new.set → net.limit ≤ length new.log → over2 ≡ union over1 new.set →
         IsAdvance net s ends bound first done0 done1 start sent over0 over2 steps0 steps
@@ -241,7 +240,7 @@ module _ (net : Net) (s : ℕ) (ends : ℕ → ℕ) (bound : ℕ) where
         no_union a c i e = not_empty (union a new.set) c
             (has-union a new.set c ∙ or_right (has a c) (has new.set c) i) e
 
-    -- where some clones take the message and some do not, the ends of both halves are together an end of the first copy
+    -- if only some clones take the message, the ends of both halves are together an end of the first copy
     pub advance-split : (done0 done1 done2 done3 : List StationCopy) (mid after : MarkedMessages)
         (over0 over1 over2 over3 : CloneSet) (steps1 steps2 : ℕ) → done1 ≡ done0 → over1 ≡ over0 →
         IsAdvance net s ends bound (half new takers) done1 done2 sent mid over1 over2 steps steps1
@@ -271,7 +270,7 @@ module _ (net : Net) (s : ℕ) (ends : ℕ → ℕ) (bound : ℕ) where
 
     -- ---- half
 
-    -- where not all clones take the message, there are others
+    -- if not all clones take the message, there are others
     others_some : takers ≢ new.set → minus new.set takers ≢ empty
     others_some ne none = ne (same_members takers new.set (λ c. same_at c (cases_Bool (has new.set c))))
       where
@@ -286,7 +285,7 @@ module _ (net : Net) (s : ℕ) (ends : ℕ → ℕ) (bound : ℕ) where
           | inr f ↦ f ∙ sym n
         ]
 
-    -- where not all clones take the message, the half for those that do has fewer clones
+    -- if not all clones take the message, the half for those that do has fewer clones
     pub first_smaller : takers ≢ new.set → size takers < size new.set
     first_smaller ne = subst (λ k. size k < size new.set) takers_meet (meet_smaller new.set takers (others_some ne))
 
@@ -294,7 +293,7 @@ module _ (net : Net) (s : ℕ) (ends : ℕ → ℕ) (bound : ℕ) where
     pub first_half : IsCopy net s (half new takers)
     first_half = copy_half ends net s new takers comes_from-new.fits (set_has_clone takers d.some)
 
-    -- and so is the half for the others, where not all clones take the message
+    -- and so is the half for the others, if not all clones take the message
     pub second_half : (takers ≢ new.set) → IsCopy net s (half new (minus new.set takers))
     second_half ne = copy_half ends net s new (minus new.set takers) comes_from-new.fits
         (set_has_clone (minus new.set takers) (others_some ne))
@@ -305,7 +304,7 @@ module _ (net : Net) (s : ℕ) (ends : ℕ → ℕ) (bound : ℕ) where
 
   -- ---- NothingDue
 
-  -- where nothing is left before the bound, the first copy comes to the copy as it is
+  -- if nothing is left before the bound, the result of the first copy is the present copy
   comes-done : (first copy new : StationCopy) (start sent : MarkedMessages) (steps0 steps : ℕ)
       (o : From first copy start sent steps0 steps) → NothingDue ends bound copy new → (over : CloneSet)
       → Comes first (new ∷ []) start sent over over (0 + o.taken) × IsCopy net s new
@@ -317,7 +316,7 @@ module _ (net : Net) (s : ℕ) (ends : ℕ → ℕ) (bound : ℕ) where
         n.fits,
       )
 
-  -- where nothing is due, the copy as it is is the end of the first copy
+  -- if nothing is due, the present copy is the end of the first copy
   pub advance-done : (first copy new : StationCopy) (start sent : MarkedMessages) (steps0 steps : ℕ)
       (o : From first copy start sent steps0 steps) (d : NothingDue ends bound copy new)
       (done0 done1 done2 : List StationCopy) (over0 over1 : CloneSet) →
@@ -379,7 +378,7 @@ module _ (net : Net) (s : ℕ) (ends : ℕ → ℕ) (bound : ℕ) where
           omega (arith, k, e, f);
     }
 
-    -- what was handled, and what may be handled still, are together no more than the first copy may handle
+    -- the number handled, and the number that may still be handled, are together at most the first copy's
     pub left_few : o.taken + may_handle net.limit copy ≤ may_handle net.limit first
     left_few =
         let h = few_apart (size first.set) (length first.log) (length copy.log) o.taken net.limit first_some o.log

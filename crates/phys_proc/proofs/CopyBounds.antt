@@ -1,4 +1,4 @@
--- For each copy a time that nothing of it is pending before, in a list beside the copies.
+-- Lower bounds of the pending times of copies, in a list parallel to the copies.
 use Rattle.std.proofs.Common.{◌≡◌, ℕ, zero, suc, ◌<◌, ◌≤◌, arith, List, [], ◌∷◌, ◌++◌, length, get_or}
 use Rattle.std.proofs.Common.{min, map, slice_set, subst, sym}
 use Rattle.std.specs.List.{AllByRecursion, AllZip, remove}
@@ -33,7 +33,7 @@ bounds_set (u ∷ ts) [] i t x f g = absurd f
 bounds_set (u ∷ ts) (y ∷ ys) zero t x f g = (g, f.1)
 bounds_set (u ∷ ts) (y ∷ ys) (suc i) t x f g = (f.0, bounds_set ts ys i t x f.1 g)
 
--- and both taken out at a place where the copy was set before
+-- and so they are after both are removed at a place that was set before
 pub bounds_without : (ts : List ℕ) (xs : List StationCopy) (i : ℕ) (y : StationCopy) → AllZip IsLowerBound ts xs
     → AllZip IsLowerBound (remove ts i) (remove (slice_set xs i y) i)
 bounds_without [] [] zero y f = tt
@@ -56,7 +56,7 @@ pub bounds_put : (ts us : List ℕ) (xs ys : List StationCopy) (t : ℕ) (x : St
     → ys ≡ xs ++ x ∷ [] → AllZip IsLowerBound ts xs → IsLowerBound t x → AllZip IsLowerBound us ys
 bounds_put ts us xs ys t x d e f g = rw (d, e) (bounds_joined ts (t ∷ []) xs (x ∷ []) f (g, tt))
 
--- the times stay where a clone is put beside another
+-- the times stay if a clone is added next to another
 pub bounds_forked : (old new : ℕ) (ts : List ℕ) (xs : List StationCopy) → AllZip IsLowerBound ts xs
     → AllZip IsLowerBound ts (map (copy_after_fork old new) xs)
 bounds_forked old new [] [] f = tt

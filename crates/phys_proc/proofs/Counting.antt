@@ -1,5 +1,5 @@
--- How many messages copies handle: no more than the logs of their clones may still take, and no more than the
--- clones would handle each by itself.
+-- Bounds on the number of messages that copies handle: at most as many as the logs of their clones may still take, and
+-- as the clones would handle alone.
 use Rattle.std.proofs.Common.{◌≡◌, ◌≢◌, ℕ, ◌+◌, ◌*◌, ◌-◌, ◌<◌, ◌≤◌, ◌&&◌, ◌||◌, not, Bool, true, false}
 use Rattle.std.proofs.Common.{List, [], ◌∷◌, ◌++◌, inl, inr, refl, sym, ap, ◌∙◌, subst, arith, length}
 use Rattle.std.specs.List.{AllByRecursion}
@@ -90,12 +90,12 @@ all_sizes-append (x ∷ xs) ys = let h = all_sizes-append xs ys in omega (arith,
 
 -- ---- handled_alone_by
 
--- what two lists of copies would have handled alone is that of both added up
+-- the number that two lists of copies would have handled alone is the sum of both
 pub alone-append : (xs ys : List StationCopy) → handled_alone_by (xs ++ ys) ≡ handled_alone_by xs + handled_alone_by ys
 alone-append [] ys = omega arith
 alone-append (x ∷ xs) ys = let h = alone-append xs ys in omega (arith, h)
 
--- where no log is longer than the limit, what is handled alone is at most the limit for each clone
+-- if no log is longer than the limit, the number handled alone is at most the limit for each clone
 pub alone_short : (limit : ℕ) (xs : List StationCopy) → AllByRecursion (λ a. length a.log ≤ limit) xs
     → handled_alone_by xs ≤ all_sizes xs * limit
 alone_short limit [] f = omega arith
@@ -105,17 +105,17 @@ alone_short limit (x ∷ xs) f =
     let d = add-mul (size x.set) (all_sizes xs) limit in
     omega (arith, h, m, d)
 
--- ---- what one copy handles: s clones, a log of l entries, t messages handled, then n entries
+-- ---- the messages that one copy handles: s clones, a log of l entries, t messages handled, then n entries
 
 module _ (s l n t limit : ℕ) (some : 0 < s) (longer : n ≡ l + t) (short : n ≤ limit) where
-  -- it handles at most what the limit allows each of its clones
+  -- it handles at most the limit for each of its clones
   pub few_more : t ≤ s * (limit - l)
   few_more =
       let r : t ≤ limit - l = omega (arith, longer, short) in
       let m = mul-le 1 t s (limit - l) some r in
       omega (arith, m)
 
-  -- and no more where its clones then part, with what both parts handle from there on
+  -- and no more if its clones then part, together with the messages that both parts handle from then on
   pub few_apart : (s1 s2 g1 g2 : ℕ) → s1 + s2 ≡ s → g1 ≤ s1 * (limit - n) → g2 ≤ s2 * (limit - n)
       → (g1 + g2) + t ≤ s * (limit - l)
   few_apart s1 s2 g1 g2 e f g =
@@ -127,7 +127,7 @@ module _ (s l n t limit : ℕ) (some : 0 < s) (longer : n ≡ l + t) (short : n 
       let i = ap (λ x. s * x) r in
       omega (arith, a, b, c, d, i, f, g)
 
-  -- with what its clones had handled alone, no more than they have handled alone then
+  -- together with the number that its clones had handled alone, at most the number that they then have
   pub shared_more : s * l + t ≤ s * n
   shared_more =
       let a = mul-add s l t in
@@ -135,7 +135,7 @@ module _ (s l n t limit : ℕ) (some : 0 < s) (longer : n ≡ l + t) (short : n 
       let i = ap (λ x. s * x) longer in
       omega (arith, a, d, i)
 
-  -- nor more where its clones then part, with what both parts handle from there on
+  -- nor more if its clones then part, together with the messages that both parts handle from then on
   pub shared_apart : (s1 s2 g1 g2 h1 h2 : ℕ) → s1 + s2 ≡ s → s1 * n + g1 ≤ h1 → s2 * n + g2 ≤ h2
       → s * l + ((g1 + g2) + t) ≤ h1 + h2
   shared_apart s1 s2 g1 g2 h1 h2 e f g =

@@ -1,4 +1,4 @@
--- What is given to a copy.
+-- The effect of giving a message to a copy.
 use Rattle.std.proofs.Common.{◌≡◌, ℕ, zero, suc, ◌+◌, ◌<◌, arith, length, slice_set, get_or, ◌==◌, ◌&&◌, Bool}
 use Rattle.std.proofs.Common.{true, false, cond, List, [], ◌∷◌, refl, sym, ap, ◌∙◌, eqb-true, map, nat_lt}
 use Rattle.std.proofs.Common.{not, inl, inr, ap₂, eq-eqb}
@@ -30,7 +30,7 @@ use Rattle.phys_proc.proofs.Halves.{IsCopy-like}
 -- ---- IsGiven and IsCopy
 
 module _ (net : Net) (ends : ℕ → ℕ) (m : Msg) (k : CloneSet) where
-  -- where the message is for none of its clones the copy is as it was, where it is for some it has it besides
+  -- the copy does not change if the message is for none of its clones; if it is for some, it has the message too
   given_by : (none : Bool) (a : StationCopy) → (meet a.set k == empty) ≡ none → SortedMarked msg_cmp a.pending →
       IsGiven (simulation net) has ends m k a
       (record a { pending = cond none a.pending (insert_marked union msg_cmp m (meet a.set k) a.pending) })
@@ -53,7 +53,7 @@ module _ (net : Net) (ends : ℕ → ℕ) (m : Msg) (k : CloneSet) where
     sorted = sorted_insert_marked messages_ordered.total union m (meet a.set k) a.pending s;
   }
 
-  -- in a copy to which it is given, a message is pending besides for the clones that take it
+  -- in a copy to which it is given, a message is also pending for the clones that take it
   is_given : (a : StationCopy) → SortedMarked msg_cmp a.pending
       → IsGiven (simulation net) has ends m k a (with_message m k a)
   is_given a s = given_by (meet a.set k == empty) a refl s
@@ -109,7 +109,7 @@ map_first-suc f i xs d l = by_suc f i xs d l ∙ ap (λ n. map_first f n xs) (su
     by_suc f zero (x ∷ xs) d l = refl
     by_suc f (suc i) (x ∷ xs) d l = ap (λ t. f x ∷ t) (by_suc f i xs d (omega arith))
 
--- where as many are changed as there are, all are
+-- if the count of changes is the length, all are changed
 pub map_first-length : (f : StationCopy → StationCopy) (i : ℕ) (xs : List StationCopy) → i ≡ length xs
     → map_first f i xs ≡ map f xs
 map_first-length f i xs e = ap (λ n. map_first f n xs) e ∙ whole xs
@@ -118,7 +118,7 @@ map_first-length f i xs e = ap (λ n. map_first f n xs) e ∙ whole xs
     whole [] = refl
     whole (x ∷ xs) = ap (λ t. f x ∷ t) (whole xs)
 
--- the list stays as long as it was
+-- the list keeps its length
 pub length-map_first : (f : StationCopy → StationCopy) (i : ℕ) (xs : List StationCopy)
     → length (map_first f i xs) ≡ length xs
 length-map_first f zero xs = refl
@@ -127,7 +127,7 @@ length-map_first f (suc i) (x ∷ xs) = ap suc (length-map_first f i xs)
 
 -- ---- rest_after
 
--- the clones of k that none of the first i copies stands for
+-- the clones of k that none of the first i copies represents
 abbrev pub rest_after : CloneSet → List StationCopy → ℕ → CloneSet
 rest_after k xs zero = k
 rest_after k [] (suc i) = k
@@ -147,7 +147,7 @@ rest_more f k xs i d l = by_suc k xs i l ∙ ap (rest_after k xs) (suc-eq-add-on
 -- ---- with_message, copy after copy
 
 module _ (m : Msg) (k : CloneSet) where
-  -- where the message is for none of its clones, the copy is as it was
+  -- if the message is for none of its clones, the copy does not change
   not_given : (a : StationCopy) → ((c : ℕ) → has k c ≡ true → ¬ (Carries has a c)) → with_message m k a ≡ a
   not_given a apart =
       let none = empty_from_none (meet a.set k)
@@ -160,14 +160,14 @@ module _ (m : Msg) (k : CloneSet) where
       no_one c true false e f = refl
       no_one c true true e f = absurd (apart c f e)
 
-  -- and where it is for no clone of some copies, they all are
+  -- and if it is for no clone of some copies, none of them changes
   none_given : (xs : List StationCopy) → ((c : ℕ) → has k c ≡ true → AllByRecursion (λ b. ¬ (Carries has b c)) xs)
       → xs ≡ map (with_message m k) xs
   none_given [] h = refl
   none_given (x ∷ xs) h = ap₂ (λ y ys. y ∷ ys) (sym (not_given x (λ c i. (h c i).0)))
       (none_given xs (λ c i. (h c i).1))
 
-  -- where the first copies stand for all its clones, all copies have it once these have it
+  -- if the first copies represent all its clones, all copies have it once these have it
   pub given_to_all : (rest : CloneSet) (xs : List StationCopy) (i : ℕ) → Disjoint has xs
       → rest_after rest xs i ≡ empty
       → ((c : ℕ) → has k c ≡ true → has rest c ≡ false → AllByRecursion (λ b. ¬ (Carries has b c)) xs)
@@ -193,7 +193,7 @@ module _ (m : Msg) (k : CloneSet) where
 -- ---- with_message, with one copy first
 
 module _ (m : Msg) (k : CloneSet) where
-  -- two sets that share the same clones with a copy give it the same
+  -- two sets that share the same clones with a copy have the same effect on it
   same_given : (k1 k2 : CloneSet) (a : StationCopy) → meet a.set k1 ≡ meet a.set k2
       → with_message m k1 a ≡ with_message m k2 a
   same_given k1 k2 a e = ap (λ s. record a {
@@ -236,7 +236,7 @@ module _ (m : Msg) (k : CloneSet) where
       (all_at (λ b. (c : ℕ) → Carries has x c → ¬ (Carries has b c)) xs i d p.0 (omega arith))))
       (given_from xs i d (omega arith) p.1)
 
-  -- where the copy at place i has got it, and all get it for the rest of the set, all copies have got it
+  -- if the copy at place i has it, and all get it for the rest of the set, all copies have it
   pub given_first : (xs : List StationCopy) (i : ℕ) (d1 d2 : StationCopy) (rest : CloneSet) (a : StationCopy)
       → i < length xs → Disjoint has xs → rest ≡ minus k (get_or xs i d1).set → a ≡ with_message m k (get_or xs i d2)
       → map (with_message m rest) (slice_set xs i a) ≡ map (with_message m k) xs
@@ -245,7 +245,7 @@ module _ (m : Msg) (k : CloneSet) where
       (e ∙ ap (λ (u : StationCopy). minus k u.set) (get_or_default xs i d1 d2 l)) f
       ∙ given_from xs i d2 l p
 
-  -- and where that copy stands for the whole set, all copies have got it once it has
+  -- and if that copy represents the whole set, all copies have it once that one does
   pub given_alone : (xs : List StationCopy) (i : ℕ) (d1 d2 : StationCopy) (rest : CloneSet) (a : StationCopy)
       → i < length xs → Disjoint has xs → rest ≡ minus k (get_or xs i d1).set → a ≡ with_message m k (get_or xs i d2)
       → rest ≡ empty → slice_set xs i a ≡ map (with_message m k) xs

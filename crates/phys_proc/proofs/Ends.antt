@@ -1,4 +1,4 @@
--- Which clones have ended at a time.
+-- The clones that have ended at a time.
 use Rattle.std.proofs.Common.{◌≡◌, ℕ, ◌<◌, ◌≤◌, ◌==◌, ◌&&◌, ◌||◌, not, min, Bool, true, false, cond, List}
 use Rattle.std.proofs.Common.{[], ◌∷◌, ◌++◌, inl, inr, refl, sym, ap, ◌∙◌, subst, arith, nat_lt, nat_le}
 use Rattle.std.proofs.lemmas.Bool.{cases_lt, lt-ltb, le-ltb, le-leb, lt-leb}
@@ -7,7 +7,7 @@ use Rattle.phys_proc.specs.Ends.{ends_in, has_ended, AreEndsOfClones}
 
 -- ---- has_ended
 
--- an end that is listed counts where it has come
+-- a listed end counts if it has come
 one_end : (t a r : ℕ) (g : Bool) → g ≡ not (nat_lt t r) → ((nat_le a t && true) || g) ≡ not (nat_lt t (min a r))
 one_end t a r g e = elim (cases_lt t a) [
   | inl l ↦ elim (cases_lt t r) [
@@ -19,7 +19,7 @@ one_end t a r g e = elim (cases_lt t a) [
   | inr l ↦ ap (λ b. (b && true) || g) (le-leb a t l) ∙ sym (ap not (le-ltb t (min a r) (omega arith)))
 ]
 
--- and is passed over where it is of another clone
+-- and is skipped if it is of another clone
 end_at : (same : Bool) (t a r : ℕ) (g : Bool) → g ≡ not (nat_lt t r)
     → ((nat_le a t && same) || g) ≡ not (nat_lt t (cond same (min a r) r))
 end_at true t a r g e = one_end t a r g e
@@ -29,7 +29,7 @@ end_at false t a r g e = no_end (nat_le a t) ∙ e
     no_end true = refl
     no_end false = refl
 
--- before the horizon, a clone has ended where its end is not later
+-- before the horizon, a clone has ended if its end is not later
 pub has_ended-is : (horizon t : ℕ) (es : List (ℕ × ℕ)) (c : ℕ) → t < horizon
     → has_ended t es c ≡ not (nat_lt t (ends_in horizon es c))
 has_ended-is horizon t [] c l = ap not (sym (lt-ltb t horizon l))

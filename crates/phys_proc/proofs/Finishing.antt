@@ -1,4 +1,4 @@
--- The end of a copy that goes no further as it is.
+-- The end of a copy that has stopped.
 use Rattle.std.proofs.Common.{◌≡◌, ℕ, ◌+◌, ◌<◌, ◌≤◌, ◌&&◌, true, List, [], ◌∷◌, ◌++◌, refl, sym, ap, ◌∙◌, subst, arith}
 use Rattle.sim_base.specs.declared.message.Msg.{Msg}
 use Rattle.clone_sets.specs.Sets.{has, minus, union, size}
@@ -12,24 +12,24 @@ use Rattle.phys_proc.proofs.Halves.{same_none}
 use Rattle.phys_proc.proofs.ComesFrom.{comes_from-start, advance-done, advance-over, advance-split, advance-from}
 use Rattle.phys_proc.proofs.ComesFrom.{first_half, second_half, first_smaller, second_smaller, parts_few}
 
--- ---- NothingDue and NextDue, said of the copy as it is by then
+-- ---- NothingDue and NextDue, about the present copy
 
 module _ (ends : ℕ → ℕ) (bound : ℕ) (a b : StationCopy) where
-  -- where nothing of b is due, as what is left of a, nothing of b is due by itself
+  -- if nothing of b is due, as the rest of a, nothing of b alone is due
   pub settled_here : NothingDue ends bound a b → NothingDue ends bound b b
   settled_here d = record {
     same = same_none ends b;
     settled = λ c i. d.settled c (subst (λ k. has k c ≡ true) d.same.copy.set i);
   }
 
-  -- where nothing of b is pending before the bound, nothing of b is due
+  -- if nothing of b is pending before the bound, nothing of b is due
   pub idle_here : IsLowerBound bound b → NothingDue ends bound b b
   idle_here late = record {
     same = same_none ends b;
     settled = λ c i. all_part_of (takes_at ends) c (λ (m : Msg). bound ≤ m.key.time) b.pending late;
   }
 
-  -- what is due next of b, as what is left of a, is due next of b by itself
+  -- the next due message of b, as the rest of a, is that of b alone
   pub due_here : (m : Msg) (takers : CloneSet) → NextDue ends bound a b m takers → NextDue ends bound b b m takers
   due_here m takers d = record {
     same = same_none ends b;
@@ -49,7 +49,7 @@ module _ (net : Net) (s : ℕ) (ends : ℕ → ℕ) (bound : ℕ) (copy : Statio
   abbrev comes_from-copy : ComesFrom net s ends bound copy copy sent sent steps steps
   comes_from-copy = comes_from-start net s ends bound copy sent steps fits
 
-  -- a copy of which nothing is due is done as it is
+  -- a copy with nothing due is finished unchanged
   pub advance-settled : (done new : List StationCopy) (over : CloneSet) → NothingDue ends bound copy copy
       → new ≡ done ++ copy ∷ [] → IsAdvance net s ends bound copy done new sent sent over over steps steps
   advance-settled done new over d e = advance-done net s ends bound copy copy copy sent sent steps steps
@@ -91,7 +91,7 @@ module _ (net : Net) (s : ℕ) (ends : ℕ → ℕ) (bound : ℕ) (copy : Statio
         let l = ap size f in
         omega (arith, h, k, l)
 
-    -- and both together may handle what the copy may
+    -- and both together may handle as much as the copy
     pub both_few : (a b : StationCopy) → a ≡ half copy takers → b ≡ half copy (minus copy.set takers)
         → may_handle net.limit a + may_handle net.limit b ≡ may_handle net.limit copy
     both_few a b e f =

@@ -1,4 +1,4 @@
--- A clone more in a copy, beside the clone that it was.
+-- One more clone in a copy, next to its origin.
 use Rattle.std.proofs.Common.{◌≡◌, ◌≢◌, ℕ, ◌*◌, ◌≤◌, ◌==◌, ◌&&◌, ◌||◌, Bool, true, false}
 use Rattle.std.proofs.Common.{cond, List, [], ◌∷◌, inl, inr, Option, Some, None, refl, sym}
 use Rattle.std.proofs.Common.{ap, ap₂, ◌∙◌, subst, eq-eqb, eqb-true, nat_lt, arith, length, map}
@@ -50,11 +50,11 @@ module _ (old new : ℕ) where
             (λ d. has-meet k (one old) d ∙ ap (λ b. has k d && b) (has-one old d) ∙ none_at n d)))
       ]
 
-  -- a set with the new clone where it has the old one
+  -- a set with the new clone if it has the old one
   abbrev set_after_fork : CloneSet → CloneSet
   set_after_fork k = cond (is_some (common k (one old))) (union k (one new)) k
 
-  -- it has of each clone what it had of the clone that this was
+  -- it has a clone if it had the clone's origin
   has-set_after_fork : (k : CloneSet) (c : ℕ) → has k new ≡ false
       → has (set_after_fork k) c ≡ has k (origin_of old new c)
   has-set_after_fork k c fresh = ap (λ b. has (cond b (union k (one new)) k) c) (test_is k) ∙ by_old (has k old) refl
@@ -85,11 +85,11 @@ module _ (old new : ℕ) where
 
   -- ---- spread and IsForked
 
-  -- pending messages with the new clone beside the old one
+  -- pending messages with the new clone next to the old one
   abbrev pub spread : MarkedMessages → MarkedMessages
   spread xs = spread_marks union common (one old) (one new) xs
 
-  -- of the spread messages a clone takes what the clone that it was takes
+  -- of the spread messages a clone takes those that its origin takes
   taken_spread : (ends : ℕ → ℕ) (c : ℕ) (xs : MarkedMessages) → AllByRecursion (λ x. has x.1 new ≡ false) xs
       → part (λ m k c. has k c && nat_lt m.key.time (ends (origin_of old new c))) c (spread xs) ≡ taken_at ends
       (origin_of old new c) xs
@@ -102,7 +102,7 @@ module _ (old new : ℕ) where
       ∙ ap (λ l. cond (has x.1 (origin_of old new c) && nat_lt x.0.key.time (ends (origin_of old new c))) (x.0 ∷ l) l)
       (taken_spread ends c xs f.1)
 
-  -- what holds of all messages holds of the spread ones
+  -- a property of all messages holds of the spread ones
   all_spread : (P : Msg → Type 0) (xs : MarkedMessages) → AllByRecursion (λ x. P x.0) xs
       → AllByRecursion (λ x. P x.0) (spread xs)
   all_spread P [] f = tt
@@ -112,7 +112,7 @@ module _ (old new : ℕ) where
   abbrev forked_copy : StationCopy → StationCopy
   forked_copy a = record { set = set_after_fork a.set; state = a.state; log = a.log; pending = spread a.pending }
 
-  -- where a copy has the new clone nowhere, its forked copy is it with the new clone beside the old one
+  -- if a copy does not have the new clone, its forked copy is it with the new clone next to the old one
   is_forked : (net : Net) (ends : ℕ → ℕ) (a : StationCopy) → has a.set new ≡ false
       → AllByRecursion (λ x. has x.1 new ≡ false) a.pending → SortedMarked msg_cmp a.pending
       → IsForked (simulation net) has ends old new a (forked_copy a)
@@ -165,7 +165,7 @@ module _ (old new : ℕ) where
       }
 
   module _ (net : Net) (s : ℕ) where
-    -- marks of a copy are, with the new clone beside the old one, marks of the copy with the new clone
+    -- marks of a copy are, with the new clone next to the old one, marks of the copy with the new clone
     marks_grow : (set : CloneSet) (xs : MarkedMessages) → has set new ≡ false
         → AllByRecursion (λ x. AreMarks set x.1) xs
         → AllByRecursion (λ x. AreMarks (set_after_fork old new set) x.1) (spread old new xs)
@@ -199,7 +199,7 @@ module _ (old new : ℕ) where
       forked_fits xs n.1 f.1,
     )
 
-    -- and each copy is what it was, with the new clone beside the old one
+    -- and each copy is the same, with the new clone next to the old one
     pub all_forked : (ends : ℕ → ℕ) (xs : List StationCopy) → AllByRecursion (λ a. has a.set new ≡ false) xs
         → AllByRecursion (IsCopy net s) xs
         → AllZip (IsForked (simulation net) has ends old new) xs (map (copy_after_fork old new) xs)
@@ -222,7 +222,7 @@ module _ (old new : ℕ) where
       by_test true = refl
       by_test false = refl
 
-  -- its log is as it was
+  -- its log is the same
   log_is : (a : StationCopy) → (copy_after_fork old new a).log ≡ a.log
   log_is a = by_test (has a.set old)
     where
@@ -232,12 +232,12 @@ module _ (old new : ℕ) where
       by_test true = refl
       by_test false = refl
 
-  -- it has a clone where it had the one that this was
+  -- it has a clone if it had the clone's origin
   has_at : (a : StationCopy) (c : ℕ) → has a.set new ≡ false
       → has (copy_after_fork old new a).set c ≡ has a.set (origin_of old new c)
   has_at a c n = ap (λ k. has k c) (set_is a) ∙ has-set_after_fork old new a.set c n
 
-  -- where all copies together do not have the new clone, none of them has it
+  -- if all copies together do not have the new clone, none of them has it
   none_new : (xs : List StationCopy) → has (all_clones xs) new ≡ false → AllByRecursion (λ a. has a.set new ≡ false) xs
   none_new [] n = tt
   none_new (x ∷ xs) n = let h = or_parts (has x.set new) (has (all_clones xs) new)
@@ -248,7 +248,7 @@ module _ (old new : ℕ) where
       → AllByRecursion (λ a. has a.set new ≡ false) xs
   fresh_in living xs e n = none_new xs (ap (λ k. has k new) e ∙ n)
 
-  -- all copies together have a clone where they had the one that this was
+  -- all copies together have a clone if they had the clone's origin
   clones_at : (xs : List StationCopy) (c : ℕ) → AllByRecursion (λ a. has a.set new ≡ false) xs
       → has (all_clones (map (copy_after_fork old new) xs)) c ≡ has (all_clones xs) (origin_of old new c)
   clones_at [] c n = has-empty c ∙ sym (has-empty (origin_of old new c))
@@ -309,7 +309,7 @@ module _ (old new : ℕ) where
           omega (arith, h)
       by_test false = omega arith
 
-  -- and the clones of all copies have handled no less by themselves
+  -- and the clones of all copies have handled no less alone
   more_alone : (xs : List StationCopy) → AllByRecursion (λ a. has a.set new ≡ false) xs
       → handled_alone_by xs ≤ handled_alone_by (map (copy_after_fork old new) xs)
   more_alone [] n = omega arith
@@ -319,7 +319,7 @@ module _ (old new : ℕ) where
       let e = ap (λ l. size (copy_after_fork old new x).set * length l) (log_is x) in
       omega (arith, h, m, e)
 
-  -- what the copies of a station keep, they keep with a new clone beside one that lives
+  -- the copies of a station keep their invariant with a new clone next to a living one
   pub shares_forked : (s handled : ℕ) (living : CloneSet) (xs : List StationCopy) → has living old ≡ true
       → has living new ≡ false → KeepsShares (record { station = s; living = living; handled = handled; copies = xs }) →
       KeepsShares (record {
@@ -343,7 +343,7 @@ module _ (old new : ℕ) where
 
   -- ---- IsLowerBoundOfAll
 
-  -- where nothing of the copies is pending before a time, nothing is with the new clone
+  -- if nothing of the copies is pending before a time, nothing is with the new clone
   pub IsLowerBoundOfAll-forked : (t : ℕ) (xs : List StationCopy) → IsLowerBoundOfAll t xs
       → IsLowerBoundOfAll t (map (copy_after_fork old new) xs)
   IsLowerBoundOfAll-forked t [] f = tt

@@ -33,12 +33,12 @@ module _ (by : CloneSet) where
   abbrev cut : MarkedMessages → MarkedMessages
   cut xs = cut_by common by xs
 
-  -- the rest, with the message before it where marks are left to it
+  -- the rest, with the message before it if it has marks left
   abbrev pub cons_marked : Option CloneSet → Msg → MarkedMessages → MarkedMessages
   cons_marked o m rest = cons_option (option_map (λ k. (m, k)) o) rest
 
   module _ (ends : ℕ → ℕ) (c : ℕ) (in_by : has by c ≡ true) where
-    -- of a message and the rest a clone of the cut takes what it took
+    -- of a message and the rest a clone of the cut takes the same as before
     taken_cons_marked : (o : Option CloneSet) (x : Msg × CloneSet) (xs rest : MarkedMessages) → common x.1 by ≡ o
         → taken_at ends c rest ≡ taken_at ends c xs
         → taken_at ends c (cons_marked o x.0 rest) ≡ taken_at ends c (x ∷ xs)
@@ -57,19 +57,19 @@ module _ (by : CloneSet) where
     taken_cut [] = refl
     taken_cut (x ∷ xs) = taken_cons_marked (common x.1 by) x xs (cut xs) refl (taken_cut xs)
 
-  -- what holds of a message and of the rest holds of both
+  -- a property of a message and of the rest holds of both
   all_cons_marked : (P : Msg → Type 0) (o : Option CloneSet) (m : Msg) (rest : MarkedMessages) → P m
       → AllByRecursion (λ x. P x.0) rest → AllByRecursion (λ x. P x.0) (cons_marked o m rest)
   all_cons_marked P None m rest p f = f
   all_cons_marked P (Some k) m rest p f = (p, f)
 
-  -- what holds of all messages holds of those of the cut
+  -- a property of all messages holds of those of the cut
   all_cut : (P : Msg → Type 0) (xs : MarkedMessages) → AllByRecursion (λ x. P x.0) xs
       → AllByRecursion (λ x. P x.0) (cut xs)
   all_cut P [] f = tt
   all_cut P (x ∷ xs) f = all_cons_marked P (common x.1 by) x.0 (cut xs) f.0 (all_cut P xs f.1)
 
-  -- what marks share with the set are some clones of the set
+  -- the marks shared with the set are some clones of the set
   marks_cons_marked : (o : Option CloneSet) (x : Msg × CloneSet) (rest : MarkedMessages) → common x.1 by ≡ o
       → AllByRecursion (λ y. AreMarks by y.1) rest → AllByRecursion (λ y. AreMarks by y.1) (cons_marked o x.0 rest)
   marks_cons_marked None x rest e f = f
@@ -99,19 +99,19 @@ first_of : (q : MarkedMessages) (x : Msg × CloneSet) → Some x ≡ slice_get q
 first_of [] x e = absurd (cc)
 first_of (y ∷ ys) x e = let h : y ≡ x = cc in (ys, ap (λ z. z ∷ ys) h)
 
--- the messages behind the first
+-- the messages after the first
 abbrev pub tail_of : MarkedMessages → MarkedMessages
 tail_of [] = []
 tail_of (x ∷ xs) = xs
 
--- a list that has a first has as its first what is read at place 0
+-- the first element of a list is the one read at place 0
 pub first_is : (q : MarkedMessages) (x y : Msg × CloneSet) (rest : MarkedMessages) → Some x ≡ slice_get q 0
     → q ≡ y ∷ rest
     → q ≡ x ∷ rest
 first_is [] x y rest e f = absurd (cc)
 first_is (z ∷ zs) x y rest e f = let h : z ≡ x = cc in let t : zs ≡ rest = ap tail_of f in λ i. h i ∷ t i
 
--- where there is a first time, there is a first message of that time
+-- if there is a first time, there is a first message of that time
 pub first_timed : (q : MarkedMessages) (t : ℕ) → Some t ≡ first_time q
     → (x : Msg × CloneSet) × (Some x ≡ slice_get q 0) × (x.0.key.time ≡ t)
 first_timed [] t e = absurd (cc)
@@ -126,12 +126,12 @@ first_marked (x ∷ xs) t k e f =
     let g : k ≡ x.1 = cc in
     (x.0, ap (λ l. Some (x.0, l)) g, sym h)
 
--- where there is none, there is no message
+-- if there is none, there is no message
 pub none_timed : (q : MarkedMessages) → None ≡ first_time q → None ≡ slice_get q 0
 none_timed [] e = refl
 none_timed (x ∷ xs) e = absurd (cc)
 
--- where there is a first time, a message waits
+-- if there is a first time, a message is pending
 pub some_waits : (q : MarkedMessages) (t : ℕ) → Some t ≡ first_time q → 0 < length q
 some_waits [] t e = absurd (cc)
 some_waits (x ∷ xs) t e = omega arith
@@ -143,7 +143,7 @@ none_of (y ∷ ys) e = absurd (cc)
 
 -- ---- IsCopy
 
--- what has the state and the log of a copy of the station is a copy of it, where its clones and what is pending fit
+-- a copy with the state and the log of a copy of the station is one too, if its clones and pending messages fit
 pub IsCopy-like : (net : Net) (s : ℕ) (a b : StationCopy) → IsCopy net s a → b.state ≡ a.state → b.log ≡ a.log
     → ((c : ℕ) × Carries has b c) → SortedMarked msg_cmp b.pending → AllByRecursion (λ x. x.0.to ≡ s) b.pending
     → AllByRecursion (λ x. AreMarks b.set x.1) b.pending → IsCopy net s b
@@ -174,7 +174,7 @@ module _ (ends : ℕ → ℕ) where
         omega arith) f,
   )
 
-  -- where the first message that is left comes at the bound or later, nothing is due
+  -- if the first remaining message comes at the bound or later, nothing is due
   pub nothing_late : (bound : ℕ) (a b : StationCopy) (m : Msg) (k : CloneSet) → IsSameToClones ends a b
       → SortedMarked msg_cmp a.pending → Some (m, k) ≡ slice_get b.pending 0 → bound ≤ m.key.time
       → NothingDue ends bound a b
@@ -189,7 +189,7 @@ module _ (ends : ℕ → ℕ) where
             (sym f.1) (late_one c bound m k f.0 late sb.0);
       }
 
-  -- and nothing is due where no message is left
+  -- and nothing is due if no message is left
   pub nothing_left : (bound : ℕ) (a b : StationCopy) → IsSameToClones ends a b → None ≡ slice_get b.pending 0
       → NothingDue ends bound a b
   nothing_left bound a b h none =
@@ -230,7 +230,7 @@ module _ (ends : ℕ → ℕ) where
         (subst (AllByRecursion (λ x. AreMarks b.set x.1)) h.pending
         (subst (λ k. AllByRecursion (λ x. AreMarks k x.1) a.pending) (sym h.copy.set) f.marks)))
 
-    -- and its clones see what they saw
+    -- and its clones have the same view as before
     pub narrowed_same : (a b : StationCopy) → IsSameToClones ends a b → IsNarrowed (simulation net) has ends a b
     narrowed_same a b h = record {
       state = h.copy.state;
@@ -246,7 +246,7 @@ module _ (ends : ℕ → ℕ) where
         (SortedMarked-cut common some msg_cmp a.pending f.sorted) (all_cut some (λ m. m.to ≡ s) a.pending f.targets)
         (marks_cut some a.pending)
 
-    -- whose clones see what they saw
+    -- whose clones have the same view as before
     pub narrowed_half : (a : StationCopy) (some : CloneSet) → ((c : ℕ) → has some c ≡ true → has a.set c ≡ true)
         → IsNarrowed (simulation net) has ends a (half a some)
     narrowed_half a some within = record {
@@ -271,14 +271,14 @@ module _ (horizon : ℕ) (es : List (ℕ × ℕ)) (bound : ℕ) (early : bound �
       ∙ ap (λ x. has a.set c && x) (and_not (has k c) (has gone c) (nat_lt m.key.time (ends_in horizon es c))
       (went c ∙ has_ended-is horizon m.key.time es c (omega arith)))
 
-  -- where there are some, the message is due next
+  -- if there are some, the message is due next
   pub next_is_due : takers ≢ empty → Some (m, k) ≡ slice_get b.pending 0
       → NextDue (ends_in horizon es) bound a b m takers
   next_is_due some first =
       let f = first_of b.pending (m, k) first in
       record { same = same; marks = k; rest = f.0; pending = f.1; early = soon; take = takers_are; some = some }
 
-  -- where there are none, it is passed over
+  -- if there are none, it is skipped
   pub none_takes : ((c : ℕ) → has takers c ≡ false) → (c : ℕ) → has a.set c ≡ true
       → takes_at (ends_in horizon es) m k c ≡ false
   none_takes none c i = ap (λ x. x && takes_at (ends_in horizon es) m k c) (sym i) ∙ sym (takers_are c) ∙ none c

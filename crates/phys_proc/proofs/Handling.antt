@@ -29,7 +29,7 @@ use Rattle.phys_proc.proofs.Sends.{all_inserted_all, marks_inserted_all, marks_j
 
 -- ---- head_msg
 
--- the first of some messages, or the one that is given for it where there are none
+-- the first of some messages, or the default if there are none
 abbrev pub head_msg : MarkedMessages → Msg → Msg
 head_msg [] d = d
 head_msg (x ∷ xs) d = x.0
@@ -46,7 +46,7 @@ module _ (net : Net) (s : ℕ) (a : StationCopy) (m0 : Msg) (k0 : CloneSet) (q0 
     (log_is : log ≡ a.log ++ record { msg = m0; line = line } ∷ [])
     (pending_is : pending ≡ pending_after s a.set out q0)
     (aside : after ≡ sent_after s a.set out before) where
-  -- what the outcome of its first message makes of the copy
+  -- the copy after the outcome of its first message
   abbrev made : Outcome StateView Msg Line → Msg → MarkedMessages → StationCopy
   made h m q = record {
     set = a.set;
@@ -59,7 +59,7 @@ module _ (net : Net) (s : ℕ) (a : StationCopy) (m0 : Msg) (k0 : CloneSet) (q0 
   abbrev new : StationCopy
   new = record { set = a.set; state = st; log = log; pending = pending }
 
-  -- without the first, what is pending is in order,
+  -- without the first, the pending messages are in order,
   rest_sorted : SortedMarked msg_cmp q0
   rest_sorted = (subst (SortedMarked msg_cmp) there fits.sorted).1
 

@@ -1,4 +1,4 @@
--- Copies that are stepped in place, and the copies that those become which are taken out.
+-- Copies that are stepped in place, and those that replace copies that were taken out.
 use Rattle.std.proofs.Common.{◌≡◌, ℕ, zero, suc, ◌+◌, ◌<◌, ◌≤◌, List, [], ◌∷◌, ◌++◌, inl, inr, refl, sym, ap}
 use Rattle.std.proofs.Common.{ap₂, ◌∙◌, subst, arith, append_assoc, append-nil, take, drop, length, get_or, slice_set}
 use Rattle.std.specs.List.{AllByRecursion, remove}
@@ -28,16 +28,16 @@ use Rattle.phys_proc.proofs.ComesFrom.{comes_from-start, advance-done, advance-f
 
 -- ---- slice_set and remove
 
--- behind the place all is as it was
+-- after the place nothing changes
 behind_set : (cs : List StationCopy) (i : ℕ) (y : StationCopy) → drop (i + 1) (slice_set cs i y) ≡ drop (i + 1) cs
 behind_set cs i y = drop-set-lt (i + 1) cs i y (omega arith)
 
--- what is read at a place is what was set there
+-- the value read at a place is the one set there
 pub set_there : (cs : List StationCopy) (i : ℕ) (x y : StationCopy) → i < length cs → x ≡ get_or (slice_set cs i y) i x
     → x ≡ y
 set_there cs i x y l e = e ∙ get_or-set_same cs i y x l
 
--- the copy at a place begins what is left
+-- the copy at a place begins the rest
 at_place : (cs : List StationCopy) (i : ℕ) (x : StationCopy) → i < length cs → x ≡ get_or cs i x
     → drop i cs ≡ x ∷ drop (i + 1) cs
 at_place cs i x l e = drop_more cs i x l ∙ ap (λ y. y ∷ drop (i + 1) cs) (sym e)
@@ -48,7 +48,7 @@ copy_at [] i l = absurd (omega (arith, l))
 copy_at (x ∷ cs) zero l = (x, refl)
 copy_at (x ∷ cs) (suc i) l = copy_at cs i (omega (arith, l))
 
--- where the copy of that place is set, all is as it was
+-- if the copy of that place is set to itself, nothing changes
 set_same : (cs : List StationCopy) (i : ℕ) (x : StationCopy) → x ≡ get_or cs i x → cs ≡ slice_set cs i x
 set_same cs i x e = sym (ap (slice_set cs i) e ∙ set-get_or cs i x)
 
@@ -63,7 +63,7 @@ cut_drop cs zs i l = ap (λ n. drop n (take i cs ++ zs)) (sym (length-take-le i 
 -- the list without the copy at a place, which was set before
 module _ (cs after : List StationCopy) (i : ℕ) (y : StationCopy) (there : i < length cs)
     (is : after ≡ remove (slice_set cs i y) i) where
-  -- it is what was before the place, and what was behind it
+  -- it is the part before the place, and the part after it
   without : after ≡ take i cs ++ drop (i + 1) cs
   without = is ∙ (ap (λ n. take i (slice_set cs i y) ++ drop n (slice_set cs i y)) next
       ∙ ap₂ (λ a b. a ++ b) (take-set cs i y) (behind_set cs i y))
@@ -71,11 +71,11 @@ module _ (cs after : List StationCopy) (i : ℕ) (y : StationCopy) (there : i < 
       next : suc i ≡ i + 1
       next = omega arith
 
-  -- before the place it is as it was
+  -- before the place it is the same
   pub without_take : take i after ≡ take i cs
   without_take = ap (take i) without ∙ cut_take cs (drop (i + 1) cs) i (omega (arith, there))
 
-  -- from the place on it is what was behind it
+  -- from the place on it is the part after it
   without_drop : drop i after ≡ drop (i + 1) cs
   without_drop = ap (drop i) without ∙ cut_drop cs (drop (i + 1) cs) i (omega (arith, there))
 
@@ -127,7 +127,7 @@ disjoint_swapped a m b d =
     ])
 
 module _ (net : Net) (s : ℕ) (ends : ℕ → ℕ) (bound : ℕ) where
-  -- nothing that a step says depends on the order of what is done
+  -- a step does not depend on the order of the finished copies
   stepping_swapped : (old a m b : List StationCopy) (sent : MarkedMessages) (over : CloneSet) (steps0 steps : ℕ)
       → IsStepResult net s ends bound old ((a ++ m) ++ b) sent over steps0 steps
       → IsStepResult net s ends bound old ((a ++ b) ++ m) sent over steps0 steps
@@ -205,15 +205,15 @@ module _ (net : Net) (valid : IsNet net) (s : ℕ) (ends : ℕ → ℕ) (bound :
         (stepping_start net valid s ends bound steps)));
   }
 
-  -- a copy that the loop comes to
+  -- a copy that the loop reaches
   module _ {all cs more : List StationCopy} {i : ℕ} {sent : MarkedMessages} {over : CloneSet} {steps0 steps : ℕ}
       (h : IsSteppedTo net s ends bound all i cs more sent over steps0 steps) (there : i < length cs)
       (x : StationCopy) (is : x ≡ get_or cs i x) where
-    -- the copies behind it
+    -- the copies after it
     abbrev left : List StationCopy
     left = drop (i + 1) cs
 
-    -- all copies are those that are done, it, and those behind it
+    -- all copies are the finished ones, it, and those after it
     whole_is : all ≡ h.passed ++ x ∷ left
     whole_is = h.whole ∙ ap (λ k. h.passed ++ k) (at_place cs i x there is)
 
@@ -225,7 +225,7 @@ module _ (net : Net) (valid : IsNet net) (s : ℕ) (ends : ℕ → ℕ) (bound :
     pub stepped_to-fits : AllByRecursion (IsCopy net s) all → IsCopy net s x
     stepped_to-fits f = holds_at (IsCopy net s) h.passed left x (subst (AllByRecursion (IsCopy net s)) whole_is f)
 
-    -- with no more clones in all than there may be, what was handled and what it may handle can be counted
+    -- with a bounded number of clones in all, the number handled and the number that it may handle can be counted
     pub stepped_to-few : all_sizes all ≤ MOST_CLONES → (handled : ℕ) → handled + steps0 ≡ steps
         → handled + may_handle net.limit x ≤ ALL_COUNTS
     stepped_to-few few handled e =
@@ -257,7 +257,7 @@ module _ (net : Net) (valid : IsNet net) (s : ℕ) (ends : ℕ → ℕ) (bound :
               steps0 steps1) (sym g) st);
         }
 
-    -- nothing of it is pending before the bound, so it stays as it is
+    -- nothing of it is pending before the bound, so it does not change
     pub stepped_to-idle : Disjoint has all → IsCopy net s x → IsLowerBound bound x
         → IsSteppedTo net s ends bound all (i + 1) cs more sent over steps0 steps
     stepped_to-idle dis fits late = stepped_to-next dis x cs more sent over steps

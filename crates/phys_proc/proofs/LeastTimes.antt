@@ -1,4 +1,4 @@
--- The least time that clones take of what is pending.
+-- The least time of the pending messages that clones take.
 use Rattle.std.proofs.Common.{◌≡◌, ◌≢◌, ◌⊎◌, ℕ, ◌<◌, ◌≤◌, ◌&&◌, not, Bool}
 use Rattle.std.proofs.Common.{true, false, cond, List, [], ◌∷◌, ◌++◌, inl, inr, Option, Some, None, refl}
 use Rattle.std.proofs.Common.{sym, ap, ◌∙◌, subst, arith, nat_lt, eq-eqb, eqb-true, slice_get}
@@ -53,7 +53,7 @@ taken_has ends c (y ∷ ys) x (inr i) t = later (takes_at ends y.0 y.1 c) (taken
 
 -- ---- IsFirstWith and NoneWith
 
--- m is the first, and j is what its marks share with the set k
+-- m is the first, and j has the marks that it shares with the set k
 pub record IsFirstWith (k : CloneSet) (q : MarkedMessages) (m : Msg) (j : CloneSet) : Type 0 where
   pub marks : CloneSet
   pub there : In (m, marks) q
@@ -100,7 +100,7 @@ first_with k (x ∷ xs) p s e = by_met (common x.1 k) refl e (λ f. first_with k
           ];
         })
 
--- where the cut by a set is empty, no message has marks of the set
+-- if the cut by a set is empty, no message has marks of the set
 none_with : (k : CloneSet) (q : MarkedMessages) → None ≡ slice_get (cut_by common k q) 0 → NoneWith k q
 none_with k [] e = λ c i x m t. m
 none_with k (x ∷ xs) e = by_met (common x.1 k) refl e (λ f. none_with k xs f)
@@ -152,7 +152,7 @@ least_ended ends c end q p e s first late z i =
     let b = ltb-true z.key.time (ends c) t.1 in
     absurd (omega (arith, l, b, late, e))
 
--- nor does it where no message is marked with it
+-- nor does it if no message is marked with it
 pub least_unmarked : (ends : ℕ → ℕ) (c : ℕ) (q : MarkedMessages) → None ≡ slice_get (cut_by common (one c) q) 0
     → (z : Msg)
     → ¬ (In z (taken_at ends c q))
@@ -161,7 +161,7 @@ least_unmarked ends c q none z i =
     none_with (one c) q none c (has-one c c ∙ eq-eqb c c refl) (z, k.0) k.1
     (and_parts (has k.0 c) (nat_lt z.key.time (ends c)) k.2).0
 
--- a least time is one where something else holds besides
+-- a least time stays one under a further property that is true
 pub least_beside : (A : Type 0) (P : Msg → Type 0) (t : Option ℕ) → A → IsLeastTime P t → IsLeastTime (λ m. A × P m) t
 least_beside A P None h a = λ m p. a m p.1
 least_beside A P (Some t) h a = ((a.0.0, (h, a.0.1), a.0.2), λ m p. a.1 m p.1)
@@ -284,7 +284,7 @@ pub least_as : (P R : Msg → Type 0) (t : Option ℕ) → ((m : Msg) → P m �
 least_as P R None f e a = λ m r. a m (e m r)
 least_as P R (Some t) f e a = ((a.0.0, f a.0.0 a.0.1, a.0.2), λ m r. a.1 m (e m r))
 
--- where a message is of one class just if it is of one of two others, its least time is the earlier of theirs
+-- if a message is of one class exactly if it is of one of two others, its least time is the earlier of theirs
 least_both : (P Q R : Msg → Type 0) (t u : Option ℕ) → ((m : Msg) → P m → R m) → ((m : Msg) → Q m → R m)
     → ((m : Msg) → R m → P m ⊎ Q m) → IsLeastTime P t → IsLeastTime Q u → IsLeastTime R (earlier t u)
 least_both P Q R t u f g e a b = least_as (λ m. P m ⊎ Q m) R (earlier t u)
@@ -308,7 +308,7 @@ module _ (ends : ℕ → ℕ) (xs all : List StationCopy) (x : StationCopy) (who
     | inr j ↦ elim j [ inl e ↦ inr e | inr n ↦ absurd n ]
   ]
 
-  -- what a clone of the copies takes it takes still
+  -- a clone of the copies still takes what it took
   still_by : (c : ℕ) (m : Msg) → IsTakenBy ends xs c m → IsTakenBy ends all c m
   still_by c m h = record {
     copy = h.copy;
@@ -317,7 +317,7 @@ module _ (ends : ℕ → ℕ) (xs all : List StationCopy) (x : StationCopy) (who
     is_taken = h.is_taken;
   }
 
-  -- and what a clone of the new copy takes is taken
+  -- and a message that a clone of the new copy takes is taken
   by_last : (c : ℕ) (m : Msg) → has x.set c ≡ true → In m (taken_at ends c x.pending) → IsTakenBy ends all c m
   by_last c m i t = record { copy = x; is_copy = is_there; is_in = i; is_taken = t }
 
@@ -342,7 +342,7 @@ module _ (ends : ℕ → ℕ) (xs all : List StationCopy) (x : StationCopy) (who
       (λ m h. elim (by_one_of h.0 m h.1) [ inl p ↦ inl (h.0, p) | inr q ↦ inr (h.0, q.0, q.1) ])
       a b
 
-  -- the least so far stays where nothing of the copy is pending earlier
+  -- the least so far stays if nothing of the copy is pending earlier
   least_stays : (time : ℕ) → IsLeast ends xs (Some time) → IsLowerBound time x → IsLeast ends all (Some time)
   least_stays time h late = (
     (h.0.0, (h.0.1.0, still_by h.0.1.0 h.0.0 h.0.1.1), h.0.2),
@@ -353,7 +353,7 @@ module _ (ends : ℕ → ℕ) (xs all : List StationCopy) (x : StationCopy) (who
     ],
   )
 
-  -- the least time so far, with what the next copy makes of it, is the least with that copy
+  -- the lesser of the least so far and that of the next copy is the least with that copy
   pub least_with : (before t : Option ℕ) → IsWithCopy ends x before t → IsLeast ends xs before → IsLeast ends all t
   least_with before t (inl w) h = subst (IsLeast ends all) (sym (w.3 ∙ w.1))
       (least_stays w.0 (subst (IsLeast ends xs) w.1 h) w.2)

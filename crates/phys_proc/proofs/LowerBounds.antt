@@ -1,4 +1,4 @@
--- A time that nothing is pending before.
+-- Lower bounds of pending times.
 use Rattle.std.proofs.Common.{◌≡◌, ℕ, ◌≤◌, min, ◌==◌, Bool, true, false, cond}
 use Rattle.std.proofs.Common.{List, [], ◌∷◌, ◌++◌, Some, None, arith, map}
 use Rattle.std.specs.List.{AllByRecursion}
@@ -32,7 +32,7 @@ from_time a t e sorted = of_pending a.pending e sorted
           (λ y l. let m = msg-timed x.0 y.0 l in omega (arith, h, m)) s.0,
     )
 
--- where nothing is pending, nothing is pending before any time
+-- if nothing is pending, nothing is pending before any time
 pub from_none : (a : StationCopy) (t : ℕ) → None ≡ first_time a.pending → IsLowerBound t a
 from_none a t e = of_pending a.pending e
   where

@@ -1,4 +1,4 @@
--- What a station opens with.
+-- The opening of a station.
 use Rattle.std.proofs.Common.{◌≡◌, ℕ, [], Option, Some, None, refl, sym, ap, ◌∙◌, subst, arith}
 use Rattle.std.specs.List.{AllByRecursion}
 use Rattle.sim_base.specs.Order.{msg_cmp}
@@ -41,7 +41,7 @@ module _ (net : Net) (valid : IsNet net) (s : ℕ) (is_station : HasStation net 
   own_marks None = tt
   own_marks (Some m) = (whole_marks (one 0) 0 (has-one 0 0), tt)
 
-  -- what a station opens with is a copy of it
+  -- the opening of a station is a copy of it
   pub first_fits : (set : CloneSet) (pending : MarkedMessages) → set ≡ one 0 → pending ≡ first_pending set first
       → FitsState st
       → SuitsNet net st → st.sender.station ≡ s → st.handled ≡ 0

@@ -1,4 +1,4 @@
--- What a reader sees of the copies of a station.
+-- The views of a station's copies for readers.
 use Rattle.std.proofs.Common.{◌≡◌, ℕ, ◌<◌, ◌≤◌, true, false, List, [], ◌∷◌, sym, ap, ◌∙◌, subst, length, map}
 use Rattle.std.specs.List.{AllByRecursion}
 use Rattle.std.proofs.lemmas.Bool.{false≢true}
@@ -17,7 +17,7 @@ use Rattle.phys_proc.specs.Racks.{RackCopyView, view_of_copy, AreDisjoint, Shows
 
 -- ---- AreDisjoint
 
--- where no clone is in two copies, none is in two of what a reader sees of them
+-- if no clone is in two copies, none is in two of their views
 disjoint_views : (copies : List StationCopy) → Disjoint has copies → AreDisjoint (map view_of_copy copies)
 disjoint_views [] d = tt
 disjoint_views (a ∷ copies) d = (
@@ -28,7 +28,7 @@ disjoint_views (a ∷ copies) d = (
 -- ---- IsSeen and ShowsClones
 
 module _ (net : Net) (cs : List Clone) (s front : ℕ) where
-  -- the copy of a clone tells how many clones have its log
+  -- the copy of a clone has the number of clones with its log
   pub is_seen : (copies : List RackCopyView) (c handled shared : ℕ) (h : RackCopyView)
       → ShowsClones net cs s front copies
       → In h copies → has h.set c ≡ true → handled ≡ length h.log → shared ≡ size h.set
@@ -50,7 +50,7 @@ module _ (net : Net) (cs : List Clone) (s front : ℕ) where
   not_none copies c f l none = let k = f.carried c l in
       false≢true (sym (all_in (λ h. has h.set c ≡ false) copies k.0 none k.1) ∙ k.2)
 
-  -- copies that stand for the clones show them
+  -- copies that represent the clones show them
   pub shows_clones : (copies : List StationCopy) → length cs ≤ MOST_CLONES → front ≤ net.horizon
       → Stands (simulation net) has cs front s copies → ShowsClones net cs s front (map view_of_copy copies)
   shows_clones copies few early st = record {

@@ -17,7 +17,7 @@ use Rattle.phys_proc.proofs.Counting.{not_empty, empty_within}
 -- ---- insert_marked, of messages
 
 module _ (P : Msg → Type 0) (set : CloneSet) where
-  -- what holds of a message and of those that are there holds of all, wherever it is put
+  -- a property of a message and of the present ones holds of all, wherever it is put
   all_placed : (r : Ordering) (m : Msg) (y : Msg × CloneSet) (ys rest : MarkedMessages) → P m
       → AllByRecursion (λ x. P x.0) (y ∷ ys) → AllByRecursion (λ x. P x.0) rest
       → AllByRecursion (λ x. P x.0) (place_marked union r m set y ys rest)
@@ -25,14 +25,14 @@ module _ (P : Msg → Type 0) (set : CloneSet) where
   all_placed Equal m y ys rest p f g = f
   all_placed Greater m y ys rest p f g = (f.0, g)
 
-  -- what holds of the messages that are there and of a new one holds of all, once it is put in its place
+  -- a property of the present messages and of a new one holds of all, once it is put in its place
   pub all_inserted : (m : Msg) (q : MarkedMessages) → P m → AllByRecursion (λ x. P x.0) q
       → AllByRecursion (λ x. P x.0) (insert_marked union msg_cmp m set q)
   all_inserted m [] p f = (p, tt)
   all_inserted m (y ∷ ys) p f = all_placed (msg_cmp m y.0) m y ys (insert_marked union msg_cmp m set ys) p f
       (all_inserted m ys p f.1)
 
-  -- what holds of the messages that are there and of the new ones
+  -- a property of the present messages and of the new ones
   pub all_inserted_all : (ms : List Msg) (q : MarkedMessages) → AllByRecursion P ms → AllByRecursion (λ x. P x.0) q
       → AllByRecursion (λ x. P x.0) (insert_marked_all union msg_cmp ms set q)
   all_inserted_all [] q p f = f
@@ -41,7 +41,7 @@ module _ (P : Msg → Type 0) (set : CloneSet) where
 
 -- ---- insert_marked, of marks
 
--- what holds of the marks that are there and of the new ones, and of marks that are joined
+-- a property of the present marks and of the new ones, and of marks that are joined
 module _ (P : CloneSet → Type 0) (joined : (a b : CloneSet) → P a → P b → P (union a b)) (set : CloneSet)
     (new : P set) where
   -- it holds of all marks, wherever the new ones are put
@@ -78,7 +78,7 @@ marks_join set a b f g = record {
   ];
 }
 
--- all of its clones, where there are some
+-- all of its clones, if there are some
 pub whole_marks : (set : CloneSet) (c : ℕ) → has set c ≡ true → AreMarks set set
 whole_marks set c i = record {
   some = not_empty set c i;

@@ -1,4 +1,4 @@
--- Copies that share out the clones.
+-- Copies that partition the clones.
 use Rattle.std.proofs.Common.{◌≡◌, ◌≢◌, ℕ, ◌+◌, ◌*◌, ◌-◌, ◌≤◌, ◌||◌, not, List}
 use Rattle.std.proofs.Common.{[], ◌∷◌, ◌++◌, inl, inr, refl, sym, ap, ◌∙◌, subst, arith, length, map}
 use Rattle.std.specs.List.{AllByRecursion, range_with_len}
@@ -24,7 +24,7 @@ use Rattle.phys_proc.specs.Own.{all_sizes, handled_alone_by, may_handle, but_pen
 use Rattle.phys_proc.specs.Procs.{AreShared, KeepsShares}
 use Rattle.phys_proc.proofs.Counting.{not_empty, in_some, some_in, size_all, all_sizes-append, alone_short}
 
--- ---- but_pending: copies that differ in what is pending alone
+-- ---- but_pending: copies that differ only in their pending messages
 
 -- copies that share no clone share none without their pending messages
 disjoint_map : (xs : List StationCopy) → Disjoint has xs → Disjoint has (map but_pending xs)
@@ -47,17 +47,17 @@ clones_map : (xs : List StationCopy) → all_clones (map but_pending xs) ≡ all
 clones_map [] = refl
 clones_map (x ∷ xs) = ap (λ k. union x.set k) (clones_map xs)
 
--- and these have handled by themselves what they had
+-- and these have handled the same number alone
 alone_map : (xs : List StationCopy) → handled_alone_by (map but_pending xs) ≡ handled_alone_by xs
 alone_map [] = refl
 alone_map (x ∷ xs) = ap (λ n. size x.set * length x.log + n) (alone_map xs)
 
--- what is pending does not matter for which clones are where
+-- the pending messages do not affect which clones are in which copy
 pub disjoint_same : (xs ys : List StationCopy) → map but_pending ys ≡ map but_pending xs → Disjoint has xs
     → Disjoint has ys
 disjoint_same xs ys e d = disjoint_back ys (subst (Disjoint has) (sym e) (disjoint_map xs d))
 
--- nor does it matter for how they share out the living clones and what was handled
+-- nor do they affect the partition of the living clones and the count of handled messages
 pub shares_same : (s handled : ℕ) (living : CloneSet) (xs ys : List StationCopy)
     → map but_pending ys ≡ map but_pending xs
     → KeepsShares (record { station = s; living = living; handled = handled; copies = xs }) →
@@ -117,7 +117,7 @@ pub sizes_are : (living : CloneSet) (copies : List StationCopy) → AreShared li
     → all_sizes copies ≡ size living
 sizes_are living copies h = size_all copies h.disjoint ∙ ap size h.together
 
--- what was handled, and what the next copy may handle, do not overflow the counter
+-- the number handled, and the number that the next copy may handle, do not overflow the counter
 pub few_next : (limit h : ℕ) (ys zs : List StationCopy) (x : StationCopy) → all_sizes (ys ++ x ∷ zs) ≤ MOST_CLONES
     → limit ≤ MOST_LIMIT → h ≤ all_sizes ys * limit → h + may_handle limit x ≤ ALL_COUNTS
 few_next limit h ys zs x l k f =
@@ -129,7 +129,7 @@ few_next limit h ys zs x l k f =
     let c = mul-le (all_sizes ys + size x.set) limit MOST_CLONES MOST_LIMIT b k in
     omega (arith, d, m, c, f)
 
--- what was handled once does not overflow the counter
+-- the number handled once does not overflow the counter
 pub few_handled : (net : Net) (s handled : ℕ) (copies : List StationCopy) → AllByRecursion (IsCopy net s) copies
     → all_sizes copies ≤ MOST_CLONES → net.limit ≤ MOST_LIMIT → handled ≤ handled_alone_by copies
     → handled ≤ ALL_COUNTS

@@ -1,4 +1,4 @@
--- Copies at the types of the program.
+-- Copies, with the types of the program.
 use Rattle.std.specs.Prelude.{◌≡◌, ◌≢◌, ℕ, ◌+◌, ◌*◌, ◌-◌, ◌<◌, ◌≤◌, ◌==◌, if◌then◌else◌, ◌&&◌}
 use Rattle.std.specs.Prelude.{List, [], ◌∷◌, ◌++◌, true, length, map}
 use Rattle.std.specs.List.{AllByRecursion, AllZip}
@@ -30,7 +30,7 @@ StationCopy = Copy StateView Msg Line CloneSet
 abbrev pub MarkedMessages : Type 0
 MarkedMessages = List (Msg × CloneSet)
 
--- marks of a message in a copy: at least one clone, and only clones that the copy stands for
+-- marks of a message in a copy: at least one clone, and only clones that the copy represents
 pub record AreMarks (set k : CloneSet) : Type 0 where
   pub some : k ≢ empty
   pub within : (c : ℕ) → has k c ≡ true → has set c ≡ true
@@ -49,7 +49,7 @@ pub record IsCopy (net : Net) (s : ℕ) (a : StationCopy) : Type 0 where
   pub replays : a.state ≡ replay net s a.log
   pub marks : AllByRecursion (λ x. AreMarks a.set x.1) a.pending
 
--- the time is a lower bound of the pending messages' times: nothing of the copy is pending before it
+-- the time is a lower bound of the copy's pending times
 abbrev pub IsLowerBound : ℕ → StationCopy → Type 0
 IsLowerBound t a = AllByRecursion (λ x. t ≤ x.0.key.time) a.pending
 
@@ -57,31 +57,32 @@ IsLowerBound t a = AllByRecursion (λ x. t ≤ x.0.key.time) a.pending
 abbrev pub IsLowerBoundOfAll : ℕ → List StationCopy → Type 0
 IsLowerBoundOfAll t copies = AllByRecursion (IsLowerBound t) copies
 
--- a message may be given to these copies: no clone is in two of them, and nothing of each is pending before its time
+-- a message may be given to these copies: no clone is in two of them, and the times are lower bounds of their pending
+-- times
 pub record MayDeliver (bounds : List ℕ) (copies : List StationCopy) : Type 0 where
   pub disjoint : Disjoint has copies
   pub each : AllZip IsLowerBound bounds copies
 
--- the clones of all copies together
+-- the union of the clones of all copies
 abbrev pub all_clones : List StationCopy → CloneSet
 all_clones [] = empty
 all_clones (a ∷ rest) = union a.set (all_clones rest)
 
--- how many clones the copies have, one copy after the other
+-- the sum of the numbers of clones of the copies
 abbrev pub all_sizes : List StationCopy → ℕ
 all_sizes [] = 0
 all_sizes (a ∷ rest) = size a.set + all_sizes rest
 
--- how many messages their clones would have handled each by itself
+-- the number of messages that their clones would have handled alone
 abbrev pub handled_alone_by : List StationCopy → ℕ
 handled_alone_by [] = 0
 handled_alone_by (a ∷ rest) = size a.set * length a.log + handled_alone_by rest
 
--- how many messages the clones of a copy may handle before their logs meet the limit
+-- the number of messages that the clones of a copy may handle before their logs reach the limit
 abbrev pub may_handle : ℕ → StationCopy → ℕ
 may_handle limit a = size a.set * (limit - length a.log)
 
--- a copy of station s may be advanced to the bound, where so many messages were handled before
+-- a copy of station s may be advanced to the bound, after `handled` messages were handled
 pub record MayAdvance (net : Net) (s bound handled : ℕ) (a : StationCopy) : Type 0 where
   pub fits : IsCopy net s a
   pub early : bound ≤ net.horizon
@@ -98,7 +99,7 @@ pub record IsSameToClones (ends : ℕ → ℕ) (a b : StationCopy) : Type 0 wher
   pub passed : MarkedMessages
   pub pending : a.pending ≡ passed ++ b.pending
 
--- and its least message comes before the bound, and these take it
+-- and its least message comes before the bound, and these clones take it
 pub record NextDue (ends : ℕ → ℕ) (bound : ℕ) (a b : StationCopy) (m : Msg) (takers : CloneSet) : Type 0 where
   pub same : IsSameToClones ends a b
   pub marks : CloneSet
@@ -108,16 +109,16 @@ pub record NextDue (ends : ℕ → ℕ) (bound : ℕ) (a b : StationCopy) (m : M
   pub take : (c : ℕ) → has takers c ≡ (has a.set c && takes_at ends m marks c)
   pub some : takers ≢ empty
 
--- or nothing that its clones take comes before the bound
+-- or no message that its clones take comes before the bound
 pub record NothingDue (ends : ℕ → ℕ) (bound : ℕ) (a b : StationCopy) : Type 0 where
   pub same : IsSameToClones ends a b
   pub settled : (c : ℕ) → Carries has a c → AllByRecursion (λ m. bound ≤ m.key.time) (taken_at ends c b.pending)
 
--- what a station sends to itself becomes pending to these clones
+-- a station's sends to itself become pending for these clones
 abbrev pub pending_after : ℕ → CloneSet → List Msg → MarkedMessages → MarkedMessages
 pending_after s set sends q = insert_marked_all union msg_cmp (to_it (λ (m : Msg). m.to) s sends) set q
 
--- and the rest is laid aside, behind what was laid aside before
+-- and the others are laid aside, after those laid aside before
 abbrev pub sent_after : ℕ → CloneSet → List Msg → MarkedMessages → MarkedMessages
 sent_after s set sends sent = sent ++ map (λ x. (x, set)) (to_others (λ (m : Msg). m.to) s sends)
 
@@ -131,7 +132,7 @@ IsHandled net s old new before after = (m : Msg) (k : CloneSet) (q : MarkedMessa
     (new ≡ handled_by (simulation net) union s old m q) × (after ≡ before ++ sends_aside (simulation net) s old m) ×
     IsCopy net s new
 
--- the first copy has become this one in so many steps: each end that this one may have is one of the first
+-- the first copy has become this one in a number of steps; each end that this copy may reach is one of the first
 pub record ComesFrom (net : Net) (s : ℕ) (ends : ℕ → ℕ) (bound : ℕ) (first copy : StationCopy)
     (start sent : MarkedMessages)
     (steps0 steps : ℕ) : Type 0 where
@@ -144,7 +145,7 @@ pub record ComesFrom (net : Net) (s : ℕ) (ends : ℕ → ℕ) (bound : ℕ) (f
       ComesTo (simulation net) has ends s bound copy results sent after over over_after n →
       ComesTo (simulation net) has ends s bound first results start after over over_after (n + taken)
 
--- the copies at the bound that a copy became, and what it sent to others
+-- the resulting copies at the bound of one copy, and its sends to other stations
 pub record IsAdvance (net : Net) (s : ℕ) (ends : ℕ → ℕ) (bound : ℕ) (r : StationCopy) (done0 done1 : List StationCopy)
     (sent0 sent1 : MarkedMessages) (over0 over1 : CloneSet) (steps0 steps1 : ℕ) : Type 0 where
   pub results : List StationCopy
@@ -156,18 +157,18 @@ pub record IsAdvance (net : Net) (s : ℕ) (ends : ℕ → ℕ) (bound : ℕ) (r
   pub few : gained ≤ may_handle net.limit r
   pub shared : over1 ≡ empty → size r.set * length r.log + gained ≤ handled_alone_by results
 
--- the copy, where the message is pending to those of its clones that are in the set
+-- the copy with the message pending for its clones in the set
 abbrev pub with_message : Msg → CloneSet → StationCopy → StationCopy
 with_message m k a = record a {
   pending = if meet a.set k == empty then a.pending else insert_marked union msg_cmp m (meet a.set k) a.pending;
 }
 
--- the numbers that two clones may have, one that is there and one beside it
+-- two valid clone numbers, an existing one and a new one
 pub record AreCloneNumbers (old new : ℕ) : Type 0 where
   pub old_below : old < MOST_CLONES
   pub new_below : new < MOST_CLONES
 
--- the copy with the clone `new` beside the clone `old`, where it has that one
+-- the copy with the clone `new` next to the clone `old`, if it has that one
 abbrev pub copy_after_fork : ℕ → ℕ → StationCopy → StationCopy
 copy_after_fork old new a = if has a.set old then record {
   set = with a.set new;
@@ -176,7 +177,7 @@ copy_after_fork old new a = if has a.set old then record {
   pending = spread_marks union common (one old) (one new) a.pending;
 } else a
 
--- the copies at the bound that all copies became, and what they sent to others
+-- the resulting copies at the bound of all copies, and their sends to other stations
 pub record IsStepResult (net : Net) (s : ℕ) (ends : ℕ → ℕ) (bound : ℕ) (old done : List StationCopy)
     (sent : MarkedMessages)
     (over : CloneSet) (steps0 steps : ℕ) : Type 0 where

@@ -1,4 +1,4 @@
--- What a reader sees of a station.
+-- The view of a station for readers.
 use Rattle.std.specs.Prelude.{◌≡◌, ◌↔◌, ℕ, ◌<◌, ◌≤◌, List, [], ◌∷◌, true, length, Option, Some, None, IfSome, IfNone}
 use Rattle.std.specs.Prelude.{⊤}
 use Rattle.std.specs.List.{AllByRecursion}
@@ -15,12 +15,12 @@ use Rattle.run_laws.specs.Queue.{In}
 use Rattle.phys_proc.specs.Own.{StationCopy}
 use Rattle.phys_proc.specs.declared.rack.Found.{Found}
 
--- a copy as a reader sees it: its clones and its log
+-- the view of a copy for readers: its clones and its log
 pub record RackCopyView : Type 0 where
   pub set : CloneSet
   pub log : List (Entry Msg Line)
 
--- what a reader sees of a copy
+-- the view of this copy
 abbrev pub view_of_copy : StationCopy → RackCopyView
 view_of_copy a = record { set = a.set; log = a.log }
 
@@ -38,8 +38,8 @@ AreDisjoint [] = ⊤
 AreDisjoint (h ∷ copies) = AllByRecursion (λ k. (c : ℕ) → has h.set c ≡ true → ¬ (has k.set c ≡ true)) copies
     × AreDisjoint copies
 
--- each clone is in one copy, whose log is that of the clone by itself up to the front; clones with equal logs share
--- one, and each copy has a clone
+-- each clone is in one copy, whose log is that of the clone alone up to the front. Clones with equal logs share one,
+-- and each copy has a clone
 pub record ShowsClones (net : Net) (cs : List Clone) (s front : ℕ) (copies : List RackCopyView) : Type 0 where
   pub few : length cs ≤ MOST_CLONES
   pub early : front ≤ net.horizon
@@ -51,23 +51,23 @@ pub record ShowsClones (net : Net) (cs : List Clone) (s front : ℕ) (copies : L
   pub shared : (h k : RackCopyView) (c d : ℕ) → In h copies → In k copies → has h.set c ≡ true → has k.set d ≡ true →
       log_at net (clone_at cs c) s front ≡ log_at net (clone_at cs d) s front → h ≡ k
 
--- these are the clones whose logs are that of clone c
+-- the clones whose logs equal that of clone c
 abbrev pub IsClassOf : Net → List Clone → ℕ → ℕ → ℕ → CloneSet → Type 0
 IsClassOf net cs s front c k = (d : ℕ) →
     (has k d ≡ true) ↔ ((d < length cs) × (log_at net (clone_at cs d) s front ≡ log_at net (clone_at cs c) s front))
 
--- how many messages clone c has handled, and how many clones share its log
+-- the number of messages that clone c has handled, and the number of clones that share its log
 pub record IsSeen (net : Net) (cs : List Clone) (s front c handled shared : ℕ) : Type 0 where
   pub log : handled ≡ length (log_at net (clone_at cs c) s front)
   pub class : CloneSet
   pub is_class : IsClassOf net cs s front c class
   pub size : shared ≡ size class
 
--- what was found of the clone of this name
+-- the data that was found of the clone with this name
 abbrev pub IsFoundOf : Net → List Clone → ℕ → ℕ → List ℕ → Found → Type 0
 IsFoundOf net cs s front who f = (c : ℕ) × (place_of who cs ≡ Some c) × IsSeen net cs s front c f.handled f.shared
 
--- the clone of this name is found, unless there is none
+-- the clone with this name is found, unless there is none
 pub record FindsClone (net : Net) (cs : List Clone) (s front : ℕ) (who : List ℕ) (o : Option Found) : Type 0 where
   pub unknown : IfNone o (place_of who cs ≡ None)
   pub found : IfSome o (λ f. IsFoundOf net cs s front who f)

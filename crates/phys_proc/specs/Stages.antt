@@ -1,4 +1,4 @@
--- What a step of all copies of a station begins with.
+-- The start of a step of all copies of a station.
 use Rattle.std.specs.Prelude.{◌≡◌, ℕ, ◌≤◌, List, []}
 use Rattle.std.specs.List.{AllByRecursion}
 use Rattle.sim_base.specs.declared.lists.TheConstants.{MOST_CLONES}
@@ -17,7 +17,7 @@ pub record MayStepCopies (net : Net) (s bound : ℕ) (copies : List StationCopy)
   pub early : bound ≤ net.horizon
   pub few : all_sizes copies ≤ MOST_CLONES
 
--- no copy has come to the bound yet, nothing was sent or handled, and no clone is over the limit
+-- no copy has reached the bound yet, nothing was sent or handled, and no clone is over the limit
 pub record IsNewStage (stage : Stage) : Type 0 where
   pub none : stage.done ≡ []
   pub silent : stage.sent.items ≡ []

@@ -1,4 +1,4 @@
--- Why a copy goes no further as it is.
+-- Why a copy stops.
 use Rattle.std.specs.Prelude.{◌≡◌, ◌≢◌, ℕ, ◌≤◌, length}
 use Rattle.sim_base.specs.declared.message.Msg.{Msg}
 use Rattle.clone_sets.specs.declared.set.CloneSet.{CloneSet}
@@ -20,7 +20,7 @@ pub record IsParting (ends : ℕ → ℕ) (bound : ℕ) (a : StationCopy) (taker
   pub due : NextDue ends bound a a msg takers
   pub differ : takers ≢ a.set
 
--- where some take it, they are these
+-- and those that take it are these clones
 abbrev pub IsStop : ℕ → (ℕ → ℕ) → ℕ → StationCopy → CloneSet → Stop → Type 0
 IsStop limit ends bound a takers Settled = NothingDue ends bound a a
 IsStop limit ends bound a takers Full = IsFull limit ends bound a

@@ -1,4 +1,4 @@
-//! One physical process (copy) is advanced to a window boundary.
+//! Advances one physical process (copy) to a window boundary.
 ghost use Rattle.std.specs.Prelude.{◌≡◌, [], ◌+◌, OnOk, IfOk};
 ghost use Rattle.clone_sets.specs.Sets.{empty};
 ghost use Rattle.phys_proc.specs.Own.{MayAdvance, IsAdvance, ComesFrom};
@@ -16,24 +16,24 @@ use stations::MOST_SENDS;
 use std::alloc::Global;
 use std::sync::ledger::Ledger;
 
-/// How far a step has come: the copies at the bound, what they sent to others, and the clones whose logs
-/// would get too long.
+/// The progress of a step: the copies at the bound, their sends to other stations, and the clones whose logs would get
+/// too long.
 #[derive(Drop)]
 pub(crate) struct Stage {
-    /// The copies that have come to the bound.
+    /// The copies that have reached the bound.
     pub done: Copies,
     /// The messages to other stations so far, each with the clones that send it.
     pub sent: Vec<(Msg, CloneSet)>,
     /// The clones whose logs would get longer than the limit.
     pub over: CloneSet,
-    /// How many messages were handled.
+    /// The number of messages handled.
     pub handled: u64,
-    /// Where the clones of a copy part, those that take its next message.
+    /// If the clones of a copy part, those that take its next message.
     pub takers: CloneSet,
 }
 
 impl Stage {
-    /// Nothing was handled yet; what is sent is put behind these.
+    /// A stage with nothing handled yet; sends are appended to these.
     pub fn of(alloc: Global, sent: Vec<(Msg, CloneSet)>) -> Stage
         ensures done { result.done ≡ [] }
         ensures sent { result.sent.items ≡ sent.items }
@@ -50,20 +50,20 @@ impl Stage {
     }
 }
 
-/// Why a copy goes no further as it is.
+/// Why a copy stops.
 #[derive(Clone, Copy, Debug, PartialEq, Eq)]
 pub(crate) enum Stop {
     /// Nothing is due before the bound.
     Settled,
     /// The logs of its clones would get longer than the limit.
     Full,
-    /// Some of its clones take the next message, and the others do not. Who takes it is said in the stage, since a
-    /// large answer would be moved for each copy.
+    /// Only some of its clones take the next message. The stage has these clones, since a large result would be moved
+    /// for each copy.
     Parts,
 }
 
-/// Handles what all clones of a copy take before the bound, in place, and says why it goes no further.
-/// `out` is a buffer for what one message sends.
+/// Handles in place the messages that all clones of a copy take before the bound, and returns why it stops. `out` is a
+/// buffer for the sends of one message.
 pub(crate) fn handle_together<L: Ledger>(
     copy: &mut PhysCopy,
     model: &Model,
@@ -75,13 +75,13 @@ pub(crate) fn handle_together<L: Ledger>(
     steps: &mut Steps<L>,
 ) -> Result<Stop, NoMemory>
     requires may_advance { MayAdvance model.now station bound stage.old.handled copy.old }
-    // what it gives: the copy further on, what it sent, and a step for each message
+    // result: the advanced copy, its sends, and a step for each message
     ensures onward { OnOk result (ComesFrom model.now station (ends_in model.now.horizon ends.now) bound copy.old
         copy.new stage.old.sent.items stage.new.sent.items steps.old steps.new) }
-    // why it goes no further: nothing is due, the limit is met, or its clones part
+    // the reason to stop: nothing is due, the limit is reached, or its clones part
     ensures stop { IfOk result (λ stop. IsStop model.now.limit (ends_in model.now.horizon ends.now) bound copy.new
         stage.new.takers stop) }
-    // what is kept of the stage: the copies that are done, and the clones over the limit; messages are counted
+    // invariant of the stage: the finished copies, and the clones over the limit; messages are counted
     ensures done { OnOk result (stage.new.done ≡ stage.old.done) }
     ensures over { OnOk result (stage.new.over ≡ stage.old.over) }
     ensures handled { OnOk result (stage.new.handled + steps.old ≡ stage.old.handled + steps.new) }
@@ -103,8 +103,7 @@ pub(crate) fn handle_together<L: Ledger>(
     }
 }
 
-/// Brings a copy that goes no further as it is to the bound: where its clones part it becomes several, or they go over
-/// the limit.
+/// Brings a stopped copy to the bound: if its clones part it becomes several copies, or they go over the limit.
 pub(crate) fn bring_to_bound<L: Ledger>(
     alloc: Global,
     copy: PhysCopy,

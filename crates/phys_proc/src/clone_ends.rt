@@ -1,6 +1,6 @@
-//! When clones end: a list of clone numbers and times. From its end on a clone takes no message.
+//! Ends of clones: a list of clone numbers and times. From its end on a clone takes no message.
 //!
-//! Where a clone is listed more than once, the least time counts; one that is not listed ends at the horizon.
+//! If a clone is listed more than once, the least time counts; a clone that is not listed ends at the horizon.
 ghost use Rattle.std.specs.Prelude.{◌≡◌, ℕ, ◌<◌, ◌∷◌, ◌++◌, [], OnOk, OnErr};
 ghost use Rattle.sim_base.specs.declared.lists.TheConstants.{MOST_CLONES};
 ghost use Rattle.clone_sets.specs.Sets.{has};
@@ -11,7 +11,7 @@ use sim_base::NoMemory;
 use std::alloc::Global;
 use std::marker::Model;
 
-/// When clones end, of those that have an end.
+/// The ends of the clones that have one.
 #[derive(Drop)]
 pub struct CloneEnds {
     ended: Vec<(u32, u64)>,
@@ -38,9 +38,9 @@ impl CloneEnds {
         }
     }
 
-    /// The clone ends at that time, if it does not end before.
+    /// Ends the clone at that time, unless it ends earlier.
     ///
-    /// Out of memory leaves all unchanged.
+    /// If out of memory, changes nothing.
     pub fn end(&mut self, clone: u32, at: u64) -> Result<(), NoMemory>
         requires clone { clone < MOST_CLONES }
         ensures ended { OnOk result (self.new ≡ self.old ++ (clone, at) ∷ []) }
@@ -51,7 +51,7 @@ impl CloneEnds {
         Ok(())
     }
 
-    /// When the clone ends: at the horizon, if it has no end before.
+    /// The end of the clone, or the horizon if it has none before.
     pub fn end_of(&self, clone: u32, horizon: u64) -> u64
         ensures end { result ≡ ends_in horizon self.now clone }
     {

@@ -21,9 +21,9 @@ use std::mem;
 #[derive(Drop)]
 pub(crate) struct Copies {
     copies: Vec<PhysCopy>,
-    // for each copy, at the same place, a time that nothing of it is pending before: asking it reads no copy's memory
+    // for each copy, at the same index, a lower bound of its pending times: reading it does not touch the copy's memory
     bounds: Vec<u64>,
-    // nothing is pending before it
+    // lower bound of all pending times
     lower_bound: u64,
 }
 
@@ -40,7 +40,7 @@ impl Model for Copies {
         AllZip IsLowerBound p.bounds.items p.copies.items };
 }
 
-// A time that nothing of the copy is pending before.
+// A lower bound of the pending times of a copy.
 pub(crate) fn lower_bound_of(copy: &PhysCopy) -> u64
     requires sorted { SortedMarked msg_cmp copy.now.pending }
     ensures lower { IsLowerBound result copy.now }
@@ -51,7 +51,7 @@ pub(crate) fn lower_bound_of(copy: &PhysCopy) -> u64
     }
 }
 
-// Gives a message to those clones of the copy that are in the set. Nothing of it is pending before `lower_bound`.
+// Adds a message for the copy's clones in the set. `lower_bound` bounds the copy's pending times.
 fn give(copy: &mut PhysCopy, lower_bound: &mut u64, msg: Msg, set: CloneSet) -> Result<(), NoMemory>
     requires lower { IsLowerBound lower_bound.old copy.old }
     ensures given { OnOk result (copy.new ≡ with_message msg set copy.old) }
@@ -66,8 +66,8 @@ fn give(copy: &mut PhysCopy, lower_bound: &mut u64, msg: Msg, set: CloneSet) -> 
     Ok(())
 }
 
-// Gives a message to those clones of the copies that are in the set. No clone is in two copies, so none is looked at
-// behind the last that shares clones with the set. Returns its place.
+// Adds a message to the copies, for their clones in the set, and returns the index of the last copy that got it. No
+// clone is in two copies, so the search stops once all clones of the set are found.
 fn deliver(
     copies: &mut Vec<PhysCopy>,
     bounds: &mut Vec<u64>,
@@ -79,7 +79,7 @@ fn deliver(
     ensures same { map but_pending copies.new.items ≡ map but_pending copies.old.items }
     ensures each { AllZip IsLowerBound bounds.new.items copies.new.items }
 {
-    // those that no copy so far stands for
+    // the clones that no copy so far represents
     let mut rest = set;
     for i in 0..copies.len() {
         if rest.is_empty() {
@@ -91,7 +91,7 @@ fn deliver(
     Ok(copies.len().saturating_sub(1))
 }
 
-// The same, where the copy at `guess` gets it first.
+// The same, starting at the copy at `guess`.
 fn deliver_from(
     copies: &mut Vec<PhysCopy>,
     bounds: &mut Vec<u64>,
@@ -116,7 +116,7 @@ fn deliver_from(
     Ok(place)
 }
 
-// Puts the clone `new` beside the clone `old`, if the copy has that one.
+// Adds the clone `new` next to the clone `old`, if the copy has that one.
 fn fork_copy(copy: &mut PhysCopy, old: u32, new: u32)
     requires numbers { AreCloneNumbers old new }
     ensures forked { copy.new ≡ copy_after_fork old new copy.old }
@@ -127,7 +127,7 @@ fn fork_copy(copy: &mut PhysCopy, old: u32, new: u32)
     }
 }
 
-// Puts the clone `new` beside the clone `old`.
+// Adds the clone `new` next to the clone `old`.
 fn fork(copies: &mut Vec<PhysCopy>, old: u32, new: u32)
     requires numbers { AreCloneNumbers old new }
     ensures forked { copies.new.items ≡ map (copy_after_fork old new) copies.old.items }
@@ -137,7 +137,7 @@ fn fork(copies: &mut Vec<PhysCopy>, old: u32, new: u32)
     }
 }
 
-// A second list of the copies, as a reader sees them; the logs are shared.
+// The copies as a reader sees them; the logs are shared.
 fn see_all(alloc: Global, copies: &mut Vec<PhysCopy>) -> Result<Vec<RackCopy>, NoMemory>
     ensures seen { IfOk result (λ v. v.items ≡ map view_of_copy copies.old.items) }
     ensures same { copies.new.items ≡ copies.old.items }
@@ -162,7 +162,7 @@ impl Copies {
         }
     }
 
-    /// One copy more, of which nothing is pending before `lower_bound`.
+    /// Appends a copy whose pending times are at least `lower_bound`.
     pub fn put(&mut self, copy: PhysCopy, lower_bound: u64) -> Result<(), NoMemory>
         requires lower { IsLowerBound lower_bound copy }
         ensures more { OnOk result (self.new ≡ self.old ++ copy ∷ []) }
@@ -175,8 +175,8 @@ impl Copies {
         Ok(())
     }
 
-    /// Puts copies before these, of which nothing is pending before `lower_bound`, and of each nothing before its time
-    /// in `bounds`. Out of memory, all are gone.
+    /// Puts copies before these. `lower_bound` bounds all their pending times, and `bounds` those of each. If out of
+    /// memory, all copies are lost.
     pub fn put_before(
         &mut self,
         alloc: Global,
@@ -200,22 +200,22 @@ impl Copies {
         Ok(())
     }
 
-    /// Gives a message to those clones of the copies that are in the set. The search for them begins at a place, and
-    /// gives the place where it ended.
+    /// Adds a message to the copies, for their clones in the set. The search begins at the index `guess`, and the index
+    /// where it ends is returned.
     pub fn deliver(&mut self, msg: Msg, set: CloneSet, guess: usize) -> Result<usize, NoMemory>
         requires disjoint { Disjoint has self.old }
         ensures given { OnOk result (self.new ≡ map (with_message msg set) self.old) }
         ensures same { map but_pending self.new ≡ map but_pending self.old }
     {
         let lower_bound = self.lower_bound.min(msg.key.time);
-        // also where memory is refused
+        // also if out of memory
         self.lower_bound = 0;
         let place = deliver_from(&mut self.copies, &mut self.bounds, msg, set, guess)?;
         self.lower_bound = lower_bound;
         Ok(place)
     }
 
-    /// Puts the clone `new` beside the clone `old`.
+    /// Adds the clone `new` next to the clone `old`.
     pub fn fork(&mut self, old: u32, new: u32)
         requires numbers { AreCloneNumbers old new }
         ensures forked { self.new ≡ map (copy_after_fork old new) self.old }
@@ -232,7 +232,7 @@ impl Copies {
         Ok(all)
     }
 
-    /// A time that nothing of the copies is pending before.
+    /// A lower bound of all pending times.
     pub fn lower_bound(&self) -> u64
         ensures lower { IsLowerBoundOfAll result self.now }
     {
@@ -246,7 +246,7 @@ impl Copies {
         bound <= self.lower_bound
     }
 
-    /// The copies, one by one, and for each a time that nothing of it is pending before.
+    /// The copies, and for each a lower bound of its pending times.
     pub fn into_parts(self) -> (Vec<PhysCopy>, Vec<u64>)
         ensures same { result.0.items ≡ self }
         ensures each { AllZip IsLowerBound result.1.items self }
@@ -259,7 +259,7 @@ impl Copies {
         (copies, bounds)
     }
 
-    /// For each copy, at the same place, a time that nothing of it is pending before.
+    /// For each copy, at the same index, a lower bound of its pending times.
     pub fn bounds(&self) -> &[u64]
         ensures each { AllZip IsLowerBound result.now self.now }
     {

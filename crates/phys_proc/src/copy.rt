@@ -1,4 +1,4 @@
-//! A physical process: one copy of a station, which stands for the virtual processes of several clones.
+//! A physical process: one copy of a station, which represents the virtual processes of several clones.
 ghost use Rattle.std.specs.Prelude.{◌≡◌, ◌<◌, ◌≤◌, List, ◌∷◌, length};
 ghost use Rattle.std.specs.Prelude.{IfOk, IfSome, IfNone, OnOk, ◌+◌};
 ghost use Rattle.clone_sets.specs.Sets.{minus};
@@ -20,7 +20,7 @@ use stations::{MOST_SENDS, State};
 use std::alloc::Global;
 use std::sync::ledger::Ledger;
 
-/// The clones that it stands for, their state and log, and what is pending to them.
+/// Physical process: a set of clones, their common state and log, and their pending messages.
 #[derive(Drop)]
 pub struct PhysCopy {
     pub(crate) set: CloneSet,
@@ -37,8 +37,8 @@ impl std::marker::Model for PhysCopy {
     ghost view = { λ p. record { set = p.set; state = p.state; log = p.log; pending = p.pending } };
 }
 
-// The clones that take the least message before the bound that some clone of the copy takes. What none takes is passed
-// over. The message stays where it is: only its time and its marks are looked at.
+// The clones that take the next message: the least one before the bound that some clone of the copy takes. Messages
+// that none takes are skipped. The message is not removed: only its time and its marks are read.
 pub(crate) fn next_due(
     copy: &mut PhysCopy,
     ends: &CloneEnds,
@@ -66,7 +66,7 @@ pub(crate) fn next_due(
     None
 }
 
-// What a station sends to itself becomes pending to these clones, the rest is laid aside for them.
+// A station's sends to itself become pending for these clones, and the others are laid aside for them.
 fn send_all(
     station: u32,
     set: CloneSet,
@@ -87,7 +87,7 @@ fn send_all(
     Ok(())
 }
 
-// All clones of the copy take the least message. What it sends is put into `out` first.
+// All clones of the copy take the least message. Its sends are put into `out` first.
 pub(crate) fn handle_least<L: Ledger>(
     copy: &mut PhysCopy,
     model: &Model,
@@ -112,21 +112,21 @@ pub(crate) fn handle_least<L: Ledger>(
 }
 
 impl PhysCopy {
-    /// The clones that it stands for.
+    /// The clones that it represents.
     pub fn set(&self) -> CloneSet
         ensures value { result ≡ self.now.set }
     {
         self.set
     }
 
-    /// What its station has handled.
+    /// The log of its station.
     pub fn log(&self) -> &Log
         ensures value { result.now ≡ self.now.log }
     {
         &self.log
     }
 
-    /// The copy for some of its clones, and for the others, which keep the list of what is pending.
+    /// The copy for some of its clones, and the copy for the others, which keeps the list of pending messages.
     pub(crate) fn halves(
         self,
         alloc: Global,

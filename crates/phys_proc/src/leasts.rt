@@ -17,7 +17,7 @@ use clone_sets::CloneSet;
 use net_model::Model;
 use stations::due::earlier;
 
-/// The least time that clone `c` takes of the copy, if it is in it, where it ends at `end`.
+/// The least time of a message that clone `c`, which ends at `end`, takes of the copy; None if it is not in it.
 pub(crate) fn least_of_clone(copy: &PhysCopy, c: u32, end: u64) -> Option<u64>
     requires sorted { SortedMarked msg_cmp copy.now.pending }
     requires clone { c < MOST_CLONES }
@@ -34,7 +34,7 @@ pub(crate) fn least_of_clone(copy: &PhysCopy, c: u32, end: u64) -> Option<u64>
     if time < end { Some(time) } else { None }
 }
 
-/// The least time that any of its clones takes of the copy.
+/// The least time of a message that any of its clones takes of the copy.
 pub(crate) fn least_of_copy(copy: &PhysCopy, ends: &CloneEnds, horizon: u64) -> Option<u64>
     requires sorted { SortedMarked msg_cmp copy.now.pending }
     ensures least { IsLeastOfCopy (ends_in horizon ends.now) copy.now result }
@@ -54,8 +54,8 @@ pub(crate) fn least_of_copy(copy: &PhysCopy, ends: &CloneEnds, horizon: u64) -> 
     None
 }
 
-// The lesser of a time that was found before, and the least time that any of its clones takes of the copy. Nothing of
-// it is pending before `lower_bound`: it is looked at only if that is before the other time.
+// The lesser of a time found before and the least time of the copy. The copy is only read if its `lower_bound` is
+// before the other time.
 fn with_copy(
     copy: &PhysCopy,
     lower_bound: u64,
@@ -76,7 +76,7 @@ fn with_copy(
 }
 
 impl Proc {
-    /// The least time at which something is due to the clone, below its end; None exactly where nothing is.
+    /// The least due time of the clone, below its end, or None if nothing is due.
     pub fn least_of(&self, model: &Model, ends: &CloneEnds, c: u32) -> Option<u64>
         requires proc { IsProc model.now self.now }
         requires clone { c < MOST_CLONES }
@@ -90,7 +90,7 @@ impl Proc {
         least
     }
 
-    /// The least time at which something is due to any clone, below its end; None exactly where nothing is.
+    /// The least due time of any clone, below its end, or None if nothing is due.
     pub fn least(&self, model: &Model, ends: &CloneEnds) -> Option<u64>
         requires proc { IsProc model.now self.now }
         ensures least { IsLeast (ends_in model.now.horizon ends.now) self.now.copies result }

@@ -1,4 +1,4 @@
-//! A station as a logical process: the physical copies that stand for its virtual processes, one a clone.
+//! A station as a logical process: the physical copies that represent its virtual processes, one for each clone.
 ghost use Rattle.std.specs.Prelude.{◌≡◌, ℕ, ◌<◌, ◌≤◌, ◌+◌, ◌*◌, ◌∷◌, [], true, false, OnOk, IfOk, map};
 ghost use Rattle.std.specs.List.{AllByRecursion, AllZip};
 ghost use Rattle.clone_sets.specs.Sets.{has, one, with, empty, size};
@@ -31,19 +31,20 @@ use std::mem;
 use std::sync::Arc;
 use std::sync::ledger::Ledger;
 
-// How many guesses of places a station keeps: one for each clone that there may be.
+// The number of hints of a station: one for each possible clone.
 const GUESSES: usize = MOST_CLONES as usize;
 
-/// The copies of one station. Each clone that lives is in one of them.
+/// The physical processes of one station: a list of copies. Each living clone is in one of them.
 #[derive(Drop)]
 pub struct Proc {
     station: u32,
     living: CloneSet,
     handled: u64,
     copies: Copies,
-    // for each clone a guess of the place of its copy, at which a search begins
+    // for each clone a hint for the index of its copy, where a search begins
     places: Vec<u8>,
-    // for what one message sends, from the first step on: an empty one is more than a kilobyte that has to be written
+    // buffer for the sends of one message, allocated by the first step and then reused: an empty one is over a kilobyte
+    // to write
     out: Option<Box<ArrayVec<Msg, MOST_SENDS>>>,
 }
 
@@ -62,16 +63,16 @@ impl std::marker::Model for Proc {
     }) };
 }
 
-/// What a step in place gives beside the messages that were sent.
+/// The result of a step in place, except the sends.
 #[derive(Clone, Copy, Debug, PartialEq, Eq)]
 pub struct Gain {
     /// The clones whose logs would get longer than the limit.
     pub over: CloneSet,
-    /// How many messages were handled, each once for all clones of a copy.
+    /// The number of messages handled, each counted once for all clones of a copy.
     pub handled: u64,
 }
 
-// A first message, if there is one, pending to these clones.
+// A first message, if there is one, pending for these clones.
 fn first_pending(
     alloc: Global,
     first: Option<Msg>,
@@ -86,7 +87,7 @@ fn first_pending(
     Ok(pending)
 }
 
-// What a station opens with, for the first clone.
+// The opening of a station, for the first clone.
 fn opening(alloc: Global, model: &Model, station: u32) -> Result<Copies, NoMemory>
     requires is_station { HasStation model.now station }
     ensures first { IfOk result (λ p. p ≡ first_copy (simulation model.now) (one 0) station ∷ []) }
@@ -110,7 +111,7 @@ fn opening(alloc: Global, model: &Model, station: u32) -> Result<Copies, NoMemor
     Ok(copies)
 }
 
-// A guess of the place of the copy of the first of these clones.
+// The hint for the copy of the first of these clones.
 fn guess_of(places: &[u8], set: CloneSet) -> usize {
     let Some(who) = set.first() else {
         return 0;
@@ -121,7 +122,7 @@ fn guess_of(places: &[u8], set: CloneSet) -> usize {
     }
 }
 
-// Notes the place of the copy of the first of these clones.
+// Stores the hint for the copy of the first of these clones.
 fn note_place(places: &mut Vec<u8>, set: CloneSet, place: usize) {
     if let Some(who) = set.first() {
         if let Some(guess) = places.get_mut(who as usize) {
@@ -130,7 +131,7 @@ fn note_place(places: &mut Vec<u8>, set: CloneSet, place: usize) {
     }
 }
 
-// The buffer that was used before, or a new one.
+// The buffer used before, or a new one.
 fn buffer(
     alloc: Global,
     used: Option<Box<ArrayVec<Msg, MOST_SENDS>>>,
@@ -142,10 +143,10 @@ fn buffer(
 }
 
 impl Proc {
-    /// What a station opens with: one copy, for the first clone.
+    /// Opens a station: one copy, for the first clone.
     pub fn new(alloc: Global, model: &Model, station: u32) -> Result<Proc, NoMemory>
         requires is_station { HasStation model.now station }
-        // what it gives: the one copy that the station opens with; the first clone alone lives, and nothing is handled
+        // result: the one copy of the opening; only the first clone lives, and nothing is handled
         ensures value { IfOk result (λ p. p ≡ record {
           station = station;
           living = one 0;
@@ -169,8 +170,8 @@ impl Proc {
         })
     }
 
-    /// Steps the copies to the bound, in place; what they send to other stations is put into `sent`, which
-    /// is empty before. Out of memory, or where some clone is over the limit, they mean nothing.
+    /// Steps the copies to the bound, in place; their sends to other stations are put into `sent`, which must be empty.
+    /// If out of memory, or if some clone is over the limit, the copies and `sent` are meaningless.
     pub fn advance<L: Ledger>(
         &mut self,
         alloc: Global,
@@ -183,19 +184,19 @@ impl Proc {
         requires proc { IsProc model.now self.old }
         requires early { bound ≤ model.now.horizon }
         requires silent { sent.old.items ≡ [] }
-        // what it gives: the copies at the bound and what they sent, where no log is over the limit
+        // result: the copies at the bound and their sends, if no log is over the limit
         ensures windows { IfOk result (λ g. g.over ≡ empty →
             IsStepped (simulation model.now) has (ends_in model.now.horizon ends.now) self.old.station bound
             self.old.copies self.new.copies sent.new.items) }
         // or the clones whose logs would get longer than the limit
         ensures over { IfOk result (λ g. AreOver (simulation model.now) has (ends_in model.now.horizon ends.now)
             self.old.station bound self.old.copies g.over) }
-        // what is counted: the messages handled, each once for all clones of a copy
+        // counts: the messages handled, each once for all clones of a copy
         ensures gained { IfOk result (λ g. GainTogether (simulation model.now) has
             (ends_in model.now.horizon ends.now) self.old.station bound self.old.copies g.handled) }
         ensures counted { IfOk result (λ g. steps.new ≡ steps.old + g.handled) }
         ensures few { IfOk result (λ g. g.handled ≤ size self.old.living * model.now.limit) }
-        // what is kept: a station of the network, its number, and its clones where no log is over the limit
+        // invariant: a station of the network, its number, and its clones if no log is over the limit
         ensures proc { OnOk result (IsProc model.now self.new) }
         ensures station { self.new.station ≡ self.old.station }
         ensures living { IfOk result (λ g. g.over ≡ empty → self.new.living ≡ self.old.living) }
@@ -205,7 +206,7 @@ impl Proc {
         let _horizon = model.horizon();
         let living = self.living;
         let before = self.handled;
-        // for its clauses: no more clones live than there may be
+        // for its clauses: the number of living clones is within the limit
         let _clones = living.len();
         let mut out = buffer(alloc, self.out.take())?;
         let mut stage = Stage::of(alloc, mem::replace(sent, Vec::new(alloc)));
@@ -253,15 +254,15 @@ impl Proc {
         mem::replace(&mut self.copies, Copies::none(alloc))
     }
 
-    /// Gives a message to those of its clones that are in the set.
+    /// Adds a message for its clones in the set.
     ///
-    /// Out of memory, some of the copies may have it; nothing else of them has changed.
+    /// If out of memory, some of the copies may have it; nothing else of them has changed.
     pub fn deliver(&mut self, msg: Msg, set: CloneSet) -> Result<(), NoMemory>
         requires target { msg.to ≡ self.old.station }
-        // what it gives: the message is pending to those of the clones that the station has
+        // result: the message is pending for the station's clones in the set
         ensures given { OnOk result (self.new.copies ≡ map (with_message msg set) self.old.copies) }
         ensures proc { OnOk result ((net : Net) → IsProc net self.old → IsProc net self.new) }
-        // what is kept, also out of memory: all but what is pending
+        // invariant, also if out of memory: everything except the pending messages
         ensures same { map but_pending self.new.copies ≡ map but_pending self.old.copies }
         ensures station { self.new.station ≡ self.old.station }
         ensures living { self.new.living ≡ self.old.living }
@@ -273,12 +274,13 @@ impl Proc {
         Ok(())
     }
 
-    /// Puts the clone `new`, which has no end, beside the clone `old`: in its copy, and in what is pending to it.
+    /// Adds the clone `new`, which has no end, next to the clone `old`: to its copy, and to the marks of its pending
+    /// messages.
     pub fn fork(&mut self, old: u32, new: u32)
         requires old { has self.old.living old ≡ true }
         requires new { has self.old.living new ≡ false }
         requires below { new < MOST_CLONES }
-        // what it gives: the new clone lives too, beside the old one, in its copy and in what is pending
+        // result: the new clone lives too, next to the old one, in its copy and in the marks
         ensures forked { self.new ≡ record {
           station = self.old.station;
           living = with self.old.living new;
@@ -287,18 +289,18 @@ impl Proc {
         } }
         ensures each_forked { (net : Net) (ends : ℕ → ℕ) → IsProc net self.old →
             AllZip (IsForked (simulation net) has ends old new) self.old.copies self.new.copies }
-        // what is kept: it is a station of the network
+        // invariant: it is a station of the network
         ensures proc { (net : Net) → IsProc net self.old → IsProc net self.new }
     {
-        // for its clause: the number of each living clone is one that there may be
+        // for its clause: each living clone's number is within the limit
         let _clones = self.living.len();
         self.copies.fork(old, new);
         self.living = self.living.with(new);
     }
 
-    /// What a reader sees of the station: the copies at the front, and the lists of the clones that they stand for.
+    /// The view of the station for a reader: the copies at the front, and the lists of the clones that they represent.
     ///
-    /// The station is unchanged, also out of memory.
+    /// The station does not change, even if out of memory.
     pub fn rack(
         &mut self,
         alloc: Global,
@@ -342,21 +344,21 @@ impl Proc {
         self.living
     }
 
-    /// A time that nothing of the copies is pending before.
+    /// A lower bound of the pending times of all copies.
     pub fn lower_bound(&self) -> u64
         ensures lower { IsLowerBoundOfAll result self.now.copies }
     {
         self.copies.lower_bound()
     }
 
-    /// How many messages were handled, each once for all clones of a copy.
+    /// The number of messages handled, each counted once for all clones of a copy.
     pub fn handled(&self) -> u64
         ensures value { result ≡ self.now.handled }
     {
         self.handled
     }
 
-    /// For each copy, at the same place, a time that nothing of it is pending before.
+    /// For each copy, at the same index, a lower bound of its pending times.
     pub(crate) fn bounds(&self) -> &[u64]
         ensures each { AllZip IsLowerBound result.now self.now.copies }
     {

@@ -1,4 +1,4 @@
-//! Racks: what a reader sees of a station at a window boundary (front).
+//! Racks: the view of a station for readers, at a window boundary (front).
 ghost use Rattle.std.specs.Prelude.{◌≡◌, ◌<◌, IfOk, IfSome, IfNone, length, true, false};
 ghost use Rattle.std.specs.List.{AllByRecursion};
 ghost use Rattle.sim_base.specs.declared.lists.TheConstants.{MOST_CLONES};
@@ -29,7 +29,7 @@ impl std::marker::Model for RackCopy {
     ghost view = { λ s. record { set = s.set; log = s.log } };
 }
 
-/// What a reader sees of a station at a front: the copies, and the lists of the clones that they stand for.
+/// Snapshot of a station at a front for readers: the copies, and the lists of the clones that they represent.
 #[derive(Drop)]
 pub struct Rack {
     pub(crate) model: Arc<Model>,
@@ -55,23 +55,23 @@ impl std::marker::Model for Rack {
     ghost invariant = { λ r. ShowsClones r.model.value r.lists.value.clones r.station r.front r.copies.items };
 }
 
-/// A look at a clone of a rack.
+/// The view of one clone in a rack.
 #[derive(Clone, Copy, Debug, PartialEq, Eq)]
 pub struct Glance {
-    /// Up to when the rack shows the station.
+    /// The time up to which the rack shows the station.
     pub front: u64,
-    /// How many clones there are.
+    /// The number of clones.
     pub clones: u32,
-    /// What the rack has of the clone, if there is one of this name.
+    /// The clone's data in the rack, if there is a clone with this name.
     pub found: Option<Found>,
 }
 
-/// How many messages a clone's station has handled, and how many clones have this log.
+/// Progress of a clone at a station: its number of handled messages, and the number of clones with the same log.
 #[derive(Clone, Copy, Debug, PartialEq, Eq)]
 pub struct Found {
-    /// How many messages the clone has handled at the station.
+    /// The number of messages that the clone has handled at the station.
     pub handled: u64,
-    /// How many clones have its log there, the clone itself among them.
+    /// The number of clones with its log there, including the clone itself.
     pub shared: u32,
 }
 
@@ -101,21 +101,21 @@ impl Rack {
         self.station
     }
 
-    /// Up to when it shows the station.
+    /// The time up to which it shows the station.
     pub fn front(&self) -> u64
         ensures value { result ≡ self.now.front }
     {
         self.front
     }
 
-    /// The lists of the clones that it shows.
+    /// The lists of the clones in the rack.
     pub fn lists(&self) -> &Lists
         ensures value { result.now.clones ≡ self.now.clones }
     {
         &self.lists
     }
 
-    // What it shows of the clone of this name.
+    // The data of the clone with this name.
     fn find(&self, who: &Name) -> Option<Found>
         ensures found { FindsClone self.now.net self.now.clones self.now.station self.now.front who.now result }
     {
@@ -128,7 +128,7 @@ impl Rack {
         Some(found)
     }
 
-    /// What it shows of the clone of this name. It takes no memory.
+    /// The view of the clone with this name. Allocates nothing.
     pub fn glance(&self, who: &Name) -> Glance
         ensures front { result.front ≡ self.now.front }
         ensures clones { result.clones ≡ length self.now.clones }

@@ -1,4 +1,4 @@
-//! All physical processes of a station are advanced to a window boundary.
+//! Advances all physical processes of a station to a window boundary.
 ghost use Rattle.std.specs.Prelude.{◌≡◌, ◌+◌, ◌++◌, IfOk, OnOk};
 ghost use Rattle.std.specs.List.{AllZip};
 ghost use Rattle.phys_proc.specs.Own.{IsStepResult, IsLowerBound, IsLowerBoundOfAll};
@@ -16,9 +16,9 @@ use stations::MOST_SENDS;
 use std::alloc::Global;
 use std::sync::ledger::Ledger;
 
-// Steps the copies in place, and returns a time that nothing is pending before. Those whose clones part are
-// taken out, and the copies that they become are put with the others that are done. A copy is looked at only if its
-// time in `bounds` is before the bound.
+// Steps the copies in place, and returns a lower bound of their pending times. Copies whose clones part are taken out,
+// and the resulting copies are put with the finished ones. A copy is only read if its time in `bounds` is before the
+// bound.
 fn step_in_place<L: Ledger>(
     alloc: Global,
     copies: &mut Vec<PhysCopy>,
@@ -34,13 +34,13 @@ fn step_in_place<L: Ledger>(
     requires may_step { MayStepCopies model.now station bound copies.old.items }
     requires each { AllZip IsLowerBound bounds.old.items copies.old.items }
     requires new { IsNewStage stage.old }
-    // what it gives: the copies at the bound, in place or done, what they sent, and the clones over the limit
+    // result: the copies at the bound, in place or finished, their sends, and the clones over the limit
     ensures stepped { OnOk result (IsStepResult model.now station (ends_in model.now.horizon ends.now) bound
         copies.old.items (copies.new.items ++ stage.new.done) stage.new.sent.items stage.new.over steps.old steps.new) }
-    // times that nothing is pending before: of all copies in place, and of each
+    // lower bounds of the pending times: of all copies in place, and of each
     ensures lower { IfOk result (λ t. IsLowerBoundOfAll t copies.new.items) }
     ensures each { OnOk result (AllZip IsLowerBound bounds.new.items copies.new.items) }
-    // what is counted: the messages handled
+    // counts: the messages handled
     ensures handled { OnOk result (stage.new.handled + steps.old ≡ steps.new) }
 {
     let mut lower_bound = u64::MAX;
@@ -81,8 +81,8 @@ fn step_in_place<L: Ledger>(
     Ok(lower_bound)
 }
 
-/// Steps all copies of a station to the bound, each in place. Where memory is refused, they are gone.
-/// `out` is a buffer for what one message sends.
+/// Steps all copies of a station to the bound, each in place. If out of memory, they are lost. `out` is a buffer for
+/// the sends of one message.
 pub(crate) fn step_copies<L: Ledger>(
     alloc: Global,
     copies: Copies,

@@ -1,4 +1,4 @@
--- Lists: the number of elements that pass a test, and places, sums and greatest numbers, with one element more.
+-- Lists: the number of elements that pass a test, and places, sums and greatest numbers, with one more element.
 use Rattle.std.proofs.Common.{◌≡◌, ℕ, zero, suc, ◌+◌, ◌≤◌, List, [], ◌∷◌, ◌++◌, Bool, true, false, Some, cond, length}
 use Rattle.std.proofs.Common.{max, get_or, slice_get, refl, ap, ◌∙◌, arith, length-append}
 use Rattle.std.specs.Prelude.{remove}

@@ -344,7 +344,7 @@ module _ (h : ℕ) (ms : List Moment) (m : Moment) where
   time_in_system-push =
       ap (λ vs. total (map time_now vs)) (visits_after-push [] ms m) ∙ total-append time_now (visits ms) begins
 
-  -- what holds of each visit holds of all
+  -- a property of each visit holds of all
   all_of : (P : Visit → Type 0) (vs : List Visit) → ((v : Visit) → P v) → AllByRecursion P vs
   all_of P [] f = tt
   all_of P (v ∷ vs) f = (f v, all_of P vs f)

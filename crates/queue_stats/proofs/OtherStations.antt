@@ -39,7 +39,7 @@ module _ (s : ℕ) (p : JobOf → Bool) where
   no_done-none : (a : Outgoing) → SendsNoDone a a
   no_done-none a = record { none = refl; station = refl }
 
-  -- two steps one after the other
+  -- two steps in a row
   no_done-trans : (a b c : Outgoing) → SendsNoDone a b → SendsNoDone b c → SendsNoDone a c
   no_done-trans a b c i j = record { none = j.none ∙ i.none; station = j.station ∙ i.station }
 

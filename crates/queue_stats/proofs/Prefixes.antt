@@ -47,7 +47,7 @@ prefix {servers} (goes_on {before = before} m q whole f) ms (x ∷ xs) is =
     sym whole ∙ is ∙ ap (λ l. ms ++ l) end.2 ∙ sym (append_assoc ms end.0 (end.1 ∷ [])) in
     prefix q ms end.0 (sym (but_last-push before m) ∙ ap but_last two ∙ but_last-push (ms ++ end.0) end.1)
 
--- the moments of two logs, one after the other
+-- the moments of two logs in a row
 pub moments_after-append : (before : ℕ) (es fs : List (Entry Msg Line))
     → moments_after before (es ++ fs) ≡ moments_after before es ++ moments_after (last_lost before es) fs
 moments_after-append before [] fs = refl

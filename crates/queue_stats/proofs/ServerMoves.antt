@@ -168,7 +168,7 @@ module _ (s : ℕ) where
 
   -- ---- MovesJobs
 
-  -- what a server does at an event: a visitor waits or is started, and a departure frees a server
+  -- the effect of an event on a server: a visitor waits or is started, and a departure frees a server
   pub record MovesJobs (e : Event) (v : ServerState) (o : Outgoing) (r : Reaction ServerState) : Type 0 where
     pub jobs : (p : JobOf → Bool) → waiting_count p r.state + done_count s p r.out.sends
         ≡ waiting_count p v + done_count s p o.sends + one_if (is_visit_by p e)

@@ -122,7 +122,7 @@ ended_jobs-insert_all o s xs q sorted few = by (cases_eq (done_count s (λ j. tr
         ∙ ended_jobs-filter s xs
         ∙ ap (λ l. l ++ ended_jobs s xs) (sym (sym (ended_jobs-filter s q) ∙ ap (ended_jobs s) empty))
 
--- ---- what a server does with its waiting line
+-- ---- a server and its waiting line
 
 module _ (s : ℕ) where
   -- a job sent over a link ends no service

@@ -10,7 +10,7 @@ use Rattle.queue_stats.specs.Moments.{lost_in}
 use Rattle.queue_stats.specs.Tallies.{is_job, is_done, is_set, with_entry, IsWithinLimits}
 use Rattle.queue_stats.proofs.Lists.{one_if-le}
 
--- some entries may be added one after the other
+-- some entries may be added one after another
 pub record MayAddAll (t : Tally) (es : List (Entry Msg Line)) : Type 0 where
   pub arrived : t.arrived + length es ≤ MOST_HANDLED
   pub lost : t.lost + length es ≤ MOST_HANDLED

@@ -1,4 +1,4 @@
--- Statistics of a log that several clones have.
+-- Statistics of a log that several clones share.
 use Rattle.std.specs.Prelude.{ℕ, ◌≡◌, ◌≤◌, List, length, true}
 use Rattle.sim_base.specs.declared.entry.Entry.{Entry}
 use Rattle.sim_base.specs.declared.entry.Line.{Line}
@@ -9,7 +9,7 @@ use Rattle.queue_stats.specs.declared.stats.Stats.{Stats}
 use Rattle.queue_stats.specs.Laws.{IsLogOf, is_server}
 use Rattle.queue_stats.specs.Stats.{server_stats}
 
--- statistics of a server until `from`, whose log is also that of a clone that is simulated until `until`
+-- statistics of a server until `from`, whose log is also that of a clone simulated until `until`
 pub record HaveCommonLog (stats : Stats) (from until : ℕ) : Type 0 where
   pub net : Net
   pub station : ℕ

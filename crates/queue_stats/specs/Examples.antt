@@ -15,7 +15,7 @@ gone = record { name = codes "gone"; plans = []; end = Some 0 }
 abbrev pub shared_desk : ℕ
 shared_desk = 3
 
--- two jobs of class 2, one every 3, and a job of class 1 at 7; one server, which serves for 4, by class or by arrival
+-- two jobs of class 2, one every 3, and a job of class 1 at 7. One server serves for 4, by class or by arrival
 abbrev pub low_and_high : Bool → Net
 low_and_high by_class = record {
   format = 2;
@@ -34,8 +34,7 @@ low_and_high by_class = record {
 abbrev pub first_desk : ℕ
 first_desk = 2
 
--- three jobs, one every 3; one server, which serves for 4; then a router, which by turn sends a job back to the server
--- or to the sink
+-- three jobs, one every 3. One server serves for 4. Then a router sends jobs by turn back to the server or to the sink
 abbrev pub feedback : Net
 feedback = record {
   format = 1;

@@ -47,7 +47,7 @@ abbrev pub total : List ℕ → ℕ
 total [] = 0
 total (n ∷ ns) = n + total ns
 
--- the greatest number of jobs that waited
+-- the greatest number of waiting jobs
 abbrev pub most_waiting : List Moment → ℕ
 most_waiting ms = greatest (map (λ m. m.wait) ms)
 
@@ -102,7 +102,7 @@ visits_after before (m ∷ ms) = new_visit before m.event m.time ++ visits_after
 abbrev pub visits : List Moment → List Visit
 visits ms = visits_after [] ms
 
--- the end of a visit: the n-th visit of a job ends at the job's n-th departure, or at h if there is no such departure
+-- the end of a visit: the n-th visit of a job ends at the job's n-th departure, or at h if there is none
 abbrev pub visit_end : ℕ → List Moment → Visit → ℕ
 visit_end h ms v = slice_index_or (times (is_departure_of v.job) ms) v.nth h
 
@@ -113,7 +113,7 @@ time_in_system h ms = total (map (λ v. visit_end h ms v - v.time) (visits ms))
 -- ---- waits, if one server serves in order of arrival
 
 -- the service start of the n-th visit, if it has started, after `came` earlier visits. It is the first moment after
--- which the number of visits less the number of waiting jobs is more than n
+-- which the number of visits minus the number of waiting jobs is more than n
 abbrev pub service_start_after : ℕ → ℕ → List Moment → Option ℕ
 service_start_after came n [] = None
 service_start_after came n (m ∷ ms) =

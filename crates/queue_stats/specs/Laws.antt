@@ -1,4 +1,4 @@
--- What holds of the log of a server in every run.
+-- Properties of the log of a server in every run.
 use Rattle.std.specs.Prelude.{ℕ, ◌≡◌, ◌<◌, ◌≤◌, ◌==◌, ◌&&◌, not, List, Bool, true, false, min}
 use Rattle.std.specs.List.{AllByRecursion}
 use Rattle.sim_base.specs.Clones.{Clone}
@@ -15,7 +15,7 @@ use Rattle.queue_stats.specs.Figures.{count, present, time_in_system}
 use Rattle.queue_stats.specs.Lindley.{IsLindley}
 use Rattle.queue_stats.specs.Queues.{IsQueue}
 
--- ---- the logs that statistics are made of
+-- ---- the logs from which statistics are computed
 
 -- a station of this kind is a server
 abbrev pub is_server : Kind → Bool
@@ -47,8 +47,8 @@ abbrev pub LogsAreQueues : Net → Type 0
 LogsAreQueues net = (c : Clone) (s front servers room lo hi : ℕ) (by_class : Bool) → HasStation net s
     → (site_of net s).kind ≡ kind.Server servers room lo hi by_class → IsQueueUntil net c s front servers
 
--- Little's law in every run: the number in the system, summed over all times before the end, is the time in the system,
--- summed over all visits
+-- Little's law in every run: the number in the system, summed over the times before the end, is the time in the system,
+-- summed over the visits
 abbrev pub RunsKeepLittle : Net → Type 0
 RunsKeepLittle net = (c : Clone) (s front servers room lo hi : ℕ) (by_class : Bool) → HasStation net s
     → (site_of net s).kind ≡ kind.Server servers room lo hi by_class

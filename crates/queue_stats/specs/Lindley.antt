@@ -15,8 +15,8 @@ pub record IsLindley (ms : List Moment) : Type 0 where
   pub before : (n t : ℕ) → service_start (suc n) ms ≡ Some t →
       (s : ℕ) × (service_start n ms ≡ Some s) × (n < departure_count ms) × (s ≤ departure_time n ms)
       × (departure_time n ms ≤ t)
-  -- the wait of a visit is the wait of the visit before it, plus that visit's service time, less the time between the
-  -- two arrivals; or 0 if that is negative
+  -- the wait of a visit is the previous visit's wait plus its service time, less the time between the two arrivals; or
+  -- 0 if that is negative
   pub next : (n s t : ℕ) → service_start n ms ≡ Some s → service_start (suc n) ms ≡ Some t →
       t - arrival_time (suc n) ms
       ≡ ((s - arrival_time n ms) + (departure_time n ms - s)) - (arrival_time (suc n) ms - arrival_time n ms)

@@ -1,5 +1,5 @@
--- A server's log as the history of its queue: when jobs arrived, were lost or departed, and how many jobs were in
--- service and waited after each event.
+-- A server's log as the history of its queue: when jobs arrived, were lost or departed, and the numbers in service and
+-- waiting after each event.
 use Rattle.std.specs.Prelude.{ℕ, ◌+◌, ◌&&◌, ◌==◌, List, [], ◌∷◌, Bool, true, false, nat_lt, if◌then◌else◌}
 use Rattle.sim_base.specs.declared.message.Job.{Job as JobOf}
 use Rattle.sim_base.specs.declared.message.Msg.{Msg}
@@ -9,12 +9,12 @@ use Rattle.sim_base.specs.declared.entry.Entry.{Entry}
 use Rattle.sim_base.specs.declared.entry.Line.{Line}
 use Rattle.sim_base.specs.declared.entry.Line.TheVariants.{Server}
 
--- the number of jobs in service that a line shows, 0 if it is no server's
+-- the number of jobs in service in a line, 0 if it is not a server's
 abbrev pub busy_in : Line → ℕ
 busy_in (Server busy wait done lost) = busy
 busy_in _ = 0
 
--- the number of jobs that wait
+-- the number of waiting jobs
 abbrev pub wait_in : Line → ℕ
 wait_in (Server busy wait done lost) = wait
 wait_in _ = 0
@@ -24,8 +24,8 @@ abbrev pub lost_in : Line → ℕ
 lost_in (Server busy wait done lost) = lost
 lost_in _ = 0
 
--- an event at a queue: an arrival that is admitted, an arrival that is lost, a departure at the end of a service, a
--- change of a parameter, or an event that does not concern the queue
+-- an event at a queue: an admitted or a lost arrival, a departure at the end of a service, a change of a parameter, or
+-- an unrelated event
 pub data Event : Type 0 where
   visit : JobOf → Event
   loss : Event
@@ -44,8 +44,7 @@ pub record Moment : Type 0 where
 abbrev pub in_system : Moment → ℕ
 in_system m = m.busy + m.wait
 
--- the event of a message, from the counts of lost jobs before and after it: a job that arrives is lost if the count
--- rises
+-- the event of a message, from the counts of lost jobs before and after it: an arriving job is lost if the count rises
 abbrev pub event_of : Payload → ℕ → ℕ → Event
 event_of (Job job) before after = if nat_lt before after then loss else visit job
 event_of (Done job) before after = departure job
@@ -70,7 +69,7 @@ moments_after before (e ∷ es) = moment_of before e ∷ moments_after (lost_in 
 abbrev pub moments : List (Entry Msg Line) → List Moment
 moments log = moments_after 0 log
 
--- the count of lost jobs that the last entry shows, or the count before if there is no entry
+-- the count of lost jobs in the last entry, or the count before if there is no entry
 abbrev pub last_lost : ℕ → List (Entry Msg Line) → ℕ
 last_lost before [] = before
 last_lost before (e ∷ es) = last_lost (lost_in e.line) es

@@ -1,4 +1,4 @@
--- The order of service: in which order jobs arrive and depart, and when each visit ends.
+-- The order of service: the order in which jobs arrive and depart, and the end of each visit.
 use Rattle.std.specs.Prelude.{ℕ, ◌≡◌, ◌<◌, ◌≤◌, ◌++◌, List, [], ◌∷◌, Some, false, slice_get}
 use Rattle.sim_base.specs.Clones.{Clone}
 use Rattle.sim_base.specs.declared.message.Job.{Job as JobOf}
@@ -28,7 +28,7 @@ abbrev pub departing_jobs : List Moment → List JobOf
 departing_jobs [] = []
 departing_jobs (m ∷ ms) = departing_job m.event ++ departing_jobs ms
 
--- jobs depart in order of arrival: those that departed are the first that arrived
+-- jobs depart in order of arrival: the departed ones are the first that arrived
 pub record DepartInOrder (ms : List Moment) : Type 0 where
   pub rest : List JobOf
   pub is : visiting_jobs ms ≡ departing_jobs ms ++ rest

@@ -1,4 +1,4 @@
--- The sums that one walk along a log makes.
+-- The sums of one walk along a log.
 use Rattle.std.specs.Prelude.{ℕ, ◌+◌, ◌-◌, ◌*◌, ◌≤◌, ◌<◌, ◌&&◌, List, [], ◌∷◌, Bool, true, false, nat_lt, max}
 use Rattle.sim_base.specs.declared.message.Msg.{Msg}
 use Rattle.sim_base.specs.declared.message.Payload.{Payload}
@@ -11,7 +11,7 @@ use Rattle.queue_stats.specs.declared.tally.Tally.{Tally}
 use Rattle.queue_stats.specs.Moments.{busy_in, wait_in, lost_in}
 use Rattle.queue_stats.specs.Figures.{one_if}
 
--- whether a message is a job that arrives
+-- whether a message is an arriving job
 abbrev pub is_job : Payload → Bool
 is_job (Job job) = true
 is_job _ = false
@@ -26,7 +26,7 @@ abbrev pub is_set : Payload → Bool
 is_set (Set c) = true
 is_set _ = false
 
--- the tally with one entry more
+-- the tally with one more entry
 abbrev pub with_entry : Tally → Entry Msg Line → Tally
 with_entry t e = record {
   arrived = t.arrived + one_if (is_job e.msg.payload);
@@ -40,7 +40,7 @@ with_entry t e = record {
   last_lost = lost_in e.line;
 }
 
--- the tally with some entries more
+-- the tally with some more entries
 abbrev pub tally_along : Tally → List (Entry Msg Line) → Tally
 tally_along t [] = t
 tally_along t (e ∷ es) = tally_along (with_entry t e) es

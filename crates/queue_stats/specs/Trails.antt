@@ -1,4 +1,4 @@
--- The sums that two walks along a log make, the second of which goes from arrival to arrival.
+-- The sums of two walks along a log, the second of which goes from arrival to arrival.
 use Rattle.std.specs.Prelude.{ℕ, ◌+◌, ◌-◌, List, [], ◌∷◌, nat_lt, max, if◌then◌else◌}
 use Rattle.sim_base.specs.declared.message.Msg.{Msg}
 use Rattle.sim_base.specs.declared.entry.Entry.{Entry}
@@ -18,12 +18,12 @@ abbrev pub after_first_arrival : List (Entry Msg Line) → List (Entry Msg Line)
 after_first_arrival [] = []
 after_first_arrival (e ∷ es) = if is_job e.msg.payload then es else after_first_arrival es
 
--- the waits with one wait more
+-- the waits with one more wait
 abbrev pub with_wait : Waits → ℕ → Waits
 with_wait w wait = record { waited = w.waited + wait; longest = max w.longest wait }
 
--- the waits along the rest of a log, after `came` arrivals and `started` service starts; `trail` is the log after the
--- arrival of the last visit that has started
+-- the waits along the rest of a log, after `came` arrivals and `started` service starts. `trail` is the log after the
+-- arrival of the last started visit
 abbrev pub waits_along : ℕ → ℕ → List (Entry Msg Line) → Waits → List (Entry Msg Line) → Waits
 waits_along came started trail w [] = w
 waits_along came started trail w (e ∷ es) =

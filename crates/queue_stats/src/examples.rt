@@ -1,7 +1,7 @@
 //! Worked examples, computed by the checker from the definitions of a run and of the figures alone.
 //!
-//! Each function's contract is a theorem; there is nothing to run. The log of each is one that `stations::examples` or
-//! `specs/Examples.antt` describes.
+//! Each function's contract is a theorem; there is nothing to run. `stations::examples` or `specs/Examples.antt`
+//! describes the log of each example.
 ghost use Rattle.std.specs.Prelude.{◌≡◌, [], ◌∷◌, Some, None, codes, true, false};
 ghost use Rattle.sim_base.specs.Clones.{base};
 ghost use Rattle.stations.specs.Runs.{log_at};
@@ -54,7 +54,7 @@ pub fn full_waiting_room()
     ensures little { time_in_system 20 (moments (log_at (three_sources 0) base full_desk 20)) ≡ 4 }
 {}
 
-/// A clone that ends at 9: one job is in service then, and one waits, whose wait is not counted.
+/// A clone that ends at 9: one job is in service then, and one waits; its wait is not counted.
 pub fn clone_that_ends()
     ensures stats { server_stats one_desk desk 9 (log_at one_desk brief desk 20) ≡ record {
       arrived = 2;

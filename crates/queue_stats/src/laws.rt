@@ -1,6 +1,6 @@
 //! The laws of queues in runs: each function's contract is a law, and there is nothing to run.
 //!
-//! `specs/Laws.antt` and `specs/Orders.antt` have them in words. Library calls, not used by `cloner`.
+//! `specs/Laws.antt` and `specs/Orders.antt` state them. Library calls, not used by `cloner`.
 ghost use Rattle.net_model.specs.Net.{Net};
 ghost use Rattle.net_model.specs.Rules.{IsNet};
 ghost use Rattle.queue_stats.specs.Laws.{LogsAreQueues, RunsKeepLindley, RunsKeepLittle};
@@ -13,7 +13,7 @@ pub fn logs_are_queues()
 
 /// Every run keeps Little's law in its finite form. Until a parameter changes, a station of one server also keeps
 /// Lindley's equation. If it serves by arrival, jobs depart in order of arrival, and the n-th visit ends at the n-th
-/// departure, so the service times in Lindley's equation are the visits' own.
+/// departure. The service times in Lindley's equation are then the visits' own.
 pub fn runs_keep_the_laws_of_queues()
     ensures little { (net : Net) → IsNet net → RunsKeepLittle net }
     ensures lindley { (net : Net) → IsNet net → RunsKeepLindley net }

@@ -2,8 +2,7 @@
 //!
 //! A server's log is the whole history of its queue. Each entry is an arrival, a loss, a departure or a change of a
 //! parameter. It has the numbers of jobs in service and waiting after it. The statistics are exact whole numbers:
-//! counts, the greatest number of waiting jobs, the area under the number in the system, and the waits at a single
-//! server.
+//! counts, the most waiting jobs, the area under the number in the system, and the waits at a single server.
 //!
 //! ```text
 //! number in the system
@@ -20,13 +19,13 @@
 //! let other = stats.with_end(until, earlier);      // of a clone that has the same log and ends earlier
 //! ```
 //!
-//! One walk along the log adds up all figures but the waits. The waits take two more walks at once, the second of which
-//! goes from arrival to arrival, so the jobs that wait need no list. An entry costs a few additions, and nothing is
+//! One walk along the log adds up all figures except the waits. The waits take two more walks at once, the second of
+//! which goes from arrival to arrival, so waiting jobs need no list. An entry costs a few additions, and nothing is
 //! allocated. Clones with the same log share the walks: `with_end` moves the statistics to another end without one. A
 //! text is one list of bytes that grows; out of memory is its only error.
 //!
-//! The promise that it carries: **the statistics are right**. Each is a figure that `specs/Figures.antt` defines, and
-//! every run keeps the laws of queues:
+//! Promise: **the statistics are right**. Each is a figure that `specs/Figures.antt` defines, and every run keeps the
+//! laws of queues:
 //!
 //! | Law | Statement | Servers |
 //! |---|---|---|

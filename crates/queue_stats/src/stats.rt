@@ -23,13 +23,13 @@ use net_model::{Kind, Model};
 /// The statistics of one server in one clone.
 #[derive(Clone, Copy, Debug, PartialEq, Eq)]
 pub struct Stats {
-    /// Arrivals, with those that were lost.
+    /// Arrivals, including lost ones.
     pub arrived: u64,
     /// Arrivals that were lost, since the waiting room was full.
     pub lost: u64,
     /// Departures.
     pub done: u64,
-    /// The greatest number of jobs that waited.
+    /// The greatest number of waiting jobs.
     pub most: u64,
     /// The number of jobs in the system, summed over the times before the end.
     pub present: u64,
@@ -37,7 +37,7 @@ pub struct Stats {
     pub waits: Option<Waits>,
 }
 
-// The sum over another time, of a number in the system that stays the same from the earlier of the two times on.
+// The sum continued to another time; the number in the system is constant from the earlier of the two times on.
 fn present_until(present: u64, in_system: u64, from: u64, until: u64) -> u64
     requires later_max { from ≤ until → present + (until - from) * in_system ≤ MOST_HANDLED * MOST_HORIZON }
     requires earlier_max { until < from → (from - until) * in_system ≤ present }
@@ -53,7 +53,7 @@ fn present_until(present: u64, in_system: u64, from: u64, until: u64) -> u64
 
 impl Stats {
     /// The statistics of the same log until the time `until`, from these, which are until `from`. Only `present`
-    /// differs, since neither time is before an entry. It takes no walk.
+    /// differs, since neither time is before an entry. It needs no walk.
     pub fn with_end(self, from: u64, until: u64) -> Stats
         requires common { HaveCommonLog self from until }
         ensures value { (c : HaveCommonLog self from until) → result ≡ server_stats c.net c.station until c.log }
@@ -123,8 +123,8 @@ fn stats_until(single: bool, log: &Log, until: u64) -> Stats
 
 /// The statistics of a server from its log in a clone, until a front or the clone's end, whichever is earlier.
 ///
-/// Their `present` keeps Little's law. Waits that are reported keep Lindley's equation, in which the n-th arrival and
-/// the n-th departure are then those of one visit.
+/// Their `present` keeps Little's law. Reported waits keep Lindley's equation, in which the n-th arrival and the n-th
+/// departure are then those of one visit.
 pub fn stats_of(model: &Model, station: u32, log: &Log, until: u64) -> Stats
     requires is_station { HasStation model.now station }
     requires server { is_server (site_of model.now station).kind ≡ true }

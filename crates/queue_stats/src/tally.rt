@@ -1,4 +1,4 @@
-//! One walk along a server's log, which adds up all figures but the waits.
+//! One walk along a server's log, which adds up all figures except the waits.
 ghost use Rattle.std.specs.Prelude.{◌≡◌, ◌+◌, ◌-◌, ◌*◌, ◌≤◌, length};
 ghost use Rattle.sim_base.specs.declared.limits.TheConstants.{MOST_HANDLED};
 ghost use Rattle.net_model.specs.declared.limits.TheConstants.{MOST_HORIZON};
@@ -11,7 +11,7 @@ use sim_base::Entry;
 use sim_base::entry::Line;
 use sim_base::message::Payload;
 
-/// The sums of the entries met so far.
+/// The sums over the entries so far.
 #[derive(Clone, Copy, Debug, PartialEq, Eq)]
 pub struct Tally {
     /// Arrivals.
@@ -22,7 +22,7 @@ pub struct Tally {
     pub done: u64,
     /// Changes of parameters.
     pub changes: u64,
-    /// The greatest number of jobs that waited.
+    /// The greatest number of waiting jobs.
     pub most: u64,
     /// The number of jobs in the system, summed over the times before the last entry.
     pub area: u64,
@@ -30,11 +30,11 @@ pub struct Tally {
     pub last_time: u64,
     /// The number of jobs in the system after it.
     pub in_system: u64,
-    /// The count of lost jobs that it shows.
+    /// Its count of lost jobs.
     pub last_lost: u64,
 }
 
-/// Whether a message is a job that arrives.
+/// Whether a message is an arriving job.
 pub fn is_job(payload: &Payload) -> bool
     ensures value { result ≡ is_job_of payload.now }
 {
@@ -65,7 +65,7 @@ fn busy_of(line: &Line) -> u64
     }
 }
 
-/// The number of jobs that wait.
+/// The number of waiting jobs.
 pub fn wait_of(line: &Line) -> u64
     ensures value { result ≡ wait_in line.now }
 {
@@ -86,7 +86,7 @@ fn lost_of(line: &Line) -> u64
 }
 
 impl Tally {
-    /// The sums with one entry more.
+    /// The sums with one more entry.
     pub fn add(self, entry: &Entry) -> Tally
         requires may_add { MayAdd self entry.now }
         ensures value { result ≡ with_entry self entry.now }

@@ -11,7 +11,7 @@ use net_model::Model;
 use sim_base::{Name, NoMemory};
 use std::alloc::Global;
 
-/// The statistics of one server in one clone, with the names that a line needs.
+/// The statistics of one server in one clone, with the names for its line.
 #[derive(Clone, Copy, Debug)]
 pub struct StatRow {
     /// The clone's name.
@@ -22,7 +22,7 @@ pub struct StatRow {
     pub stats: Stats,
 }
 
-// Appends the waits, or a `-` for each figure of theirs.
+// Appends the waits, or a `-` in place of each figure.
 fn push_waits(out: &mut Vec<u8>, waits: &Option<Waits>) -> Result<(), NoMemory>
     ensures value { OnOk result (out.new.items ≡ out.old.items ++ waits_text waits.now) }
 {

@@ -1,4 +1,4 @@
--- What sending adds to a sender's messages: their jobs, and the number of ticks and completions among them.
+-- The effect of sending on a sender's messages: their jobs, and the number of ticks and completions among them.
 use Rattle.std.proofs.Common.{◌≡◌, ℕ, ◌+◌, ◌-◌, ◌*◌, ◌%◌, ◌<◌, ◌≤◌, ◌⊎◌, inl, inr, List, [], ◌∷◌, ◌++◌}
 use Rattle.std.proofs.Common.{refl, sym, ap, ◌∙◌, subst, append_assoc, append-nil, Option, Some, None}
 use Rattle.std.proofs.Common.{slice_get, arith, true}
@@ -59,7 +59,7 @@ module _ (net : Net) (now : ℕ) where
     completions = refl;
   }
 
-  -- one after the other
+  -- two steps in a row
   pub adds-trans : (t d u e : ℕ) (a b c : Outgoing) → Adds t d a b → Adds u e b c → Adds (t + u) (d + e) a c
   adds-trans t d u e a b c g h =
       let gt = g.ticks in

@@ -1,4 +1,4 @@
--- What each kind of station keeps in a run, message by message.
+-- The invariant of each kind of station in a run, message by message.
 use Rattle.std.proofs.Common.{◌≡◌, ℕ, ◌+◌, ◌<◌, ◌≤◌, Bool, true, false}
 use Rattle.std.proofs.Common.{nat_lt}
 use Rattle.std.proofs.Common.{if◌then◌else◌, refl, slice_get, arith, ltb-true}
@@ -31,8 +31,8 @@ use Rattle.resume_laws.proofs.Adding.{Adds, adds-none, adds-trans, adds-as, adds
 use Rattle.resume_laws.proofs.Adding.{adds-held}
 use Rattle.resume_laws.proofs.ServerKeeps.{server_on-reacts}
 
--- what a station does at a message in a run: it sends at most one tick, only at a tick, and only if a job is left to
--- send; it sends at most as many completions as services begin
+-- the effect of a message on a station in a run. It sends at most one tick, only at a tick, and only if a job is left
+-- to send. It sends at most as many completions as services begin
 pub record KindReacts (net : Net) (now : ℕ) (k : Kind) (handled : ℕ) (p : Payload) (s : KindState) (a : Outgoing)
     (r : Reaction KindState) : Type 0 where
   pub ticks : ℕ
@@ -119,7 +119,7 @@ module _ (net : Net) (site : Site) (now : ℕ) (links : AllByRecursion (IsLink n
         busy = omega arith;
       }
 
-  -- a decision comes to a source
+  -- a decision reaches a source
   source_set-reacts : (lo hi jobs class handled : ℕ) (c : Change) (s : SourceState) (a : Outgoing) → s.jobs ≡ jobs →
       s.sent + 0 ≤ s.jobs → KindReacts net now (kind.Source lo hi jobs class) handled (Set c) (Source s) a
       (reaction (Source (source_set site c s)) a)
@@ -145,7 +145,7 @@ module _ (net : Net) (site : Site) (now : ℕ) (links : AllByRecursion (IsLink n
       by true i = adds-over net now site.links links (slice_get site.links i) i now j a refl (omega arith) own
       by false i = adds-route net now site.links links s.weights.items j a own
 
-  -- a decision comes to a router
+  -- a decision reaches a router
   router_set-reacts : (turn : Bool) (handled : ℕ) (c : Change) (s : RouterState) (a : Outgoing) →
       KindReacts net now (kind.Router turn) handled (Set c) (Router s) a (reaction (Router (router_set site c s)) a)
   router_set-reacts turn handled c s a =

@@ -64,7 +64,7 @@ module _ {S M N : Type 0} (sim : Simulation S M N) where
       ∙ run_forgets_its_trace c.at.trace (without_trace c) bound
 
 module _ {S M N : Type 0} {sim : Simulation S M N} {Good : ℕ → S → Type 0} (law : HandlesLawfully sim Good) where
-  -- a run to a front goes on to the end of the clone, and its trace is split at the front
+  -- a run to a front continues to the end of the clone, and its trace is split at the front
   pub resumed_is_unbroken : ResumedIsUnbroken sim
   resumed_is_unbroken c front within =
       let last : ℕ = min sim.horizon (end_of sim c) in

@@ -76,7 +76,7 @@ module _ (net : Net) (valid : IsNet net) where
 
   -- ---- handle
 
-  -- what a station keeps when it handles a message of a run: its state, and the messages that it sends
+  -- the invariant of a station that handles a message of a run: its state, and its sends
   record HandleKeeps (s : ℕ) (st : StateView) (m : Msg) : Type 0 where
     pub are : AllByRecursion (IsRunSend net m.key.time s) (handle net st m).sends
     pub state : RunKeepsState net s (handle net st m).state
@@ -237,7 +237,7 @@ module _ (net : Net) (valid : IsNet net) where
   IsFirstTick s None = Unit {0}
   IsFirstTick s (Some m) = (m.payload ≡ Tick) × (m.key.time < ALL_TIMES) × (m.to ≡ s)
 
-  -- what station s keeps when it opens
+  -- the invariant of station s when it opens
   record OpeningKeeps (s : ℕ) (k : Kind) (stream : ℕ) (o : Opening StateView Msg) : Type 0 where
     pub seed : o.state.sender.draws.seed ≡ net.seed
     pub from_stream : o.state.sender.draws.stream ≡ stream
@@ -286,7 +286,7 @@ module _ (net : Net) (valid : IsNet net) where
   setup-keeps : (s : ℕ) → OpeningKeeps s (site_of net s).kind (site_of net s).stream (setup net s)
   setup-keeps s = opening_kind-keeps s (site_of net s) (site_of net s).kind (good_open s)
     where
-      -- a first tick leaves the kind's state as it is
+      -- a first tick does not change the kind's state
       good_open : (r : ℕ) → GoodKind 0 (opening_kind (site_of net r) (site_of net r).kind)
       good_open r = ((lawful-stations net valid).opens r).fits
 
@@ -360,7 +360,7 @@ module _ (net : Net) (valid : IsNet net) where
       completions-and_first s (suc n) (first_messages (simulation net) n) (setup net (suc n)).first
       (setup-keeps (suc n)).first (completions-first_messages s n)
 
-  -- a first message keeps what a run keeps of messages
+  -- a first message keeps the invariant of messages
   and_first-keeps : (n : ℕ) (ms : List Msg) (o : Option Msg) → IsFirstTick n o →
       AllByRecursion (RunKeepsMessage net) ms → AllByRecursion (RunKeepsMessage net) (and_first (simulation net) ms o)
   and_first-keeps n ms None is all = all
@@ -390,7 +390,7 @@ module _ (net : Net) (valid : IsNet net) where
       let g = counted-zero (p.station == s) 0 refl in
       omega (arith, h, g)
 
-  -- decisions keep what a run keeps of messages
+  -- decisions keep the invariant of messages
   set_messages-keeps : (k : ℕ) (plans : List Planned) → AllByRecursion (λ p. p.at < net.horizon) plans →
       AllByRecursion (RunKeepsMessage net) (set_messages (simulation net) k plans)
   set_messages-keeps k [] early = tt

@@ -1,5 +1,5 @@
--- What a server keeps in a run: sources of the network may have made its waiting jobs, and each service that begins
--- has a completion.
+-- The invariant of a server in a run: sources of the network may have made its waiting jobs, and each service that
+-- begins has a completion.
 use Rattle.std.proofs.Common.{◌≡◌, ℕ, zero, suc, ◌+◌, ◌-◌, ◌≤◌, List, [], ◌∷◌, ◌++◌, length, Bool, true, false}
 use Rattle.std.proofs.Common.{nat_lt}
 use Rattle.std.proofs.Common.{if◌then◌else◌, refl, sym, Option, Some, None, slice_get, arith, ltb-true, take, drop}
@@ -26,7 +26,7 @@ use Rattle.resume_laws.proofs.Adding.{Adds, adds-none, adds-trans, adds-as, adds
 
 -- ---- AllByRecursion
 
--- what holds of all elements holds of the first i of them
+-- a property of all elements holds of the first i of them
 all_take : {X : Type 0} (P : X → Type 0) (xs : List X) (i : ℕ) → AllByRecursion P xs → AllByRecursion P (take i xs)
 all_take P xs zero all = tt
 all_take P [] (suc i) all = tt
@@ -98,7 +98,7 @@ module _ (net : Net) (site : Site) (now : ℕ) (links : AllByRecursion (IsLink n
           line range refl
       by false = starts-none s a line range
 
-  -- up to n jobs are taken, one after the other
+  -- up to n jobs are taken, one after another
   start_times-starts : (n : ℕ) (s : ServerState) (a : Outgoing) (r : Reaction ServerState) → Starts s a r →
       Starts s a (start_times n net site now r)
   start_times-starts zero s a r h = h
@@ -117,7 +117,7 @@ module _ (net : Net) (site : Site) (now : ℕ) (links : AllByRecursion (IsLink n
 
   -- ---- server_on
 
-  -- what a server does at a message: it sends no tick, and a completion for each job that it takes into service; a
+  -- the effect of a message on a server. It sends no tick, and a completion for each job that it takes into service. A
   -- completion that it handles ends a service
   pub record ServerReacts (p : Payload) (s : ServerState) (a : Outgoing) (r : Reaction ServerState) : Type 0 where
     pub completions : ℕ

@@ -7,7 +7,7 @@ use Rattle.run_laws.specs.Queue.{insert_by, insert, insert_all}
 use Rattle.resume_laws.specs.Tally.{tally}
 
 module _ {X : Type 0} (f : X → ℕ) where
-  -- two lists, one after the other
+  -- two lists in a row
   pub tally-append : (xs ys : List X) → tally f (xs ++ ys) ≡ tally f xs + tally f ys
   tally-append [] ys = omega arith
   tally-append (x ∷ xs) ys = let h = tally-append xs ys in omega (arith, h)

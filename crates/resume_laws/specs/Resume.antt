@@ -1,4 +1,4 @@
--- A run that goes on from the states and the pending messages of a world, without the world's trace.
+-- A run that continues from the states and the pending messages of a world, without the world's trace.
 use Rattle.std.specs.Prelude.{◌≡◌, ℕ, ◌≤◌, List, [], ◌++◌, min}
 use Rattle.sim_base.specs.Clones.{Clone}
 use Rattle.sim_base.specs.declared.entry.Entry.{Entry}
@@ -21,12 +21,12 @@ module _ {S M N : Type 0} (sim : Simulation S M N) where
   abbrev pub onward : Config (World S M N) M → ℕ → List (Entry M N)
   onward c bound = (run_from sim (without_trace c) bound).at.trace
 
-  -- entries before the trace of a world stay there and change nothing else in its run
+  -- entries before the trace of a world remain there and change nothing else in its run
   abbrev pub RunForgetsItsTrace : Type 0
   RunForgetsItsTrace = (es : List (Entry M N)) (c : Config (World S M N) M) (bound : ℕ) →
       run_from sim (with_past es c) bound ≡ with_past es (run_from sim c bound)
 
-  -- the trace of a clone is the trace of its run to a front, and then what a resumed run adds from that front on
+  -- the trace of a clone is the trace of its run to a front, followed by the entries of a run resumed there
   abbrev pub ResumedIsUnbroken : Type 0
   ResumedIsUnbroken = (c : Clone) (front : ℕ) → front ≤ min sim.horizon (end_of sim c) →
       trace_of sim c ≡ (run sim c.plans front).at.trace

@@ -1,4 +1,4 @@
--- The invariant of a network's runs, beyond what every state of a station keeps. Snapshots of runs rest on it.
+-- The invariant of a network's runs, in addition to that of every state of a station. Snapshots of runs rest on it.
 use Rattle.std.specs.Prelude.{◌≡◌, ℕ, ◌+◌, ◌*◌, ◌<◌, ◌≤◌, ◌==◌, true, if◌then◌else◌}
 use Rattle.std.specs.List.{AllByRecursion}
 use Rattle.sim_base.specs.declared.message.Msg.{Msg}
@@ -61,8 +61,8 @@ abbrev pub busy_of : KindState → ℕ
 busy_of (Server s) = s.busy
 busy_of _ = 0
 
--- what a run keeps of a kind's state. A source may send the model's number of jobs. Sources of the network may have
--- made the waiting jobs, before the horizon. The sum of stays at a sink is at most `ALL_TIMES` for each message
+-- the invariant of a kind's state in a run. A source may send the model's number of jobs. Sources of the network may
+-- have made the waiting jobs, before the horizon. The sum of stays at a sink is at most `ALL_TIMES` for each message
 abbrev pub RunKeepsKind : Net → Kind → ℕ → KindState → Type 0
 RunKeepsKind net (kind.Source lo hi jobs class) handled (Source s) = s.jobs ≡ jobs
 RunKeepsKind net (kind.Server servers room lo hi by_class) handled (Server s) =
@@ -72,19 +72,19 @@ RunKeepsKind net (kind.Router turn) handled (Router s) = Unit {0}
 RunKeepsKind net kind.Sink handled (Sink s) = s.stay ≤ ALL_TIMES * handled
 RunKeepsKind net _ handled _ = ⊥
 
--- what a run keeps of the state of station s: it draws from the model's stream with the model's seed
+-- the invariant of the state of station s in a run: it draws from the model's stream with the model's seed
 pub record RunKeepsState (net : Net) (s : ℕ) (st : StateView) : Type 0 where
   pub seed : st.sender.draws.seed ≡ net.seed
   pub stream : st.sender.draws.stream ≡ (site_of net s).stream
   pub kind : RunKeepsKind net (site_of net s).kind st.handled st.kind
 
--- what a run keeps of a pending message
+-- the invariant of a pending message in a run
 pub record RunKeepsMessage (net : Net) (m : Msg) : Type 0 where
   pub job : CarriesJobOf net m.payload
   pub time_max : m.key.time < ALL_TIMES
 
--- what a run keeps of its world. A source has at most one pending tick, and only if a job is left to send. A server has
--- no more pending completions than jobs in service
+-- the invariant of a run's world. A source has at most one pending tick, and only if a job is left to send. A server
+-- has no more pending completions than jobs in service
 pub record RunKeepsWorld (net : Net) (w : Config (World StateView Msg Line) Msg) : Type 0 where
   pub states : (s : ℕ) → RunKeepsState net s (w.at.states s)
   pub pending : AllByRecursion (RunKeepsMessage net) w.pending

@@ -1,4 +1,4 @@
--- What is proved of a network's runs and of their states as plain data, in words that contracts cite.
+-- The laws of a network's runs and of their states as plain data, as statements that contracts cite.
 use Rattle.std.specs.Prelude.{◌≡◌, ℕ, ◌<◌, ◌≤◌, true, List, length, Some}
 use Rattle.std.specs.List.{AllByRecursion}
 use Rattle.sim_base.specs.Clones.{Clone}
@@ -13,7 +13,7 @@ use Rattle.stations.specs.Saving.{saved_of, restored}
 use Rattle.resume_laws.specs.RunKeeps.{RunKeepsState, RunKeepsWorld, sent_of, jobs_of}
 
 module _ (net : Net) where
-  -- what every state of station s keeps in a run within the limit
+  -- the invariant of every state of station s in a run within the limit
   pub record IsRunState (s : ℕ) (st : StateView) : Type 0 where
     pub station : st.sender.station ≡ s
     pub fits : FitsState st

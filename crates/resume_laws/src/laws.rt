@@ -8,8 +8,8 @@ ghost use Rattle.stations.specs.Fitting.{FittingIsRestored};
 
 use run_laws::laws::{NumberingStations, Stations};
 
-/// A run never reads the trace of its world. So the trace of a clone has two parts: the trace of its run to a front,
-/// and what a run from the states and the pending messages at that front adds.
+/// A run never reads the trace of its world. So the trace of a clone has two parts. The first is the trace of its run
+/// to a front. The second has the entries of a run from the states and the pending messages at that front.
 pub fn resumed_runs_are_unbroken<S, M, N, T: Stations<S, M, N>>()
     ensures forgets { RunForgetsItsTrace T.sim }
     ensures unbroken { ResumedIsUnbroken T.sim }

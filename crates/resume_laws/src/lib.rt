@@ -1,4 +1,4 @@
-//! The theory of saving and resuming one clone: what a run needs of its past, and what every run keeps.
+//! The theory of saving and resuming one clone: the part of its past that a run needs, and the invariant of every run.
 //!
 //! A snapshot of a run at a front has the states of the stations and the pending messages. It needs no trace, since a
 //! run never reads the trace of its world. By the laws of this crate, the resumed run handles the same messages as the
@@ -24,8 +24,8 @@
 //!
 //!     use Rattle.resume_laws.proofs.RunKeeps.{run_invariant_holds}
 //!
-//! A crate that saves and resumes runs can prove two promises from these laws: a resumed run writes what the unbroken
-//! run writes, and no snapshot of a run is refused.
+//! A crate that saves and resumes runs can prove two promises from these laws. A resumed run writes the same text as
+//! the unbroken run, and no snapshot of a run is refused.
 #![tactic(auto)]
 
 pub mod laws;

@@ -1,4 +1,4 @@
--- Before anything was handled, the first copy of each station stands for the first clone.
+-- Before anything was handled, the first copy of each station represents the first clone.
 use Rattle.std.proofs.Common.{◌≡◌, ◌↔◌, ℕ, zero, suc, ◌<◌, ◌≤◌, min, List, [], ◌∷◌, ◌++◌, inl, inr}
 use Rattle.std.proofs.Common.{Option, Some, None, Bool, true, ◌==◌, ◌&&◌, nat_lt, refl, sym, ap, ◌∙◌, subst}
 use Rattle.std.proofs.Common.{arith, eq-eqb}
@@ -54,7 +54,7 @@ module _ {S M N : Type 0} (sim : Simulation S M N) where
 -- ---- first_pending
 
 module _ {S M N K : Type 0} (sim : Simulation S M N) (has : K → ℕ → Bool) (only : K) (ends : ℕ → ℕ) (c : ℕ) where
-  -- what a clone takes of what a station opens with
+  -- the messages that a clone takes of a station's opening
   in_first_pending : (f : Option M) (z : M) → In z (messages_taken sim has ends c (first_pending only f)) →
       (f ≡ Some z) × (takes sim has ends z only c ≡ true)
   in_first_pending None z i = absurd i
@@ -66,7 +66,7 @@ module _ {S M N K : Type 0} (sim : Simulation S M N) (has : K → ℕ → Bool) 
     | inr t ↦ absurd (subst (In z) (part_no (takes sim has ends) c (m, only) [] t) i)
   ]
 
-  -- it takes the first message, where its marks have it and it comes before its end
+  -- it takes the first message if its marks have the clone and it comes before the clone's end
   first_pending_has : (f : Option M) (z : M) → f ≡ Some z → takes sim has ends z only c ≡ true →
       In z (messages_taken sim has ends c (first_pending only f))
   first_pending_has f z e t = subst (λ f. In z (messages_taken sim has ends c (first_pending only f))) (sym e)
@@ -86,7 +86,7 @@ module _ {S M N K : Type 0} {sim : Simulation S M N} {Good : ℕ → S → Type 
   first_alone : (c : ℕ) → (has only c ≡ true) ↔ (c ≡ 0)
   first_alone c = ((λ e. sym (eqb-true 0 c (sym (of_first c) ∙ e))), (λ e. of_first c ∙ eq-eqb 0 c (sym e)))
 
-  -- what the first clone takes of it is what is due to it
+  -- the messages that the first clone takes of it are those due to it
   due_first : messages_taken sim has (ends_of sim (base ∷ [])) 0 (first_pending only (sim.setup s).first)
       ≡ due_at sim base s 0
   due_first =
@@ -121,7 +121,7 @@ module _ {S M N K : Type 0} {sim : Simulation S M N} {Good : ℕ → S → Type 
         | inr a ↦ absurd a
       ])
 
-  -- the first copy stands for the first clone
+  -- the first copy represents the first clone
   pub stands_first : Stands sim has (base ∷ []) 0 s (first_copy sim only s ∷ [])
   stands_first =
       let a : Copy S M N K = first_copy sim only s in

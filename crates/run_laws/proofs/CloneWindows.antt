@@ -1,4 +1,4 @@
--- The window rule: from a front to the next one, each station of each clone may go by itself.
+-- The window rule: from a front to the next one, each station of each clone may run alone.
 use Rattle.std.proofs.Common.{ℕ, ◌+◌, ◌<◌, ◌≤◌, min, List, [], ◌∷◌, inl, inr, Option}
 use Rattle.std.proofs.Common.{Some, None, Bool, nat_lt, ◌==◌, refl, sym, ap, subst, arith}
 use Rattle.std.proofs.lemmas.Bool.{lt-ltb, ltb-true}
@@ -65,7 +65,7 @@ module _ {S M N : Type 0} {sim : Simulation S M N} {Good : ℕ → S → Type 0}
             omega arith;
       }
 
-  -- from a front to a bound that is not past the next front, the windows of each clone give its run
+  -- from a front to a bound that is not past the next front, the windows of each clone lead to its run
   pub windows_give_run : (cs : List Clone) (c : Clone) (front bound : ℕ) → In c cs → front ≤ bound →
       bound ≤ next_front sim cs front → WindowsGive sim c front bound
   windows_give_run cs c front bound i l b =

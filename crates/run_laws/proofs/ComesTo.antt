@@ -1,4 +1,4 @@
--- The results of a copy at a bound: itself where it is settled, one handling for all its clones, or its two halves.
+-- The results of a copy at a bound: itself if it is settled, one handling for all its clones, or its two halves.
 use Rattle.std.proofs.Common.{◌≡◌, ℕ, ◌+◌, ◌≤◌, ◌<◌, List, [], ◌∷◌, ◌++◌, ◌⊎◌, inl, inr}
 use Rattle.std.proofs.Common.{Bool, refl, sym, ap, ◌∙◌, subst, arith, nat_lt, length, take}
 use Rattle.std.specs.List.{AllByRecursion}
@@ -43,7 +43,7 @@ disjoint_append {S} {M} {N} {K} has (x ∷ xs) ys f g h = (
 
 module _ {S M N : Type 0} {sim : Simulation S M N} {Good : ℕ → S → Type 0} (law : HandlesLawfully sim Good)
     (end s : ℕ) where
-  -- a station that drops what it sends at an end or later is lawful too
+  -- a station that drops its sends at an end or later is lawful too
   pub until_lawful : IsLawful sim.time (local_step sim.to (handle_until sim end) s) (λ p. Good s p.state)
   until_lawful = record {
     keeps = λ p m g. law.keeps s p.state m g;
@@ -56,7 +56,7 @@ module _ {S M N : Type 0} {sim : Simulation S M N} {Good : ℕ → S → Type 0}
 
 module _ {S M N K : Type 0} {sim : Simulation S M N} {Good : ℕ → S → Type 0} (law : HandlesLawfully sim Good)
     {has : K → ℕ → Bool} {join : K → K → K} (j : JoinsMarks has join) (ends : ℕ → ℕ) (s bound : ℕ) where
-  -- what clone c sees
+  -- the view of clone c
   abbrev seen : ℕ → Copy S M N K → List (M × K) → Config (LocalStation S M N) M
   seen c r sent = view sim has ends c r sent
 
@@ -68,13 +68,13 @@ module _ {S M N K : Type 0} {sim : Simulation S M N} {Good : ℕ → S → Type 
   abbrev Settles : Config (LocalStation S M N) M → Type 0
   Settles = IsSettled sim.time bound
 
-  -- the logs that the clones come to, cut to the limit
+  -- the logs that the clones reach, cut to the limit
   abbrev Cut : Copy S M N K → List (M × K) → List (Entry M N) → Type 0
   Cut = IsCutLog sim has ends s bound
 
   -- ---- IsSettled
 
-  -- each clone of a copy comes to an end of its turns
+  -- each clone of a copy reaches an end of its turns
   pub turns-settle : (r : Copy S M N K) (sent : List (M × K)) (c : ℕ) → Good s r.state →
       SortedMarked sim.order r.pending → (d : Config (LocalStation S M N) M) × Goes c (seen c r sent) d × Settles d
   turns-settle r sent c g sorted =
@@ -96,7 +96,7 @@ module _ {S M N K : Type 0} {sim : Simulation S M N} {Good : ℕ → S → Type 
 
   -- ---- view
 
-  -- some of the clones of a copy see what they saw
+  -- some of the clones of a copy have the same view as before
   view-narrowed : (r some : Copy S M N K) (sent : List (M × K)) (c : ℕ) → IsNarrowed sim has ends r some →
       Carries has some c → seen c some sent ≡ seen c r sent
   view-narrowed r some sent c n h = let a = n.state in let b = n.log in let d = n.parts c h in cc
@@ -253,7 +253,7 @@ module _ {S M N K : Type 0} {sim : Simulation S M N} {Good : ℕ → S → Type 
     parts = λ c h. sym (ap (messages_taken sim has ends c) p ∙ part_no (takes sim has ends) c (m, k) q (none c h));
   }
 
-  -- a copy of the same clones, that see the same, comes to the same
+  -- a copy with the same clones and views has the same results
   pub comes_to-same : (r some : Copy S M N K) (results : List (Copy S M N K)) (before after : List (M × K))
       (over over_after : K) (n : ℕ) → IsNarrowed sim has ends r some → ((c : ℕ) → Carries has r c → Carries has some c)
       → ComesTo sim has ends s bound some results before after over over_after n →
@@ -282,7 +282,7 @@ module _ {S M N K : Type 0} {sim : Simulation S M N} {Good : ℕ → S → Type 
         others = λ c g. h.others c (false_from_ne_true (has some.set c) (λ i. false≢true (sym g ∙ nar.within c i)));
       }
 
-  -- a copy of which some clones take the least message and some do not comes to what its halves come to
+  -- if some clones of a copy take the least message and some do not, its results are those of its halves
   pub comes_to-split : (r r1 r2 : Copy S M N K) (m : M) (k : K) (q before mid after : List (M × K))
       (e1 e2 : List (Copy S M N K)) (over over1 over2 : K) (x1 x2 : ℕ) →
       length r.log ≤ sim.limit → r.pending ≡ (m, k) ∷ q → SortedMarked sim.order r.pending → sim.time m < bound →

@@ -1,5 +1,5 @@
--- One shared handling is a turn of each clone that takes the message, and clones of which one takes a message
--- and the other does not come to different logs.
+-- One shared handling is a turn of each clone that takes the message. If one clone takes a message and another does
+-- not, their logs differ.
 use Rattle.std.proofs.Common.{◌≡◌, ℕ, ◌<◌, ◌≤◌, List, [], ◌∷◌, ◌++◌, ◌⊎◌, inl, inr, Bool, true, false, not, ◌==◌, ◌&&◌}
 use Rattle.std.proofs.Common.{◌||◌, nat_lt, refl, sym, ap, ◌∙◌, subst, arith, append_assoc, append-nil, map}
 use Rattle.std.specs.List.{AllByRecursion, filter}
@@ -39,7 +39,7 @@ module _ {S M N : Type 0} (sim : Simulation S M N) (s bound : ℕ) where
       let x : Entry M N = entry_of sim s e.at.state n.m in
       (h.0 ++ x ∷ [], ap (λ u. u.at.log) n.is ∙ (ap (λ l. l ++ x ∷ []) h.1 ∙ append_assoc c.at.log h.0 (x ∷ [])))
 
-  -- where there is a message to handle, what the log gains begins with it
+  -- if there is a message to handle, the gains of the log begin with it
   pub log_begins : (end : ℕ) (c d : Config (LocalStation S M N) M) (m : M) (q : List M) → c.pending ≡ m ∷ q
       → sim.time m < bound →
       TurnsUntil end c d → IsSettled sim.time bound d →
@@ -102,7 +102,7 @@ module _ {S M N : Type 0} (sim : Simulation S M N) (s bound : ℕ) where
             other n.0 (subst (In n.0) (sym n.2) (inl refl)) (sym (ap (λ u. u.msg) h))
       ]
 
-  -- the same, and what each gained first is another entry
+  -- the same, and the first gains of the two are different entries
   pub firsts_part : (end1 end2 : ℕ) (c d c2 d2 : Config (LocalStation S M N) M) (m : M) (q : List M) (e : Entry M N)
       (u v : List (Entry M N)) → c.at.log ≡ d.at.log → c.pending ≡ m ∷ q → sim.time m < bound →
       ((z : M) → In z d.pending → z ≡ m → ⊥) → SettledOrNext d →
@@ -160,7 +160,7 @@ module _ {S M N K : Type 0} (sim : Simulation S M N) (has : K → ℕ → Bool) 
   taken_without k c xs e = filter_none (λ x. takes sim has ends x k c) xs
       (all_from (λ x. takes sim has ends x k c ≡ false) xs (λ x i. ap (λ b. b && nat_lt (sim.time x) (ends c)) e))
 
-  -- what is sent in a handling for other clones, clone c doesn't see
+  -- clone c does not see sends for other clones
   pub others_sent : (s c : ℕ) (a : Copy S M N K) (m : M) (sent : List (M × K)) → has a.set c ≡ false →
       messages_taken sim has ends c (sent ++ sends_aside sim s a m) ≡ messages_taken sim has ends c sent
   others_sent s c a m sent e =
@@ -171,7 +171,7 @@ module _ {S M N K : Type 0} (sim : Simulation S M N) (has : K → ℕ → Bool) 
       ∙ append-nil (messages_taken sim has ends c sent)
 
 module _ {S M N K : Type 0} (sim : Simulation S M N) (has : K → ℕ → Bool) (ends : ℕ → ℕ) (s : ℕ) where
-  -- what is sent to others for a set that has it, a clone sees laid aside, before its end
+  -- a clone sees sends to others laid aside if their set has it, before its end
   taken_aside : (c : ℕ) (k : K) (sends : List M) (sent : List (M × K)) → has k c ≡ true →
       messages_taken sim has ends c (sent ++ map (λ x. (x, k)) (to_others sim.to s sends))
       ≡ messages_taken sim has ends c sent
@@ -193,7 +193,7 @@ station_parts st log a b p q e f = cc
 
 module _ {S M N K : Type 0} (sim : Simulation S M N) {has : K → ℕ → Bool} {join : K → K → K} (j : JoinsMarks has join)
     (ends : ℕ → ℕ) (o : IsTimed sim.order sim.time) (s : ℕ) where
-  -- what is sent to itself for a set that has it, a clone has pending, before its end
+  -- a clone has sends to itself pending if their set has it, before its end
   taken_queue : (c : ℕ) (k : K) (sends : List M) (q : List (M × K)) → SortedMarked sim.order q → has k c ≡ true →
       messages_taken sim has ends c (insert_marked_all join sim.order (to_it sim.to s sends) k q) ≡ insert_all sim.order
       (to_it sim.to s (earlier_than sim.time (ends c) sends)) (messages_taken sim has ends c q)

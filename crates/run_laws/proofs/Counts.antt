@@ -78,7 +78,7 @@ module _ {X : Type 0} (same : X → X → Bool) (decides : (x y : X) → Decides
 
 -- ---- map, flat_map
 
--- what is in a mapped list comes from an element
+-- an element of a mapped list comes from an element
 pub in_map : {X Y : Type 0} (f : X → Y) (xs : List X) (y : Y) → In y (map f xs) → (x : X) × In x xs × (y ≡ f x)
 in_map f [] y i = absurd i
 in_map f (x ∷ xs) y (inl e) = (x, inl refl, e)
@@ -90,7 +90,7 @@ map_has f [] x i = absurd i
 map_has f (y ∷ xs) x (inl e) = inl (ap f e)
 map_has f (y ∷ xs) x (inr i) = inr (map_has f xs x i)
 
--- what is in the lists of the elements is in one of them
+-- an element of the lists of the elements is in one of them
 in_flat_map : {X Y : Type 0} (f : X → List Y) (xs : List X) (y : Y) → In y (flat_map f xs) →
     (x : X) × In x xs × In y (f x)
 in_flat_map f [] y i = absurd i
@@ -99,7 +99,7 @@ in_flat_map f (x ∷ xs) y i = elim (in_append (f x) (flat_map f xs) y i) [
   | inr a ↦ let h = in_flat_map f xs y a in (h.0, inr h.1, h.2)
 ]
 
--- and what is in one of them is in all
+-- and an element of one of them is in all
 flat_map_has : {X Y : Type 0} (f : X → List Y) (xs : List X) (x : X) (y : Y) → In x xs → In y (f x)
     → In y (flat_map f xs)
 flat_map_has f [] x y i l = absurd i
@@ -157,7 +157,7 @@ module _ {E : Type 0} where
   length-prefixes [] = refl
   length-prefixes (e ∷ es) = ap suc (length-map (prefixes es) (λ p. e ∷ p) ∙ length-prefixes es)
 
-  -- so many lists, cut to a length, have at most so many together
+  -- lists that are cut to length n have at most n prefixes each
   pub few_prefixes : (n : ℕ) (logs : List (List E)) → length (flat_map prefixes (map (take n) logs)) ≤ length logs * n
   few_prefixes n [] = omega arith
   few_prefixes n (l ∷ logs) =

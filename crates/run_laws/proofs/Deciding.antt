@@ -1,4 +1,4 @@
--- Copies stand for the clones after a decision, an end and a fork, where they stood for them before.
+-- Copies that represent the clones still do so after a decision, an end and a fork.
 use Rattle.std.proofs.Common.{◌≡◌, ℕ, ◌+◌, ◌≤◌, ◌<◌, List, [], ◌∷◌, ◌++◌, inl, inr, Bool, true, false, cond, ◌==◌, ◌&&◌}
 use Rattle.std.proofs.Common.{nat_lt, min, refl, sym, ap, ◌∙◌, subst, arith, length, length-set, eq-eqb}
 use Rattle.std.specs.List.{AllZip}
@@ -26,7 +26,7 @@ use Rattle.run_laws.proofs.Delivery.{zip_from, zip_each, one_of, disjoint_given,
 -- ---- messages_taken
 
 module _ {S M N K : Type 0} (sim : Simulation S M N) (has : K → ℕ → Bool) where
-  -- what a clone takes depends on its own end alone
+  -- the messages that a clone takes depend on its own end alone
   taken_ends : (e f : ℕ → ℕ) (c : ℕ) (xs : List (M × K)) → e c ≡ f c
       → messages_taken sim has e c xs ≡ messages_taken sim has f c xs
   taken_ends e f c xs same = part-congr (takes sim has e)
@@ -40,7 +40,7 @@ module _ {S M N K : Type 0} (sim : Simulation S M N) (has : K → ℕ → Bool) 
     | inr e ↦ e ∙ sym (and_right (nat_lt t end) (nat_lt t at) e)
   ]
 
-  -- with an earlier end a clone takes what comes before it
+  -- with an earlier end a clone takes the messages before it
   taken_earlier : (e f : ℕ → ℕ) (c : ℕ) (xs : List (M × K)) → f c ≤ e c →
       messages_taken sim has f c xs ≡ earlier_than sim.time (f c) (messages_taken sim has e c xs)
   taken_earlier e f c xs l = part-filter (takes sim has e) (takes sim has f)
@@ -48,14 +48,14 @@ module _ {S M N K : Type 0} (sim : Simulation S M N) (has : K → ℕ → Bool) 
 
   -- ---- Stands
 
-  -- a copy for the changed clones, against what it was
+  -- a copy for the changed clones, compared with the copy before
   record Matches (cs : List Clone) (front s : ℕ) (a b : Copy S M N K) : Type 0 where
     pub same : IsSameCopy a b
     pub due : (c : ℕ) → Carries has a c
         → messages_taken sim has (ends_of sim cs) c b.pending ≡ due_at sim (clone_at cs c) s front
     pub sorted : SortedMarked sim.order b.pending
 
-  -- copies that match those that stood for the clones stand for the changed clones
+  -- copies that match copies of the clones represent the changed clones
   stands_matched : (cs next : List Clone) (front s : ℕ) (copies done : List (Copy S M N K)) → length next ≡ length cs →
       ((c : ℕ) → log_at sim (clone_at next c) s front ≡ log_at sim (clone_at cs c) s front) →
       ((c : ℕ) → state_at sim (clone_at next c) s front ≡ state_at sim (clone_at cs c) s front) →
@@ -99,7 +99,7 @@ module _ {S M N K : Type 0} {sim : Simulation S M N} {Good : ℕ → S → Type 
     abbrev message : M
     message = sim.set_message (length (clone_at cs who).plans) p
 
-    -- what it changes of its clone
+    -- the change to its clone
     adds : AddsDue sim (clone_at cs who) p message front
     adds = decision_adds_due law (clone_at cs who) p front late
 
@@ -122,7 +122,7 @@ module _ {S M N K : Type 0} {sim : Simulation S M N} {Good : ℕ → S → Type 
     ends_added = set_cases (λ c k. end_of sim k ≡ end_of sim (clone_at cs c)) cs who
         (with_plan (clone_at cs who) p) is_there refl (λ c n. refl)
 
-    -- a late decision for another station leaves the copies of a station as they are
+    -- a late decision for another station does not change the copies of a station
     stands_other_decision : (copies : List (Copy S M N K)) → (sim.to message ≡ s → ⊥) →
         Stands sim has cs front s copies → Stands sim has (clones_with_plan cs who p) front s copies
     stands_other_decision copies not st =
@@ -173,7 +173,7 @@ module _ {S M N K : Type 0} {sim : Simulation S M N} {Good : ℕ → S → Type 
         (λ a i. let y = zip_each (IsGiven sim has (ends_of sim cs) message k) copies done a zip i in
         (y.0, y.1, y.2.same.set)) apart st
       where
-        -- what is due to each clone then
+        -- the messages due to each clone then
         given : (c : ℕ) →
             due_at sim (clone_at (clones_with_plan cs who p) c) s front
             ≡ cond (takes sim has (ends_of sim cs) message k c)
@@ -190,7 +190,7 @@ module _ {S M N K : Type 0} {sim : Simulation S M N} {Good : ℕ → S → Type 
             (insert sim.order message (due_at sim (clone_at cs c) s front)) (due_at sim (clone_at cs c) s front))
             (sym (of_who c ∙ ne_eqb who c (λ e. n (sym e)))))
 
-  -- an end at or after the front leaves the copies as they are
+  -- an end at or after the front does not change the copies
   pub stands_end : (copies : List (Copy S M N K)) (at : ℕ) → IsTimelyEnd sim (clone_at cs who) front at →
       Stands sim has cs front s copies → Stands sim has (clones_with_end cs who at) front s copies
   stands_end copies at end st =
@@ -231,7 +231,7 @@ module _ {S M N K : Type 0} (sim : Simulation S M N) (has : K → ℕ → Bool) 
   disjoint_forked ends new xs ys = disjoint_zip has (IsForked sim has ends old new) (origin_of old new)
       (λ a b c f i. sym (f.set c) ∙ i) xs ys
 
-  -- what holds of the new clone, which was the old one, and of the others, holds of each
+  -- a property of the new clone, which was the old one, and of the others holds of each
   fork_cases : (P : Clone → Clone → Type 0) →
       P (fork_of (clone_at cs old) name) (clone_at cs old)
       → ((k : Clone) → P k k) →
@@ -247,7 +247,7 @@ module _ {S M N K : Type 0} (sim : Simulation S M N) (has : K → ℕ → Bool) 
             (subst (λ t. P t (clone_at cs c)) (sym (clone_push_other cs k c n)) (b (clone_at cs c)))
       ]
 
-  -- a new clone beside its old one, which has no end
+  -- a new clone next to its old one, which has no end
   pub stands_fork : (front s : ℕ) (copies done : List (Copy S M N K)) → MayFork cs old →
       AllZip (IsForked sim has (ends_of sim cs) old (length cs)) copies done → Stands sim has cs front s copies →
       Stands sim has (clones_with_fork cs name old) front s done

@@ -1,4 +1,4 @@
--- Messages are given to copies one after the other, and then what the stations sent has reached them.
+-- Messages are given to copies one after another; then the stations' sends have reached them.
 use Rattle.std.proofs.Common.{◌≡◌, ℕ, List, [], ◌∷◌, ◌++◌, ◌⊎◌, inl, inr, Bool, true, cond, refl, sym, ap, ◌∙◌, subst}
 use Rattle.std.specs.List.{AllByRecursion, AllZip}
 use Rattle.std.proofs.lemmas.Bool.{cases_Bool}
@@ -17,7 +17,7 @@ use Rattle.run_laws.proofs.Parts.{part-append}
 -- ---- part
 
 module _ {M K : Type 0} (takes : M → K → ℕ → Bool) where
-  -- what a clone takes of a list with one message more
+  -- the messages that a clone takes of a list with one more message
   in_part_push : (c : ℕ) (xs : List (M × K)) (x : M × K) (z : M) → In z (part takes c (xs ++ x ∷ [])) →
       In z (part takes c xs) ⊎ ((takes x.0 x.1 c ≡ true) × (z ≡ x.0))
   in_part_push c xs x z i = elim (in_append (part takes c xs) (part takes c (x ∷ [])) z
@@ -26,13 +26,13 @@ module _ {M K : Type 0} (takes : M → K → ℕ → Bool) where
         | inr a ↦ elim (in_cons_if (takes x.0 x.1 c) x.0 [] z a) [ inl b ↦ inr b | inr b ↦ absurd b ]
       ]
 
-  -- it takes what it took
+  -- it takes the messages that it took
   part_push_old : (c : ℕ) (xs : List (M × K)) (x : M × K) (z : M) → In z (part takes c xs) →
       In z (part takes c (xs ++ x ∷ []))
   part_push_old c xs x z i = subst (In z) (sym (part-append takes c xs (x ∷ [])))
       (append_old (part takes c xs) (part takes c (x ∷ [])) z i)
 
-  -- and the message, where it does
+  -- and the new message, if it takes that
   part_push_new : (c : ℕ) (xs : List (M × K)) (x : M × K) (z : M) → takes x.0 x.1 c ≡ true → z ≡ x.0 →
       In z (part takes c (xs ++ x ∷ []))
   part_push_new c xs x z t e = subst (In z) (sym (part-append takes c xs (x ∷ [])))
@@ -91,7 +91,7 @@ module _ {S M N K : Type 0} (has : K → ℕ → Bool) where
       (subst (λ t. Carries has t c) f k) h)
   one_of (x ∷ xs) a b c d (inr i) (inr l) h k = one_of xs a b c d.1 i l h k
 
-  -- copies that match disjoint ones, and carry a clone only where these carry its origin, are disjoint
+  -- copies that match disjoint ones, and carry a clone only if these carry its origin, are disjoint
   pub disjoint_zip : (R : Copy S M N K → Copy S M N K → Type 0) (origin : ℕ → ℕ) →
       ((a b : Copy S M N K) (c : ℕ) → R a b → Carries has b c → Carries has a (origin c)) →
       (xs ys : List (Copy S M N K)) → AllZip R xs ys → Disjoint has xs → Disjoint has ys
@@ -185,7 +185,7 @@ module _ {S M N K : Type 0} (sim : Simulation S M N) (has : K → ℕ → Bool) 
 
 -- ---- IsDelivered
 
--- where the messages are, for each clone, those that the stations sent to s, all is delivered
+-- all is delivered if the messages are, for each clone, those that the stations sent to s
 pub IsDelivered-SoFarGiven : {S M N K : Type 0} (sim : Simulation S M N) (has : K → ℕ → Bool) (cs : List Clone) (s : ℕ)
     (sent : ℕ → List (M × K)) (msgs : List (M × K)) (new done : List (Copy S M N K)) →
     ((c : ℕ) (z : M) → In z (messages_taken sim has (ends_of sim cs) c msgs)

@@ -28,14 +28,14 @@ module _ {S M N : Type 0} (sim : Simulation S M N) where
   DueTo c front zero m = ⊥
   DueTo c front (suc n) m = DueTo c front n m ⊎ In m (due_at sim c (suc n) front)
 
-  -- the least time of the stations 1 to n is that of what is due at one of them
+  -- the least time of the stations 1 to n is that of the messages due at one of them
   least_to-is : (c : Clone) (front n : ℕ) → IsLeastTime sim.time (DueTo c front n) (least_to sim c front n)
   least_to-is c front zero = λ m i. i
   least_to-is c front (suc n) = least-either sim.time (DueTo c front n) (λ m. In m (due_at sim c (suc n) front))
       (least_to sim c front n) (least_time sim.time (due_at sim c (suc n) front)) (least_to-is c front n)
       (least_time-is sim.time (due_at sim c (suc n) front))
 
-  -- what is due at one of them is due in the clone
+  -- a message due at one of them is due in the clone
   is_due : (c : Clone) (front n : ℕ) (m : M) → DueTo c front n m → In m (all_due sim c front)
   is_due c front zero m h = absurd h
   is_due c front (suc n) m h = elim h [
@@ -43,7 +43,7 @@ module _ {S M N : Type 0} (sim : Simulation S M N) where
     | inr i ↦ (in_own sim.to (suc n) (all_due sim c front) m i).0
   ]
 
-  -- and what is due at each of them is so
+  -- and so is each message due at one of them
   due_there : (c : Clone) (front n s : ℕ) (m : M) → IsStationOf n s → In m (due_at sim c s front) → DueTo c front n m
   due_there c front zero s m here i = let low : 0 < s = here.0 in let high : s ≤ 0 = here.1 in
       absurd (omega (arith, low, high))
@@ -104,14 +104,14 @@ module _ {S M N : Type 0} (sim : Simulation S M N) (front : ℕ) where
   abbrev DueIn : List Clone → M → Type 0
   DueIn cs m = (c : Clone) × In c cs × In m (all_due sim c front)
 
-  -- the least due time of some clones is the least of what is due in one of them
+  -- the least due time of some clones is the least of the messages due in one of them
   pub least-is : (cs : List Clone) → IsLeastTime sim.time (DueIn cs) (least sim cs front)
   least-is [] = λ m h. h.1
   least-is (c ∷ cs) = least-of_same (least sim (c ∷ cs) front)
       (least-either sim.time (λ m. In m (all_due sim c front)) (DueIn cs) (least_of sim c front) (least sim cs front)
       (least_time-is sim.time (all_due sim c front)) (least-is cs))
     where
-      -- what is due in the first clone, or in one of the others, is due in one of all
+      -- a message due in the first clone, or in one of the others, is due in one of all
       to : (m : M) → In m (all_due sim c front) ⊎ DueIn cs m → DueIn (c ∷ cs) m
       to m (inl i) = (c, inl refl, i)
       to m (inr h) = (h.0, inr h.1, h.2)
@@ -159,7 +159,7 @@ module _ {S M N K : Type 0} {sim : Simulation S M N} {Good : ℕ → S → Type 
     (copies : ℕ → List (Copy S M N K))
     (there : AllAreForStations sim cs)
     (stand : (s : ℕ) → IsStation sim s → Stands sim has cs front s (copies s)) where
-  -- what a clone takes of a copy is due in the clone
+  -- a message that a clone takes of a copy is due in the clone
   due_if_taken : (m : M) → IsTaken K sim has cs copies m → DueIn sim front cs m
   due_if_taken m x =
       let st = stand x.station x.is_station in
@@ -171,7 +171,7 @@ module _ {S M N K : Type 0} {sim : Simulation S M N} {Good : ℕ → S → Type 
         (in_own sim.to x.station (all_due sim (clone_at cs x.clone) front) m d).0,
       )
 
-  -- and what is due in a clone, it takes of its copy
+  -- and a clone takes its due messages of its copy
   taken_if_due : (m : M) → DueIn sim front cs m → IsTaken K sim has cs copies m
   taken_if_due m h =
       let p = place_in cs h.0 h.1 in

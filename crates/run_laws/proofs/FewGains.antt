@@ -1,5 +1,5 @@
--- Counts are few: what copies gain is at most the limit for each of their clones, whether they stand for them or not,
--- and so is what a report counts.
+-- Bounds on counts: a copy gains at most the limit for each of its clones, whether it represents them or not. The
+-- counts of a report have the same bound.
 use Rattle.std.proofs.Common.{◌≡◌, ℕ, ◌+◌, ◌*◌, ◌≤◌, List, [], ◌∷◌, inl, inr}
 use Rattle.std.proofs.Common.{refl, sym, ap, ◌∙◌, subst, arith, length, map, take, Bool}
 use Rattle.std.specs.Prelude.{sum_by}
@@ -39,7 +39,7 @@ module _ {S M N K : Type 0} {sim : Simulation S M N} {Good : ℕ → S → Type 
     (has : K → ℕ → Bool) (ends : ℕ → ℕ) (s bound : ℕ) where
   module _ (r : Copy S M N K) (sent : List (M × K)) (good : Good s r.state)
       (sorted : SortedMarked sim.order r.pending) where
-    -- the log that a clone of the copy comes to
+    -- the log that a clone of the copy reaches
     abbrev last_log : ℕ → List (Entry M N)
     last_log c = (run_to sim.order (local_step sim.to (handle_until sim (ends c)) s) sim.time
         (view sim has ends c r sent) bound).at.log
@@ -101,7 +101,7 @@ module _ {S M N K : Type 0} {sim : Simulation S M N} {Good : ℕ → S → Type 
 -- ---- counts
 
 module _ {S M N : Type 0} (sim : Simulation S M N) where
-  -- where no log is beyond the limit
+  -- if no log is beyond the limit
   pub counts_are_few : (same : Entry M N → Entry M N → Bool) (cs : List Clone) (s front : ℕ) →
       AreWithinLimitAt sim cs s front →
       AreFew sim same cs s front

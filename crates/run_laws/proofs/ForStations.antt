@@ -18,7 +18,7 @@ use Rattle.run_laws.proofs.Worlds.{in_first_messages, in_set_messages, world_law
 
 module _ {S M N : Type 0} {sim : Simulation S M N} {Good : ℕ → S → Type 0} (law : HandlesLawfully sim Good)
     (stations : SendsToStations sim Good) where
-  -- what a world begins with is for stations
+  -- the first messages of a world are for stations
   begins_for_stations : (plans : List Planned) → AreForStations sim plans → (z : M)
       → In z (first_world sim plans).pending →
       IsStation sim (sim.to z)
@@ -34,7 +34,7 @@ module _ {S M N : Type 0} {sim : Simulation S M N} {Good : ℕ → S → Type 0}
         | inr j ↦ absurd j
       ]
 
-  -- what is pending in a run is for stations, and so is what it has handled
+  -- the pending messages of a run are for stations, and so are the handled ones
   run_for_stations : (plans : List Planned) (front : ℕ) → AreForStations sim plans →
       ((z : M) → In z (run sim plans front).pending → IsStation sim (sim.to z))
       × AllByRecursion (λ e. IsStation sim (sim.to e.msg)) (run sim plans front).at.trace
@@ -51,17 +51,17 @@ module _ {S M N : Type 0} {sim : Simulation S M N} {Good : ℕ → S → Type 0}
       ))
       (begins_fine law plans) (run_reached law plans front).0
 
-  -- what is pending in a run is for stations
+  -- the pending messages of a run are for stations
   pub pending_for_stations : (plans : List Planned) (front : ℕ) → AreForStations sim plans → (z : M) →
       In z (run sim plans front).pending → IsStation sim (sim.to z)
   pending_for_stations plans front there = (run_for_stations plans front there).0
 
-  -- and what a run has handled was for stations
+  -- and the handled messages of a run were for stations
   pub trace_for_stations : (plans : List Planned) (front : ℕ) → AreForStations sim plans →
       AllByRecursion (λ e. IsStation sim (sim.to e.msg)) (run sim plans front).at.trace
   trace_for_stations plans front there = (run_for_stations plans front there).1
 
-  -- and so is what is due
+  -- and so are the due ones
   pub due_is_for_stations : (c : Clone) (front : ℕ) (m : M) → AreForStations sim c.plans → In m (all_due sim c front) →
       IsStation sim (sim.to m)
   due_is_for_stations c front m there i = pending_for_stations c.plans (min front (end_of sim c)) there m

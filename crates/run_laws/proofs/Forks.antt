@@ -1,4 +1,4 @@
--- A fork of a clone without end is as that clone is, at every front.
+-- A fork of a clone without end equals that clone at every front.
 use Rattle.std.proofs.Common.{◌≡◌, ℕ, List, None, sym, ap}
 use Rattle.sim_base.specs.Clones.{Clone, fork_of}
 use Rattle.run_laws.specs.Simulation.{Simulation}
@@ -19,6 +19,6 @@ module _ {S M N : Type 0} (sim : Simulation S M N) (c : Clone) (name : List ℕ)
   pub log_at-fork : (s front : ℕ) → log_at sim fork s front ≡ log_at sim c s front
   log_at-fork s front = ap (λ x. log_at sim (record { name = name; plans = c.plans; end = x }) s front) (sym no_end)
 
-  -- and what is due in it is what is due in the clone
+  -- and its due messages are those of the clone
   pub all_due-fork : (front : ℕ) → all_due sim fork front ≡ all_due sim c front
   all_due-fork front = ap (λ x. all_due sim (record { name = name; plans = c.plans; end = x }) front) (sym no_end)

@@ -1,4 +1,4 @@
--- A log at a front is that part of any later log which comes before the front.
+-- A log at a front is the part of any later log before the front.
 use Rattle.std.proofs.Common.{◌≡◌, ℕ, ◌<◌, ◌≤◌, min, List, [], ◌∷◌, ◌++◌, inl}
 use Rattle.std.proofs.Common.{inr, cond, nat_lt, true, sym, ap, ◌∙◌, arith, append-nil, ◌==◌}
 use Rattle.std.specs.List.{AllByRecursion}
@@ -21,7 +21,7 @@ use Rattle.run_laws.proofs.Worlds.{world_lawful, run_reached, run_goes_on, entry
 -- ---- before
 
 module _ {S M N : Type 0} {sim : Simulation S M N} {Good : ℕ → S → Type 0} (law : HandlesLawfully sim Good) where
-  -- what was handled before a bound comes before it
+  -- the messages handled before a bound come before it
   pub trace_below : (plans : List Planned) (bound : ℕ)
       → AllByRecursion (λ e. sim.time e.msg < bound) (run sim plans bound).at.trace
   trace_below plans bound = reach_keeps (λ w. AllByRecursion (λ e. sim.time e.msg < bound) w.at.trace) tt
@@ -29,7 +29,7 @@ module _ {S M N : Type 0} {sim : Simulation S M N} {Good : ℕ → S → Type 0}
       (entry_of sim (sim.to m) (x.states (sim.to m)) m) h early)
       (run_reached law plans bound).0
 
-  -- where all entries come before a bound, all come before a later front
+  -- if all entries come before a bound, all come before a later front
   all_before : (front bound : ℕ) (es : List (Entry M N)) → bound ≤ front
       → AllByRecursion (λ e. sim.time e.msg < bound) es → entries_before sim front es ≡ es
   all_before front bound es l f = filter_all (λ e. nat_lt (sim.time e.msg) front) es

@@ -1,4 +1,4 @@
--- Handled once: the number of different prefixes of the clones' logs grows by what the copies gain, and there are as
+-- Handled once: the number of different prefixes of the clones' logs grows by the gains of the copies, and there are as
 -- many copies as different logs.
 --
 -- The lemmas `.._by_logs` of gains hold for any two times of a station. They have two premises. The messages that a
@@ -51,12 +51,12 @@ use Rattle.run_laws.proofs.Counts.{prefixes_count, few_prefixes, none_cut}
 
 -- ---- ++
 
--- where two lists together are empty, the first is
+-- if two lists together are empty, the first is
 nothing_first : {X : Type 0} (xs ys : List X) → xs ++ ys ≡ [] → xs ≡ []
 nothing_first [] ys e = refl
 nothing_first (x ∷ xs) ys e = absurd (cc)
 
--- a list that goes on is not empty
+-- a list with a further element is not empty
 pub begins_somehow : {X : Type 0} (xs p : List X) (f : X) (m : List X) → p ≡ xs ++ f ∷ m →
     (g : X) × (n : List X) × (p ≡ g ∷ n)
 begins_somehow [] p f m e = (f, m, e)
@@ -109,7 +109,7 @@ module _ {S M N : Type 0} {sim : Simulation S M N} {Good : ℕ → S → Type 0}
       (in_filter (λ e. sim.to e.msg == s) (run_of sim c front).at.trace e i).0 in
       lt-ltb (sim.time e.msg) front (omega arith))
 
-  -- a log at a front goes on to a later one
+  -- a log at a later front extends the log at a front
   log_at-goes_on : (c : Clone) (s front bound : ℕ) → front ≤ bound →
       (l : List (Entry M N)) × (log_at sim c s bound ≡ log_at sim c s front ++ l)
   log_at-goes_on c s front bound l =
@@ -129,7 +129,7 @@ module _ {S M N : Type 0} {sim : Simulation S M N} {Good : ℕ → S → Type 0}
       let k = length-append (log_at sim c s front) h.0 in
       omega (arith, e, k, long)
 
-  -- what is due at a front does not come before it
+  -- the due messages at a front do not come before it
   due_at-from_front : (c : Clone) (s front : ℕ) → AllByRecursion (λ m. front ≤ sim.time m) (due_at sim c s front)
   due_at-from_front c s front = all_from (λ m. front ≤ sim.time m) (due_at sim c s front) (λ z i.
       all_in (λ m. front ≤ sim.time m) (all_due sim c front) z (all_due-from_front law c front)
@@ -146,7 +146,7 @@ module _ {S M N K : Type 0} {sim : Simulation S M N} {Good : ℕ → S → Type 
     pub log_before : entries_before sim front a.log ≡ a.log
     pub from_front : AllByRecursion (λ m. front ≤ sim.time m) (messages_taken sim has ends c a.pending)
 
-  -- what a copy had before the front shows in what it gained
+  -- the entries of a gained prefix before the front are the log of the copy
   gained_before : (a : Copy S M N K) (p : List (Entry M N)) → ((c : ℕ) → Carries has a c → AtFront a c) →
       Gains sim has ends s bound a p → entries_before sim front p ≡ a.log
   gained_before a p at g =
@@ -209,7 +209,7 @@ module _ {S M N K : Type 0} {sim : Simulation S M N} {Good : ℕ → S → Type 
   together_push (a ∷ old) r n m h x = let e = h.4 in
       (h.0, h.1 + m, h.2, together_push old r h.1 m h.3 x, omega (arith, e))
 
-  -- what a copy gained is the same whatever others have laid aside
+  -- the gains of a copy are counted without the messages that others have laid aside
   pub gained_alone : (r : Copy S M N K) (out : List (M × K)) (n : ℕ) →
       ((c : ℕ) → Carries has r c → messages_taken sim has ends c out ≡ []) →
       IsCount (IsGained (IsCutLog sim has ends s bound r out) r.log) n → IsCount (Gains sim has ends s bound r) n
@@ -256,7 +256,7 @@ module _ {S M N K : Type 0} {sim : Simulation S M N} {Good : ℕ → S → Type 
     from_front = taken_late a c i h;
   }
 
-  -- what the copies gain together is what one of them gains
+  -- the copies' joint count of gains is the number of prefixes that one of them gains
   counted_together : (xs : List (Copy S M N K)) (n : ℕ) → ((a : Copy S M N K) → In a xs → In a old) → Disjoint has xs →
       GainTogether sim has (ends_of sim cs) s bound xs n → IsCount (GainedBy sim has (ends_of sim cs) s bound xs) n
   counted_together [] n within d e = subst (IsCount (GainedBy sim has (ends_of sim cs) s bound [])) (sym e)
@@ -308,7 +308,7 @@ module _ {S M N K : Type 0} {sim : Simulation S M N} {Good : ℕ → S → Type 
     abbrev New : List (Entry M N) → Type 0
     New = GainedBy sim has (ends_of sim cs) s bound old
 
-    -- handled once at the bound, of no log more than the limit: what was at the front, and what the copies gained
+    -- handled once at the bound, with each log cut to the limit: the number at the front, plus the gains of the copies
     pub handled_to_limit_by_logs : (same : Entry M N → Entry M N → Bool) (total : ℕ) →
         TellsEntries same → AreWithinLimitAt sim cs s front →
         GainTogether sim has (ends_of sim cs) s bound old total →
@@ -331,7 +331,7 @@ module _ {S M N K : Type 0} {sim : Simulation S M N} {Good : ℕ → S → Type 
         cut_there c l = map_has (take sim.limit) (logs_at sim cs s bound) (log_at sim (clone_at cs c) s bound)
             (log_there bound c l)
 
-        -- a cut log is the log at the front and what is left of the rest
+        -- a cut log is the log at the front, followed by the cut rest
         cut_on : (c : ℕ) → c < length cs → (h : List (Entry M N)) →
             log_at sim (clone_at cs c) s bound ≡ log_at sim (clone_at cs c) s front ++ h →
             take sim.limit (log_at sim (clone_at cs c) s bound) ≡ log_at sim (clone_at cs c) s front
@@ -438,7 +438,7 @@ module _ {S M N K : Type 0} {sim : Simulation S M N} {Good : ℕ → S → Type 
                   )
             ]
 
-    -- where no log gets too long, nothing is cut
+    -- if no log gets too long, nothing is cut
     pub handled_once_by_logs : (same : Entry M N → Entry M N → Bool) (total : ℕ) →
         TellsEntries same → AreWithinLimitAt sim cs s bound →
         GainTogether sim has (ends_of sim cs) s bound old total →
@@ -453,7 +453,7 @@ module _ {S M N K : Type 0} {sim : Simulation S M N} {Good : ℕ → S → Type 
         ∙ handled_to_limit_by_logs same total decides
         (λ c l long. short c l (IsBeyond-later law (clone_at cs c) s front bound later long)) together
 
-    -- and at most so much is handled once: as much as logs cut to the limit have
+    -- and at most this number is handled once: the total length of the logs cut to the limit
     pub handled_few_by_logs : (same : Entry M N → Entry M N → Bool) (total : ℕ) →
         TellsEntries same → AreWithinLimitAt sim cs s front →
         GainTogether sim has (ends_of sim cs) s bound old total →
@@ -555,7 +555,7 @@ module _ {S M N K : Type 0} {sim : Simulation S M N} {Good : ℕ → S → Type 
     over_is_beyond = over_by_logs law j cs s front bound old (stands_by_logs sim has cs front s old st)
         taken_from_front window_log later
 
-    -- handled once at the bound, of each log no more than the limit: what was at the front, and what the copies gained
+    -- handled once at the bound, with each log cut to the limit: the number at the front, plus the gains of the copies
     pub handled_grows_to_limit : (same : Entry M N → Entry M N → Bool) (total : ℕ) →
         TellsEntries same → AreWithinLimitAt sim cs s front →
         GainTogether sim has (ends_of sim cs) s bound old total →
@@ -571,7 +571,7 @@ module _ {S M N K : Type 0} {sim : Simulation S M N} {Good : ℕ → S → Type 
     handled_grows = handled_once_by_logs law j cs s front bound old (stands_by_logs sim has cs front s old st)
         taken_from_front window_log later
 
-    -- the limit for each clone bounds what is handled once
+    -- the limit for each clone bounds the number handled once
     pub handled_is_few : (same : Entry M N → Entry M N → Bool) (total : ℕ) →
         TellsEntries same → AreWithinLimitAt sim cs s front →
         GainTogether sim has (ends_of sim cs) s bound old total →

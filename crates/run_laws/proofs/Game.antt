@@ -1,4 +1,4 @@
--- The small simulation of the examples meets what the laws ask.
+-- The small simulation of the examples meets the requirements of the laws.
 use Rattle.std.proofs.Common.{◌≡◌, ℕ, ◌+◌, ◌-◌, ◌<◌, ◌≤◌, [], ◌∷◌, ◌⊎◌, nat_lt, inl, inr}
 use Rattle.std.proofs.Common.{Bool, true, false, cond, ◌==◌, Some, None, refl, sym, ap, ◌∙◌, arith}
 use Rattle.std.specs.declared.cmp.Ordering.TheVariants.{Equal}
@@ -43,13 +43,13 @@ one_of_two x y z false true (inl e) = inr e
 one_of_two x y z false true (inr n) = absurd n
 one_of_two x y z false false i = absurd i
 
--- what is sent is the ball, thrown back, or its bounce
+-- the sends are the ball, thrown back, or its bounce
 in_bounces : (s : ℕ) (m z : Ball) → In z (bounces s m) →
     (z ≡ ball (m.time + 3) 0 (3 - s)) ⊎ (z ≡ ball (m.time + 1) (m.number + 10) s)
 in_bounces s m z i = one_of_two (ball (m.time + 3) 0 (3 - s)) (ball (m.time + 1) (m.number + 10) s) z (m.number == 0)
     (nat_lt m.number 10) i
 
--- what is sent comes later
+-- the sends come later
 all_later : (t : ℕ) (x y : Ball) (b c : Bool) → t < x.time → t < y.time →
     AllByRecursion (λ z. t < z.time) (cond b (x ∷ []) (cond c (y ∷ []) []))
 all_later t x y true c h k = (h, tt)

@@ -1,4 +1,4 @@
--- What was handled once at a front: nothing at the start, and the same after a decision, an end and a fork.
+-- The number handled once at a front: 0 at the start, and unchanged by a decision, an end and a fork.
 use Rattle.std.proofs.Common.{◌≡◌, ℕ, zero, suc, ◌<◌, ◌≤◌, List, [], ◌∷◌, ◌++◌, inl, inr}
 use Rattle.std.proofs.Common.{Bool, refl, sym, ap, ◌∙◌, subst, arith, map, length, slice_set}
 use Rattle.std.specs.List.{flat_map}

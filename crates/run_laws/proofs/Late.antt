@@ -1,4 +1,4 @@
--- Decisions and ends at or after a front: what they change of a clone there.
+-- Decisions and ends at or after a front: the changes that they make to a clone there.
 use Rattle.std.proofs.Common.{◌≡◌, ℕ, suc, ◌+◌, ◌<◌, ◌≤◌, min, List, [], ◌∷◌, ◌++◌, ◌==◌, ◌&&◌}
 use Rattle.std.proofs.Common.{Bool, true, false, cond, nat_lt, refl, sym, ap, ◌∙◌, arith, append_assoc, length}
 use Rattle.std.specs.List.{filter}
@@ -49,7 +49,7 @@ module _ {S M N : Type 0} (sim : Simulation S M N) where
 
 -- ---- cond
 
--- a message that passes two tests, one after the other
+-- a message that passes two tests in turn
 both_tests : {M : Type 0} (cmp : M → M → Ordering) (b a : Bool) (m : M) (d l r : List M)
     → l ≡ cond a (insert cmp m r) r →
     cond b l r ≡ cond (b && a) (insert cmp m r) r
@@ -74,12 +74,12 @@ module _ {S M N : Type 0} {sim : Simulation S M N} {Good : ℕ → S → Type 0}
       ∙ run_late law.order (world_lawful law) front (first_world sim plans) (sim.set_message (length plans) p) l
       (begins_fine law plans)
 
-  -- what is due is in order
+  -- the due messages are in order
   pub due_sorted : (c : Clone) (front : ℕ) → Sorted sim.order (all_due sim c front)
   due_sorted c front = sorted_filter sim.order (λ m. nat_lt (sim.time m) (end_of sim c))
       (run_of sim c front).pending (run_fine law c.plans (min front (end_of sim c))).sorted
 
-  -- a decision at or after a front adds its message to what is due there
+  -- a decision at or after a front adds its message to the due ones there
   pub decision_adds_due : (c : Clone) (p : Planned) (front : ℕ)
       → front ≤ sim.time (sim.set_message (length c.plans) p) →
       AddsDue sim c p (sim.set_message (length c.plans) p) front
@@ -123,7 +123,7 @@ module _ {S M N : Type 0} {sim : Simulation S M N} {Good : ℕ → S → Type 0}
       (λ z i. let h = in_filter (λ m. nat_lt (sim.time m) at) (earlier_than sim.time end q) z i in
       filter_keeps (λ m. nat_lt (sim.time m) at) q z (in_filter (λ m. nat_lt (sim.time m) end) q z h.0).0 h.1)
 
-  -- an end at or after a front drops what is due from it on
+  -- an end at or after a front drops the due messages from it on
   pub end_drops_due : (c : Clone) (at front : ℕ) → IsTimelyEnd sim c front at → DropsDue sim c at front
   end_drops_due c at front end =
       let late = end.late in

@@ -1,4 +1,4 @@
--- The least time of messages: by what holds of them, and of lists in order.
+-- The least time of messages: of those with a property, and of lists in order.
 use Rattle.std.proofs.Common.{◌≡◌, ◌⊎◌, ℕ, ◌<◌, ◌≤◌, min, List, [], ◌∷◌, Option, Some, None}
 use Rattle.std.proofs.Common.{true, false, cond, nat_lt, inl, inr, refl, sym, ap, ◌∙◌, arith}
 use Rattle.std.specs.declared.cmp.Ordering.{Ordering}
@@ -35,7 +35,7 @@ module _ {M : Type 0} (time : M → ℕ) where
     ],
   )
 
-  -- there is one least time, also where two properties hold of the same messages
+  -- there is one least time, also if two properties hold of the same messages
   pub least-unique : (P Q : M → Type 0) (t u : Option ℕ) → ((m : M) → P m → Q m) → ((m : M) → Q m → P m) →
       IsLeastTime time P t → IsLeastTime time Q u → t ≡ u
   least-unique P Q None None f g a b = refl
@@ -98,7 +98,7 @@ module _ {M : Type 0} {cmp : M → M → Ordering} {time : M → ℕ} (o : IsTim
       ap (earlier (Some (time m))) (least-first y ys s.1)
       ∙ ap Some (let e : min (time m) (time y) ≡ time m = omega (arith, l) in e)
 
-  -- of the messages before a time the least stays, where it comes before it
+  -- the least time stays for the messages before a time, if it comes before that time
   pub least-earlier_than : (at : ℕ) (q : List M) → Sorted cmp q →
       least_time time (earlier_than time at q) ≡ time_before at (least_time time q)
   least-earlier_than at [] s = refl

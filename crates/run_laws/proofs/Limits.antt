@@ -22,7 +22,7 @@ use Rattle.run_laws.proofs.CopyViews.{log_grows, log_begins, firsts_part, settle
 
 -- ---- take
 
--- a list that goes on, cut where its first part is not longer than the limit
+-- a list and a further part, cut, if the first part is not longer than the limit
 pub cut_goes_on : {E : Type 0} (limit : ℕ) (xs g : List E) → length xs ≤ limit →
     take limit (xs ++ g) ≡ xs ++ take (limit - length xs) g
 cut_goes_on limit xs g l =
@@ -35,7 +35,7 @@ first_of_cut zero g x u e = absurd (cc)
 first_of_cut (suc n) [] x u e = absurd (cc)
 first_of_cut (suc n) (y ∷ g) x u e = let h : y ≡ x = cc in (g, ap (λ t. t ∷ g) h)
 
--- a log that goes on behind one entry more, cut
+-- a log with one more entry and a further part, cut
 cut_more : {E : Type 0} (limit : ℕ) (short : List E) (x : E) (log l : List E) → length short < limit →
     l ≡ take limit log → (g : List E) × (log ≡ (short ++ x ∷ []) ++ g) → (g : List E) × (l ≡ (short ++ x ∷ []) ++ g)
 cut_more limit short x log l less e h =
@@ -73,7 +73,7 @@ module _ {S M N K : Type 0} (sim : Simulation S M N) (has : K → ℕ → Bool) 
       let k : length (x ∷ h.0) ≡ suc (length h.0) = refl in
       omega (arith, e, a, b, k)
 
-  -- what a cut log gained first, the log gained first
+  -- the first gain of a cut log is the first gain of the log
   first_gained : (r : Copy S M N K) (sent : List (M × K)) (t : List (Entry M N))
       (g : IsCutLog sim has ends s bound r sent t) (x : Entry M N) (u : List (Entry M N)) → length r.log ≤ sim.limit →
       t ≡ r.log ++ x ∷ u → (v : List (Entry M N)) × (g.last.at.log ≡ r.log ++ x ∷ v)

@@ -1,4 +1,4 @@
--- What is in a part of a list, in two lists together, and at a place.
+-- The elements of a part of a list, of two lists together, and at a place.
 use Rattle.std.proofs.Common.{◌≡◌, ℕ, List, [], ◌∷◌, ◌++◌, ◌⊎◌, inl, inr, Bool, true}
 use Rattle.std.proofs.Common.{false, cond, not, refl, sym, ap, ◌∙◌, subst, ◌==◌, eq-eqb, eqb-true}
 use Rattle.std.proofs.Common.{zero, suc, ◌<◌, Some, length, arith, slice_get, slice_set}
@@ -17,7 +17,7 @@ use Rattle.run_laws.proofs.Queue.{all_in, all_from, in_insert, insert_old, inser
 
 -- ---- filter
 
--- what a test leaves in is in the list and passes
+-- the elements of a filtered list are in the list and pass
 pub in_filter : {X : Type 0} (p : X → Bool) (xs : List X) (z : X) → In z (filter p xs) → In z xs × (p z ≡ true)
 in_filter p [] z i = absurd i
 in_filter p (x ∷ xs) z i = elim (in_cons_if (p x) x (filter p xs) z i) [
@@ -25,7 +25,7 @@ in_filter p (x ∷ xs) z i = elim (in_cons_if (p x) x (filter p xs) z i) [
   | inr j ↦ let h = in_filter p xs z j in (inr h.0, h.1)
 ]
 
--- and what is in the list and passes is left in
+-- and an element of the list that passes is kept
 pub filter_keeps : {X : Type 0} (p : X → Bool) (xs : List X) (z : X) → In z xs → p z ≡ true → In z (filter p xs)
 filter_keeps p [] z i t = absurd i
 filter_keeps p (x ∷ xs) z (inl e) t = cons_if_new (p x) x (filter p xs) z (ap p (sym e) ∙ t) e
@@ -45,12 +45,12 @@ sorted_filter cmp p (x ∷ xs) s = sorted_cons_if cmp (p x) x (filter p xs)
     (all_from (λ y. cmp x y ≡ Less) (filter p xs) (λ z i. all_in (λ y. cmp x y ≡ Less) xs z s.0 (in_filter p xs z i).0))
     (sorted_filter cmp p xs s.1)
 
--- where all pass, nothing is left out
+-- if all pass, nothing is left out
 pub filter_all : {X : Type 0} (p : X → Bool) (xs : List X) → AllByRecursion (λ x. p x ≡ true) xs → filter p xs ≡ xs
 filter_all p [] f = refl
 filter_all p (x ∷ xs) f = ap (λ b. cond b (x ∷ filter p xs) (filter p xs)) f.0 ∙ ap (λ l. x ∷ l) (filter_all p xs f.1)
 
--- where none passes, all is left out
+-- if none passes, all are left out
 pub filter_none : {X : Type 0} (p : X → Bool) (xs : List X) → AllByRecursion (λ x. p x ≡ false) xs → filter p xs ≡ []
 filter_none p [] f = refl
 filter_none p (x ∷ xs) f = ap (λ b. cond b (x ∷ filter p xs) (filter p xs)) f.0 ∙ filter_none p xs f.1
@@ -103,7 +103,7 @@ module _ {X : Type 0} {cmp : X → X → Ordering} (o : IsOrder cmp) (p : X → 
       ])
       (λ z i. let h = in_filter p q z i in filter_keeps p (insert cmp x q) z (insert_old o x q z h.0) h.1)
 
-  -- what a test leaves of an insertion
+  -- the filtered list after an insertion
   pub filter-insert : filter p (insert cmp x q) ≡ cond (p x) (insert cmp x (filter p q)) (filter p q)
   filter-insert = filter_insert_by (p x) refl
 
@@ -114,7 +114,7 @@ module _ {X : Type 0} {cmp : X → X → Ordering} (o : IsOrder cmp) (p : X → 
   insert_all-cond true x xs q = refl
   insert_all-cond false x xs q = refl
 
-  -- what a test leaves of the insertion of several
+  -- the filtered list after several insertions
   pub filter-insert_all : (xs q : List X) → Sorted cmp q →
       filter p (insert_all cmp xs q) ≡ insert_all cmp (filter p xs) (filter p q)
   filter-insert_all [] q s = refl
@@ -125,24 +125,24 @@ module _ {X : Type 0} {cmp : X → X → Ordering} (o : IsOrder cmp) (p : X → 
 
 -- ---- ++
 
--- what is in two lists together is in one of them
+-- an element of two lists together is in one of them
 pub in_append : {X : Type 0} (xs ys : List X) (z : X) → In z (xs ++ ys) → In z xs ⊎ In z ys
 in_append [] ys z i = inr i
 in_append (x ∷ xs) ys z (inl e) = inl (inl e)
 in_append (x ∷ xs) ys z (inr j) = elim (in_append xs ys z j) [ inl k ↦ inl (inr k) | inr k ↦ inr k ]
 
--- what is in the first list is in both together
+-- an element of the first list is in both together
 pub append_old : {X : Type 0} (xs ys : List X) (z : X) → In z xs → In z (xs ++ ys)
 append_old [] ys z i = absurd i
 append_old (x ∷ xs) ys z (inl e) = inl e
 append_old (x ∷ xs) ys z (inr j) = inr (append_old xs ys z j)
 
--- and what is in the second
+-- and so is an element of the second
 pub append_new : {X : Type 0} (xs ys : List X) (z : X) → In z ys → In z (xs ++ ys)
 append_new [] ys z i = i
 append_new (x ∷ xs) ys z i = inr (append_new xs ys z i)
 
--- an element behind all is in order at the end
+-- an element after all others is in order at the end
 pub sorted_append : {X : Type 0} (cmp : X → X → Ordering) (xs : List X) (y : X) → Sorted cmp xs →
     AllByRecursion (λ x. cmp x y ≡ Less) xs → Sorted cmp (xs ++ y ∷ [])
 sorted_append cmp [] y s f = (tt, tt)
@@ -150,7 +150,7 @@ sorted_append cmp (x ∷ xs) y s f = (all_push (λ z. cmp x z ≡ Less) xs y s.0
 
 -- ---- slice_get
 
--- what stands in a list with one element more at the end
+-- the elements of a list with one more at the end
 pub slice_get-push : {X : Type 0} (xs : List X) (y x : X) (i : ℕ) → slice_get (xs ++ y ∷ []) i ≡ Some x
     → (slice_get xs i ≡ Some x) ⊎ ((i ≡ length xs) × (x ≡ y))
 slice_get-push [] y x zero e = inr (refl, same_Some x y (sym e))
@@ -168,7 +168,7 @@ slice_get-set_same [] i x l = absurd (omega (arith, l))
 slice_get-set_same (y ∷ ys) zero x l = refl
 slice_get-set_same (y ∷ ys) (suc i) x l = slice_get-set_same ys i x (omega (arith, l))
 
--- and elsewhere what stood there
+-- and elsewhere the old elements
 pub slice_get-set_other : {X : Type 0} (xs : List X) (i j : ℕ) (x : X) → (i ≡ j → ⊥)
     → slice_get (slice_set xs j x) i ≡ slice_get xs i
 slice_get-set_other [] i j x n = refl
@@ -184,7 +184,7 @@ module _ {M : Type 0} (to : M → ℕ) where
   pub in_own : (s : ℕ) (xs : List M) (z : M) → In z (to_it to s xs) → In z xs × (to z ≡ s)
   in_own s xs z i = let h = in_filter (λ m. to m == s) xs z i in (h.0, eqb-true (to z) s h.1)
 
-  -- what is among them and to the station is one of them
+  -- a message among them to the station is one of them
   pub own_from : (s : ℕ) (xs : List M) (z : M) → In z xs → to z ≡ s → In z (to_it to s xs)
   own_from s xs z i e = filter_keeps (λ m. to m == s) xs z i (eq-eqb (to z) s e)
 
@@ -193,6 +193,6 @@ module _ {M : Type 0} (to : M → ℕ) where
   in_others s xs z i = let h = in_filter (λ m. not (to m == s)) xs z i in
       (h.0, λ e. false≢true (sym (ap not (eq-eqb (to z) s e)) ∙ h.1))
 
-  -- what is among them and to another is one of them
+  -- a message among them to another is one of them
   pub others_from : (s : ℕ) (xs : List M) (z : M) → In z xs → (to z ≡ s → ⊥) → In z (to_others to s xs)
   others_from s xs z i n = filter_keeps (λ m. not (to m == s)) xs z i (ap not (ne_eqb (to z) s n))

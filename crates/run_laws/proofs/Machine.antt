@@ -1,4 +1,4 @@
--- What a machine reaches by its turns: there is one way to go, and where it ends is determined.
+-- The states that a machine reaches by its turns: there is one path, and its end is determined.
 use Rattle.std.proofs.Common.{◌≡◌, ℕ, ◌≤◌, ◌<◌, List, ◌∷◌, ◌⊎◌, inl, inr, refl, sym, ap, ◌∙◌, subst, arith}
 use Rattle.std.specs.declared.cmp.Ordering.{Ordering}
 use Rattle.std.specs.List.{AllByRecursion}
@@ -62,9 +62,9 @@ module _ {X M : Type 0} {cmp : M → M → Ordering} {time : M → ℕ} {handle 
       Reach cmp time handle bound c e → IsSettled time bound e → d ≡ e
   ends_same r f s g = elim (reach_line r s) [ inl t ↦ sym (is_settled-stays f t) | inr t ↦ is_settled-stays g t ]
 
-  -- ---- Reach, and what each turn keeps
+  -- ---- Reach, and the invariants of each turn
 
-  -- what holds at the start and is kept by each turn holds at the end
+  -- a property that holds at the start and that each turn keeps holds at the end
   pub reach_keeps : {c d : Config X M} (P : Config X M → Type 0) → P c →
       ((x : X) (m : M) (q : List M) → time m < bound → P (record { at = x; pending = m ∷ q })
       → P (config_after cmp handle x m q)) →

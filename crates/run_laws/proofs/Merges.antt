@@ -1,4 +1,4 @@
--- What is in two merged lists, and their order.
+-- The elements of two merged lists, and their order.
 use Rattle.std.proofs.Common.{◌≡◌, List, [], ◌∷◌, ◌⊎◌, inl, inr, refl, sym, ap, ◌∙◌, subst}
 use Rattle.std.specs.Ordering.{ordering_reverse}
 use Rattle.std.specs.declared.cmp.Ordering.{Ordering}
@@ -13,7 +13,7 @@ use Rattle.run_laws.specs.Merges.{merge_by, merge_at, merge}
 -- ---- In
 
 module _ {X : Type 0} (cmp : X → X → Ordering) where
-  -- what is in a merge with x, by what is in the merge of the rest
+  -- the elements of a merge with x, by those of the merge of the rest
   in_merge_by : (r : Ordering) (x y : X) (xs ys with_x with_y : List X) (z : X) →
       (In z with_x → In z xs ⊎ In z (y ∷ ys)) → (In z with_y → In z (x ∷ xs) ⊎ In z ys) →
       In z (merge_by r x y with_x with_y) → In z (x ∷ xs) ⊎ In z (y ∷ ys)
@@ -24,7 +24,7 @@ module _ {X : Type 0} (cmp : X → X → Ordering) where
   in_merge_by Greater x y xs ys with_x with_y z f g (inl e) = inr (inl e)
   in_merge_by Greater x y xs ys with_x with_y z f g (inr i) = elim (g i) [ inl a ↦ inl a | inr b ↦ inr (inr b) ]
 
-  -- by where the merge puts x
+  -- by the place where the merge puts x
   in_merge_at : (x : X) (xs : List X) (rest : List X → List X) →
       ((ys : List X) (z : X) → In z (rest ys) → In z xs ⊎ In z ys) → (ys : List X) (z : X) →
       In z (merge_at cmp x rest ys) → In z (x ∷ xs) ⊎ In z ys
@@ -33,12 +33,12 @@ module _ {X : Type 0} (cmp : X → X → Ordering) where
   in_merge_at x xs rest f (y ∷ ys) z i = in_merge_by (cmp x y) x y xs ys (rest (y ∷ ys))
       (merge_at cmp x rest ys) z (f (y ∷ ys) z) (in_merge_at x xs rest f ys z) i
 
-  -- what is in a merge is in one of the lists
+  -- an element of a merge is in one of the lists
   pub in_merge : (xs ys : List X) (z : X) → In z (merge cmp xs ys) → In z xs ⊎ In z ys
   in_merge [] ys z i = inr i
   in_merge (x ∷ xs) ys z i = in_merge_at x xs (merge cmp xs) (in_merge xs) ys z i
 
-  -- what is in one of two lists is in their merge, by which of their first elements goes first
+  -- an element of one of two lists is in their merge, by the lesser of their first elements
   merge_by_has : (r : Ordering) (x y : X) (xs ys with_x with_y : List X) (z : X) →
       (In z xs ⊎ In z (y ∷ ys) → In z with_x) → (In z (x ∷ xs) ⊎ In z ys → In z with_y) →
       In z (x ∷ xs) ⊎ In z (y ∷ ys) → In z (merge_by r x y with_x with_y)
@@ -52,7 +52,7 @@ module _ {X : Type 0} (cmp : X → X → Ordering) where
   merge_by_has Greater x y xs ys with_x with_y z f g (inr (inl e)) = inl e
   merge_by_has Greater x y xs ys with_x with_y z f g (inr (inr i)) = inr (g (inr i))
 
-  -- by where the merge puts x
+  -- by the place where the merge puts x
   merge_at_has : (x : X) (xs : List X) (rest : List X → List X) →
       ((ys : List X) (z : X) → In z xs ⊎ In z ys → In z (rest ys)) → (ys : List X) (z : X) → In z (x ∷ xs) ⊎ In z ys →
       In z (merge_at cmp x rest ys)
@@ -62,7 +62,7 @@ module _ {X : Type 0} (cmp : X → X → Ordering) where
   merge_at_has x xs rest f (y ∷ ys) z i = merge_by_has (cmp x y) x y xs ys (rest (y ∷ ys))
       (merge_at cmp x rest ys) z (f (y ∷ ys) z) (merge_at_has x xs rest f ys z) i
 
-  -- and what is in one of the lists is in the merge
+  -- and an element of one of the lists is in the merge
   pub merge_has : (xs ys : List X) (z : X) → In z xs ⊎ In z ys → In z (merge cmp xs ys)
   merge_has [] ys z (inl i) = absurd i
   merge_has [] ys z (inr i) = i
@@ -71,7 +71,7 @@ module _ {X : Type 0} (cmp : X → X → Ordering) where
 -- ---- Sorted
 
 module _ {X : Type 0} {cmp : X → X → Ordering} (total : IsTotalOrder cmp) where
-  -- what comes before the heads of both comes before all of the merge
+  -- an element before the heads of both comes before all of the merge
   before_merge : (a : X) (xs ys : List X) → AllByRecursion (λ z. cmp a z ≡ Less) xs →
       AllByRecursion (λ z. cmp a z ≡ Less) ys → AllByRecursion (λ z. cmp a z ≡ Less) (merge cmp xs ys)
   before_merge a xs ys f g = all_from (λ z. cmp a z ≡ Less) (merge cmp xs ys) (λ z i. elim (in_merge cmp xs ys z i) [

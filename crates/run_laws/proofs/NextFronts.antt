@@ -33,7 +33,7 @@ module _ {S M N : Type 0} (sim : Simulation S M N) where
   window_end-earlier b (Some t) None l k = l
   window_end-earlier b (Some t) (Some u) l k = omega (arith, l, k)
 
-  -- a window whose messages come at a front or later goes on by the lookahead
+  -- a window whose messages come at a front or later extends by the lookahead
   window_end-far : (front : ℕ) (q : List M) → AllByRecursion (λ m. front ≤ sim.time m) q →
       min sim.horizon (front + sim.lookahead) ≤ window_end sim (least_time sim.time q)
   window_end-far front [] a = omega arith
@@ -45,7 +45,7 @@ module _ {S M N : Type 0} (sim : Simulation S M N) where
 -- ---- next_front
 
 module _ {S M N : Type 0} {sim : Simulation S M N} {Good : ℕ → S → Type 0} (law : HandlesLawfully sim Good) where
-  -- what is due at a front comes at it or later
+  -- the due messages at a front come at it or later
   pub all_due-from_front : (c : Clone) (front : ℕ) → AllByRecursion (λ m. front ≤ sim.time m) (all_due sim c front)
   all_due-from_front c front = all_from (λ m. front ≤ sim.time m) (all_due sim c front) (λ m i.
       let h = in_filter (λ m. nat_lt (sim.time m) (end_of sim c)) (run_of sim c front).pending m i in
@@ -55,7 +55,7 @@ module _ {S M N : Type 0} {sim : Simulation S M N} {Good : ℕ → S → Type 0}
       let b : sim.time m < end_of sim c = ltb-true (sim.time m) (end_of sim c) h.1 in
       omega (arith, a, b))
 
-  -- each window may go on by the lookahead
+  -- each window may extend by the lookahead
   pub next_front-far : (cs : List Clone) (front : ℕ) → min sim.horizon (front + sim.lookahead) ≤ next_front sim cs front
   next_front-far [] front = omega arith
   next_front-far (c ∷ cs) front = window_end-earlier sim (min sim.horizon (front + sim.lookahead))

@@ -1,4 +1,4 @@
--- The numbers of a run's messages, by induction over its turns.
+-- The sequence numbers of a run's messages, by induction over its turns.
 use Rattle.std.proofs.Common.{◌≡◌, ℕ, suc, ◌+◌, ◌*◌, ◌<◌, ◌≤◌, min, List, [], ◌∷◌, ◌++◌}
 use Rattle.std.proofs.Common.{◌⊎◌, inl, inr, refl, sym, ap, ◌∙◌, subst, arith, map, length, length-append}
 use Rattle.std.specs.declared.cmp.Ordering.{Ordering}
@@ -31,7 +31,7 @@ use Rattle.run_laws.proofs.Rising.{begins_fresh, trace_rises, numbers_are_once}
 
 -- ---- In
 
--- what is in a list with one element more at the end
+-- the elements of a list with one more at the end
 in_push : {X : Type 0} (xs : List X) (x z : X) → In z (xs ++ x ∷ []) → In z xs ⊎ (z ≡ x)
 in_push xs x z i = elim (in_append xs (x ∷ []) z i) [
   | inl j ↦ inl j
@@ -39,7 +39,7 @@ in_push xs x z i = elim (in_append xs (x ∷ []) z i) [
 ]
 
 module _ {X Y : Type 0} (f : X → Y) (cmp : Y → Y → Ordering) (total : IsTotalOrder cmp) where
-  -- what comes before another differs from it
+  -- an element before another differs from it
   Sorted-differ : (x : X) (xs : List X) (y : X) → Sorted cmp (map f (x ∷ xs)) → In y xs → f x ≡ f y → ⊥
   Sorted-differ x xs y s i e =
       let l : cmp (f x) (f y) ≡ Less = all_in (λ y. cmp (f x) y ≡ Less) (map f xs) (f y) s.0 (map_has f xs y i) in
@@ -47,7 +47,7 @@ module _ {X Y : Type 0} (f : X → Y) (cmp : Y → Y → Ordering) (total : IsTo
       let t = tied_itself total (f x) in
       cc
 
-  -- elements of one image, where the images rise, are one
+  -- elements with the same image are equal if the images rise
   same_image : (xs : List X) (x y : X) → Sorted cmp (map f xs) → In x xs → In y xs → f x ≡ f y → x ≡ y
   same_image [] x y s i j e = absurd i
   same_image (z ∷ zs) x y s (inl a) (inl b) e = a ∙ sym b
@@ -130,7 +130,7 @@ module _ {S M N : Type 0} {sim : Simulation S M N} {Good : ℕ → S → Type 0}
   set_messages_low k (p ∷ ps) z (inr i) =
       let h = set_messages_low (suc k) ps z i in let n = h.1 in (h.0, omega (arith, n))
 
-  -- a world begins so, where its decisions are for stations
+  -- a world starts like this if its decisions are for stations
   used_numbers-first_world : (plans : List Planned) → AreForStations sim plans →
       HasUsedNumbers plans (first_world sim plans)
   used_numbers-first_world plans there =
@@ -165,7 +165,7 @@ module _ {S M N : Type 0} {sim : Simulation S M N} {Good : ℕ → S → Type 0}
       (begins_fine law plans) (run_reached law plans front).0
 
   module _ (c : Clone) (front : ℕ) (there : AreForStations sim c.plans) where
-    -- no two entries have one sender and number
+    -- no two entries have the same sender and number
     pub entries_apart : (e f : Entry M N) → In e (run_of sim c front).at.trace → In f (run_of sim c front).at.trace →
         sender e.msg ≡ sender f.msg → number e.msg ≡ number f.msg → e ≡ f
     entries_apart e f i j s n =
@@ -226,7 +226,7 @@ module _ {S M N : Type 0} {sim : Simulation S M N} {Good : ℕ → S → Type 0}
         | inr a ↦ let l = next_low (sender m) a.0 in let k = a.1 in inr (a.0, omega (arith, l, k))
       ]
 
-      -- below a bound, where no log is beyond the limit
+      -- below a bound, if no log is beyond the limit
       pub numbers_fit : (bound : ℕ) (m : M) → IsWithinLimit sim front c →
           length c.plans ≤ bound → most * (sim.limit + 1) ≤ bound → IsMessageOf (run_of sim c front) m
           → number m < bound

@@ -1,4 +1,4 @@
--- What clone c takes of marked messages, after an insertion and of lists together.
+-- The marked messages that clone c takes, after an insertion and of lists together.
 use Rattle.std.proofs.Common.{◌≡◌, ℕ, List, [], ◌∷◌, ◌++◌, Bool, true, false, cond}
 use Rattle.std.proofs.Common.{refl, sym, ap, ◌∙◌, subst, ◌&&◌, ◌||◌, map, inl, inr}
 use Rattle.std.specs.declared.cmp.Ordering.{Ordering}
@@ -21,12 +21,12 @@ module _ {M K : Type 0} (takes : M → K → ℕ → Bool) where
       part takes c (x ∷ xs) ≡ x.0 ∷ part takes c xs
   part_yes c x xs e = ap (λ b. cond b (x.0 ∷ part takes c xs) (part takes c xs)) e
 
-  -- where it doesn't, it takes of the rest
+  -- if it does not, it takes the rest
   pub part_no : (c : ℕ) (x : M × K) (xs : List (M × K)) → takes x.0 x.1 c ≡ false →
       part takes c (x ∷ xs) ≡ part takes c xs
   part_no c x xs e = ap (λ b. cond b (x.0 ∷ part takes c xs) (part takes c xs)) e
 
-  -- what comes before all comes before all that a clone takes
+  -- an element before all others comes before all that a clone takes
   pub above_part : (cmp : M → M → Ordering) (c : ℕ) (m : M) (q : List (M × K)) → Above cmp m q →
       AllByRecursion (λ y. cmp m y ≡ Less) (part takes c q)
   above_part cmp c m [] f = tt
@@ -35,7 +35,7 @@ module _ {M K : Type 0} (takes : M → K → ℕ → Bool) where
     | inr e ↦ subst (AllByRecursion (λ y. cmp m y ≡ Less)) (sym (part_no c x q e)) (above_part cmp c m q f.1)
   ]
 
-  -- what a clone takes is in order
+  -- the messages that a clone takes are in order
   pub sorted_part : (cmp : M → M → Ordering) (c : ℕ) (q : List (M × K)) → SortedMarked cmp q
       → Sorted cmp (part takes c q)
   sorted_part cmp c [] s = tt
@@ -44,7 +44,7 @@ module _ {M K : Type 0} (takes : M → K → ℕ → Bool) where
     | inr e ↦ subst (Sorted cmp) (sym (part_no c x q e)) (sorted_part cmp c q s.1)
   ]
 
-  -- what holds of each message that a clone takes holds of all that it takes
+  -- a property of each message that a clone takes holds of all that it takes
   pub all_part : (c : ℕ) (P : M → Type 0) (q : List (M × K)) → ((x : M) (k : K) → takes x k c ≡ true → P x) →
       AllByRecursion P (part takes c q)
   all_part c P [] f = tt
@@ -53,7 +53,7 @@ module _ {M K : Type 0} (takes : M → K → ℕ → Bool) where
     | inr e ↦ subst (AllByRecursion P) (sym (part_no c x q e)) (all_part c P q f)
   ]
 
-  -- what holds of all messages holds of all that a clone takes
+  -- a property of all messages holds of all that a clone takes
   pub all_part_of : (c : ℕ) (P : M → Type 0) (q : List (M × K)) → AllByRecursion (λ x. P x.0) q →
       AllByRecursion P (part takes c q)
   all_part_of c P [] f = tt
@@ -62,7 +62,7 @@ module _ {M K : Type 0} (takes : M → K → ℕ → Bool) where
     | inr e ↦ subst (AllByRecursion P) (sym (part_no c x q e)) (all_part_of c P q f.1)
   ]
 
-  -- what a clone takes of two lists together
+  -- the messages that a clone takes of two lists together
   pub part-append : (c : ℕ) (xs ys : List (M × K)) → part takes c (xs ++ ys) ≡ part takes c xs ++ part takes c ys
   part-append c [] ys = refl
   part-append c (x ∷ xs) ys = elim (cases_Bool (takes x.0 x.1 c)) [
@@ -71,7 +71,7 @@ module _ {M K : Type 0} (takes : M → K → ℕ → Bool) where
     | inr e ↦ part_no c x (xs ++ ys) e ∙ (part-append c xs ys ∙ ap (λ l. l ++ part takes c ys) (sym (part_no c x xs e)))
   ]
 
-  -- what a clone takes of messages with the same marks
+  -- the messages that a clone takes of messages with the same marks
   pub part-map : (c : ℕ) (k : K) (xs : List M) → part takes c (map (λ x. (x, k)) xs) ≡ filter (λ x. takes x k c) xs
   part-map c k [] = refl
   part-map c k (x ∷ xs) = ap (λ l. cond (takes x k c) (x ∷ l) l) (part-map c k xs)
@@ -83,13 +83,13 @@ part-congr t u c d [] f = refl
 part-congr t u c d (x ∷ xs) f = ap (λ l. cond (t x.0 x.1 c) (x.0 ∷ l) l) (part-congr t u c d xs f)
     ∙ ap (λ b. cond b (x.0 ∷ part u d xs) (part u d xs)) (f x.0 x.1)
 
--- a message passes a test where it is taken
+-- a message passes a test if it is taken
 filter_both : {M : Type 0} (p : M → Bool) (b : Bool) (x : M) (l : List M) →
     cond (b && p x) (x ∷ filter p l) (filter p l) ≡ filter p (cond b (x ∷ l) l)
 filter_both p true x l = refl
 filter_both p false x l = refl
 
--- with one test more it takes what passes that
+-- with a further test it takes the messages that pass it
 pub part-filter : {M K : Type 0} (t u : M → K → ℕ → Bool) (p : M → Bool) (c : ℕ) (xs : List (M × K)) →
     ((m : M) (k : K) → u m k c ≡ (t m k c && p m)) → part u c xs ≡ filter p (part t c xs)
 part-filter t u p c [] f = refl
@@ -130,7 +130,7 @@ module _ {M K : Type 0} (takes : M → K → ℕ → Bool) (join : K → K → K
   case_greater false true x y q r e h = ap (λ l. y ∷ l) h
   case_greater false false x y q r e h = h
 
-  -- by where the message goes
+  -- by the place of the message
   part_place : (r : Ordering) (c : ℕ) (x : M) (k : K) (y : M × K) (ys rest : List (M × K)) → cmp x y.0 ≡ r →
       SortedMarked cmp (y ∷ ys) → part takes c rest ≡ gets (takes x k c) x (part takes c ys) →
       part takes c (place_marked join r x k y ys rest) ≡ gets (takes x k c) x (part takes c (y ∷ ys))

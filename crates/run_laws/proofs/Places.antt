@@ -17,7 +17,7 @@ clone_set_other : (cs : List Clone) (who c : ℕ) (k : Clone) → (c ≡ who →
     clone_at (slice_set cs who k) c ≡ clone_at cs c
 clone_set_other cs who c k n = ap (λ o. unwrap_or o nobody) (slice_get-set_other cs c who k n)
 
--- what holds of the changed clone, and of the others as they were, holds of each
+-- a property of the changed clone, and of the unchanged others, holds of each
 pub set_cases : (P : ℕ → Clone → Type 0) (cs : List Clone) (who : ℕ) (k : Clone) → who < length cs → P who k →
     ((c : ℕ) → (c ≡ who → ⊥) → P c (clone_at cs c)) → (c : ℕ) → P c (clone_at (slice_set cs who k) c)
 set_cases P cs who k l a b c = elim (cases_eq c who) [
@@ -28,7 +28,7 @@ set_cases P cs who k l a b c = elim (cases_eq c who) [
 
 -- ---- clone_at of ++
 
--- the new clone has the place behind the others
+-- the new clone has the place after the others
 pub clone_push_same : (cs : List Clone) (k : Clone) → clone_at (cs ++ k ∷ []) (length cs) ≡ k
 clone_push_same [] k = refl
 clone_push_same (x ∷ xs) k = clone_push_same xs k

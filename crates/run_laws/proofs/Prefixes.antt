@@ -1,4 +1,4 @@
--- Counting: two counts together, that a count is unique, and the prefixes that logs gained.
+-- Counting: sums of two counts, uniqueness of a count, and the prefixes that logs gained.
 use Rattle.std.proofs.Common.{◌≡◌, ℕ, suc, ◌+◌, ◌≤◌, List, [], ◌∷◌, ◌++◌, ◌⊎◌, inl}
 use Rattle.std.proofs.Common.{inr, refl, sym, ap, ◌∙◌, subst, arith, append_assoc, length, length-append}
 use Rattle.std.proofs.lemmas.List.{append_cancel_left}
@@ -19,7 +19,7 @@ apart_append (x ∷ xs) ys a b f = (
 
 -- ---- IsCount
 
--- what holds of the same elements has the same count
+-- a property with the same elements has the same count
 pub count_same : {X : Type 0} (P Q : X → Type 0) (n : ℕ) → ((x : X) → P x → Q x) → ((x : X) → Q x → P x) → IsCount P n →
     IsCount Q n
 count_same P Q n f g h = record {
@@ -88,7 +88,7 @@ module _ {E : Type 0} where
   longer_than_itself xs x ys e = let h = ap length e in let k = length-append xs (x ∷ ys) in
       let l : length (x ∷ ys) ≡ suc (length ys) = refl in omega (arith, h, k, l)
 
-  -- what was gained is in the log, behind what was there
+  -- a gain is in the log, after the old part
   gained_by : (short p log : List E) (x : E) (q t : List E) → p ≡ short ++ x ∷ q → log ≡ p ++ t →
       log ≡ short ++ x ∷ (q ++ t)
   gained_by short p log x q t e f = f ∙ (ap (λ u. u ++ t) e ∙ append_assoc short (x ∷ q) t)
@@ -150,7 +150,7 @@ module _ {E : Type 0} where
     number = let k = h.number in omega (arith, k);
   }
     where
-      -- by what comes behind the entry
+      -- by the elements after the entry
       by_more : (q p log t : List E) → p ≡ short ++ e ∷ q → Log log → log ≡ p ++ t
           → In p ((short ++ e ∷ []) ∷ h.members)
       by_more [] p log t a b c = inl a
@@ -166,7 +166,7 @@ module _ {E : Type 0} where
             prefix = c;
           }))
 
-  -- what is gained of a log is so wherever that is one of the logs
+  -- a gain of a log is a gain for every set of logs that has this log
   gained_of : (Log Log2 : List E → Type 0) (short p : List E) (g : IsGained Log short p) → Log2 g.log
       → IsGained Log2 short p
   gained_of Log Log2 short p g is = record {

@@ -1,4 +1,4 @@
--- Lists in order: what an insertion adds and keeps, and that the elements determine the list.
+-- Ordered lists: the effect of an insertion, and that the elements determine the list.
 use Rattle.std.proofs.Common.{◌≡◌, List, [], ◌∷◌, ◌++◌, ◌⊎◌, inl, inr, refl, sym, ap, ◌∙◌, subst}
 use Rattle.std.specs.Ordering.{ordering_reverse}
 use Rattle.std.specs.declared.cmp.Ordering.{Ordering}
@@ -11,13 +11,13 @@ use Rattle.run_laws.specs.Handlers.{IsOrder}
 
 -- ---- AllByRecursion
 
--- what holds of all holds of each element
+-- a property of all holds of each element
 pub all_in : {X : Type 0} (P : X → Type 0) (xs : List X) (x : X) → AllByRecursion P xs → In x xs → P x
 all_in P [] x h i = absurd i
 all_in P (y ∷ ys) x h (inl e) = subst P (sym e) h.0
 all_in P (y ∷ ys) x h (inr i) = all_in P ys x h.1 i
 
--- what holds of each element holds of all
+-- a property of each element holds of all
 pub all_from : {X : Type 0} (P : X → Type 0) (xs : List X) → ((x : X) → In x xs → P x) → AllByRecursion P xs
 all_from P [] f = tt
 all_from P (y ∷ ys) f = (f y (inl refl), all_from P ys (λ x i. f x (inr i)))
@@ -39,7 +39,7 @@ module _ {X : Type 0} {cmp : X → X → Ordering} (total : IsTotalOrder cmp) wh
 
   -- ---- Sorted
 
-  -- behind equal heads the rests have the same elements
+  -- after equal heads the rests have the same elements
   rest_in : (x y : X) (p q : List X) → x ≡ y → AllByRecursion (λ z. cmp x z ≡ Less) p →
       ((z : X) → In z (x ∷ p) → In z (y ∷ q)) → (z : X) → In z p → In z q
   rest_in x y p q e l f z i = elim (f z (inr i)) [
@@ -48,7 +48,7 @@ module _ {X : Type 0} {cmp : X → X → Ordering} (total : IsTotalOrder cmp) wh
     | inr j ↦ j
   ]
 
-  -- two lists in order with the same elements are one, even where the order does not tell all elements apart
+  -- two ordered lists with the same elements are equal, even if the order does not separate all elements
   pub same_elements : (p q : List X) → Sorted cmp p → Sorted cmp q → ((z : X) → In z p → In z q) →
       ((z : X) → In z q → In z p) → p ≡ q
   same_elements [] [] s t f g = refl
@@ -68,7 +68,7 @@ module _ {X : Type 0} {cmp : X → X → Ordering} (total : IsTotalOrder cmp) wh
 
 -- ---- insert, insert_all
 
--- what is in a list after an element was put in its place
+-- the elements of a list after an insertion
 in_insert_by : {X : Type 0} (r : Ordering) (x y : X) (ys rest : List X) (z : X) → (In z rest → (z ≡ x) ⊎ In z ys) →
     In z (insert_by r x y ys rest) → (z ≡ x) ⊎ In z (y ∷ ys)
 in_insert_by Less x y ys rest z f i = i
@@ -76,7 +76,7 @@ in_insert_by Equal x y ys rest z f i = inr i
 in_insert_by Greater x y ys rest z f (inl e) = inr (inl e)
 in_insert_by Greater x y ys rest z f (inr j) = elim (f j) [ inl e ↦ inl e | inr k ↦ inr (inr k) ]
 
--- what was there stays
+-- the old elements stay
 insert_by_old : {X : Type 0} (r : Ordering) (x y : X) (ys rest : List X) (z : X) → (In z ys → In z rest) →
     In z (y ∷ ys) → In z (insert_by r x y ys rest)
 insert_by_old Less x y ys rest z f i = inr i
@@ -97,7 +97,7 @@ module _ {X : Type 0} {cmp : X → X → Ordering} (o : IsOrder cmp) where
   in_insert x [] z i = i
   in_insert x (y ∷ ys) z i = in_insert_by (cmp x y) x y ys (insert cmp x ys) z (in_insert x ys z) i
 
-  -- what was there stays
+  -- the old elements stay
   pub insert_old : (x : X) (q : List X) (z : X) → In z q → In z (insert cmp x q)
   insert_old x [] z i = absurd i
   insert_old x (y ∷ ys) z i = insert_by_old (cmp x y) x y ys (insert cmp x ys) z (insert_old x ys z) i
@@ -136,7 +136,7 @@ module _ {X : Type 0} {cmp : X → X → Ordering} (o : IsOrder cmp) where
     | inr j ↦ elim (in_insert x q z j) [ inl e ↦ inl (inl e) | inr k ↦ inr k ]
   ]
 
-  -- what was there stays
+  -- the old elements stay
   pub insert_all_old : (xs q : List X) (z : X) → In z q → In z (insert_all cmp xs q)
   insert_all_old [] q z i = i
   insert_all_old (x ∷ xs) q z i = insert_all_old xs (insert cmp x q) z (insert_old x q z i)
@@ -153,7 +153,7 @@ module _ {X : Type 0} {cmp : X → X → Ordering} (o : IsOrder cmp) where
   sorted_insert_all [] q s = s
   sorted_insert_all (x ∷ xs) q s = sorted_insert_all xs (insert cmp x q) (sorted_insert x q s)
 
-  -- what holds of the new and of the old elements holds of all after an insertion
+  -- a property of the new and of the old elements holds of all after an insertion
   pub all_insert_all : (P : X → Type 0) (xs q : List X) → AllByRecursion P xs → AllByRecursion P q →
       AllByRecursion P (insert_all cmp xs q)
   all_insert_all P xs q f g = all_from P (insert_all cmp xs q) (λ z i. elim (in_insert_all xs q z i) [
@@ -161,12 +161,12 @@ module _ {X : Type 0} {cmp : X → X → Ordering} (o : IsOrder cmp) where
     | inr j ↦ all_in P q z g j
   ])
 
-  -- what follows the head of a list in order is not the head
+  -- the elements after the head of a list in order are not the head
   pub not_head : (m : X) (q : List X) (z : X) → Sorted cmp (m ∷ q) → In z q → z ≡ m → ⊥
   not_head m q z s i e =
       not_below_itself o.total m (subst (λ y. cmp m y ≡ Less) e (all_in (λ y. cmp m y ≡ Less) q z s.0 i))
 
-  -- the least of a list, where a part has it, is the head of the part
+  -- if a part has the least of a list, it is the head of the part
   pub same_head : (m : X) (q p : List X) → Sorted cmp (m ∷ q) → Sorted cmp p → In m p →
       ((z : X) → In z p → In z (m ∷ q)) → (r : List X) × (p ≡ m ∷ r)
   same_head m q [] s t i f = absurd i

@@ -47,7 +47,7 @@ module _ {S M N : Type 0} {sim : Simulation S M N} {Good : ℕ → S → Type 0}
       (run_reached law c.plans (min front (end_of sim c))).0
       s
 
-  -- clones whose logs at a station are equal have it in one state
+  -- clones with equal logs at a station have it in the same state
   pub equal_logs_equal_states : (c d : Clone) (s front : ℕ) → log_at sim c s front ≡ log_at sim d s front →
       state_at sim c s front ≡ state_at sim d s front
   equal_logs_equal_states c d s front e = state_is_replay c s front

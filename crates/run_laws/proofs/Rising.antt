@@ -1,4 +1,4 @@
--- The trace of a run rises strictly by time, sender and number, since no two messages of a run have one sender and
+-- The trace of a run rises strictly by time, sender and number, since no two messages of a run have the same sender and
 -- number.
 use Rattle.std.proofs.Common.{◌≡◌, ℕ, suc, ◌<◌, min, List, [], ◌∷◌, ◌++◌, ◌⊎◌}
 use Rattle.std.proofs.Common.{inl, inr, refl, sym, ap, ◌∙◌, subst, arith, map}
@@ -29,7 +29,7 @@ use Rattle.run_laws.proofs.Worlds.{entry_of, world_lawful, begins_fine, run_reac
 -- ---- key_order
 
 module _ {M : Type 0} (time sender number : M → ℕ) where
-  -- keys that tie have one sender and number
+  -- keys that tie have the same sender and number
   key_same : (x y : M) → key_order time sender number x y ≡ Equal → (sender x ≡ sender y) × (number x ≡ number y)
   key_same x y e =
       let h = three_same (time x) (sender x) (number x) (time y) (sender y) (number y) e in
@@ -71,7 +71,7 @@ module _ {S M N : Type 0} {sim : Simulation S M N} {Good : ℕ → S → Type 0}
             ]
         | inr j ↦ elim (cases z j) [ inl k ↦ inl k | inr k ↦ inr (inr (inr k)) ]
       ] in
-      -- what is sent has a number that no message had
+      -- the sends have numbers that no message had
       let new : (z y : M) → In z sent → IsMessageOf (record { at = x; pending = m ∷ q }) y → sender z ≡ sender y
       → number z ≡ number y → ⊥ = λ z y i j e n.
       let sz = fresh.mine r st m z here g i in
@@ -80,7 +80,7 @@ module _ {S M N : Type 0} {sim : Simulation S M N} {Good : ℕ → S → Type 0}
         | inl a ↦ omega (arith, above_0)
         | inr a ↦ let b = subst (λ r. number y < next (x.states r)) (sym e ∙ sz) a in omega arith
       ] in
-      -- all that is pending then comes after what was handled
+      -- all pending messages then come after the handled ones
       let above : (z : M) → In z (insert_all sim.order sent q) → key_order sim.time sender number m z ≡ Less =
       λ z i. elim (cases z i) [
         | inl j ↦ ordering_then-lt (sim.time m) (sim.time z) _
@@ -146,7 +146,7 @@ module _ {S M N : Type 0} {sim : Simulation S M N} {Good : ℕ → S → Type 0}
       absurd (omega (arith, n, a, b))
   set_messages_apart k (p ∷ ps) z y (inr i) (inr j) n = set_messages_apart (suc k) ps z y i j n
 
-  -- a world begins so, where its decisions are for stations
+  -- a world starts like this if its decisions are for stations
   pub begins_fresh : (plans : List Planned) → AreForStations sim plans → Fresh (first_world sim plans)
   begins_fresh plans there =
       let first : List M = first_messages sim sim.stations in
@@ -204,7 +204,7 @@ module _ {S M N : Type 0} {sim : Simulation S M N} {Good : ℕ → S → Type 0}
       Sorted (key_order sim.time sender number) (map (λ e. e.msg) (run_of sim c front).at.trace)
   trace_rises c front there = (run_fresh c front there).rising
 
-  -- and no two of its messages have one sender and number
+  -- and no two of its messages have the same sender and number
   pub numbers_are_once : (c : Clone) (front : ℕ) (z y : M) → AreForStations sim c.plans →
       IsMessageOf (run_of sim c front) z → IsMessageOf (run_of sim c front) y → sender z ≡ sender y →
       number z ≡ number y → z ≡ y

@@ -1,4 +1,4 @@
--- All windows of a run together gain what is handled once.
+-- All windows of a run together gain the number handled once.
 use Rattle.std.proofs.Common.{◌≡◌, ℕ, ◌+◌, ◌<◌, ◌≤◌, List, [], ◌∷◌, Bool, sym, ap, ◌∙◌, arith}
 use Rattle.sim_base.specs.Clones.{Clone, clone_at}
 use Rattle.sim_base.specs.declared.entry.Entry.{Entry}

@@ -1,4 +1,4 @@
--- The run to a bound: it reaches where nothing before the bound is left, and this determines it.
+-- The run to a bound: it reaches a state with no message before the bound, and is determined by this.
 use Rattle.std.proofs.Common.{◌≡◌, ℕ, zero, suc, ◌≤◌, ◌<◌, List, [], ◌∷◌, inl}
 use Rattle.std.proofs.Common.{inr, cond, refl, sym, ap, ◌∙◌, subst, arith, ◌==◌, eq-eqb}
 use Rattle.std.specs.declared.cmp.Ordering.{Ordering}
@@ -37,7 +37,7 @@ module _ {M : Type 0} (time : M → ℕ) where
   count_no : (t : ℕ) (m : M) (q : List M) → (time m ≡ t → ⊥) → count_at time t (m ∷ q) ≡ count_at time t q
   count_no t m q n = rw (ne_eqb (time m) t n)
 
-  -- where none comes at a time, all come after it
+  -- if none comes at a time, all come after it
   none_at : (t : ℕ) (q : List M) → count_at time t q ≡ 0 → AllByRecursion (λ m. t ≤ time m) q →
       AllByRecursion (λ m. suc t ≤ time m) q
   none_at t [] e f = tt
@@ -46,7 +46,7 @@ module _ {M : Type 0} (time : M → ℕ) where
     | inr n ↦ let a : t ≤ time m = f.0 in (omega arith, none_at t q (sym (count_no t m q n) ∙ e) f.1)
   ]
 
-  -- where some are counted, one comes at the time
+  -- if some are counted, one comes at the time
   some_at : (t n : ℕ) (q : List M) → count_at time t q ≡ suc n → (m : M) × In m q × (time m ≡ t)
   some_at t n [] e = absurd (omega (arith, e))
   some_at t n (m ∷ q) e = elim (cases_eq (time m) t) [
@@ -83,7 +83,7 @@ module _ {M : Type 0} {cmp : M → M → Ordering} {time : M → ℕ} (o : IsTim
   head_least m q z s (inl e) = let h = ap time e in omega (arith, h)
   head_least m q z s (inr j) = o.timed m z (all_in (λ y. cmp m y ≡ Less) q z s.0 j)
 
-  -- a later message goes behind an earlier one
+  -- a later message goes after an earlier one
   later_place : (r : Ordering) (x m : M) (q rest : List M) → cmp x m ≡ r → time m < time x
       → insert_by r x m q rest ≡ m ∷ rest
   later_place Less x m q rest e l = let h = o.timed x m e in absurd (omega arith)
@@ -118,7 +118,7 @@ module _ {X M : Type 0} {cmp : M → M → Ordering} {time : M → ℕ} {handle 
   fine_reach t f stay = f
   fine_reach {bound} {c} {d} t f (go {d = e} r n) = fine_next bound t e d (fine_reach t f r) n
 
-  -- what holds at the start and is kept by each turn of a fine machine holds at the end
+  -- a property that holds at the start and that each turn of a good machine keeps holds at the end
   pub fine_keeps : {bound : ℕ} {c d : Config X M} (t : ℕ) (P : Config X M → Type 0) → P c →
       ((x : X) (m : M) (q : List M) → Fine cmp time Good t (record { at = x; pending = m ∷ q }) → time m < bound
       → P (record { at = x; pending = m ∷ q }) → P (config_after cmp handle x m q)) →
@@ -167,12 +167,12 @@ module _ {X M : Type 0} {cmp : M → M → Ordering} {time : M → ℕ} {handle 
       let r = turns_reach bound t (count_at time t d.pending) d.at d.pending (omega arith) h.1 refl in
       (reach_trans h.0 r.0, r.1)
 
-  -- whatever turns lead to where nothing before the bound is left, that is the run
+  -- if turns lead to a state with no message before the bound, that is the run
   pub run_is : (bound : ℕ) (c d : Config X M) → Fine cmp time Good 0 c → Reach cmp time handle bound c d →
       IsSettled time bound d → d ≡ run_to cmp handle time c bound
   run_is bound c d f r e = let h = run_reach bound bound c (omega arith) f in ends_same r e h.0 h.1.from_t
 
-  -- a run to one bound goes on to a later one
+  -- a run to one bound continues to a later one
   pub run_on : (front bound : ℕ) (c : Config X M) → front ≤ bound → Fine cmp time Good 0 c →
       run_to cmp handle time (run_to cmp handle time c front) bound ≡ run_to cmp handle time c bound
   run_on front bound c l f =

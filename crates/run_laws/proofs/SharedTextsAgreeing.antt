@@ -1,4 +1,4 @@
--- Clones whose decisions agree below a time have one trace before it.
+-- Clones whose decisions agree below a time have the same trace before it.
 use Rattle.std.proofs.Common.{◌≡◌, ℕ, suc, ◌≤◌, min, List, [], ◌∷◌, ◌++◌, inl}
 use Rattle.std.proofs.Common.{inr, Bool, cond, nat_lt, refl, sym, ap, ◌∙◌, arith}
 use Rattle.std.proofs.lemmas.List.Elements.{filter-append}
@@ -62,7 +62,7 @@ module _ {S M N : Type 0} {sim : Simulation S M N} {Good : ℕ → S → Type 0}
   worlds_agree ps qs t e =
       let first : List M = first_messages sim sim.stations in
       let x : World S M N = (first_world sim []).at in
-      -- where the first messages and the decisions below the time lead to
+      -- the states that the first messages and the decisions below the time lead to
       let world : List M → World S M N = λ l.
       state_at_bound law.order (world_lawful law) x (insert_all sim.order l []) t in
       let below : List Planned → List M = λ plans. earlier_than sim.time t (set_messages sim 0 plans) in
@@ -77,7 +77,7 @@ module _ {S M N : Type 0} {sim : Simulation S M N} {Good : ℕ → S → Type 0}
       entries_before sim t (trace_of sim c) ≡ (run sim c.plans t).at.trace
   before_time c t l k = trace_at_front law c.plans t (min sim.horizon (end_of sim c)) (omega arith)
 
-  -- two clones whose decisions below a time are equal have one trace before it, if neither ends earlier
+  -- two clones whose decisions below a time are equal have the same trace before it, if neither ends earlier
   pub traces_agree : (c d : Clone) (t : ℕ) → t ≤ end_of sim c → t ≤ end_of sim d → t ≤ sim.horizon →
       earlier_than sim.time t (set_messages sim 0 c.plans) ≡ earlier_than sim.time t (set_messages sim 0 d.plans) →
       entries_before sim t (trace_of sim c) ≡ entries_before sim t (trace_of sim d)
@@ -101,7 +101,7 @@ module _ {S M N : Type 0} (sim : Simulation S M N) where
         let e = tells.at k p in
         left_out t (sim.set_message k p) (set_messages sim (suc k) ps) (omega (arith, e, l))
 
-    -- below where they part, two lists have the same decisions
+    -- before they diverge, two lists have the same decisions
     agree_below : (most k t : ℕ) (ps qs : List Planned) → t ≤ parting_time same most ps qs →
         earlier_than sim.time t (set_messages sim k ps) ≡ earlier_than sim.time t (set_messages sim k qs)
     agree_below most k t [] [] l = refl
@@ -135,7 +135,7 @@ module _ {S M N : Type 0} (sim : Simulation S M N) where
   ]
 
 module _ {S M N : Type 0} {sim : Simulation S M N} {Good : ℕ → S → Type 0} (law : HandlesLawfully sim Good) where
-  -- clones have one trace up to where their lists part
+  -- clones have the same trace until their lists diverge
   pub agree_to_parting : (same : Planned → Planned → Bool) (c d : Clone) → TellsPlans sim same →
       end_of sim c ≤ sim.horizon → end_of sim d ≤ sim.horizon →
       entries_before sim (parting_of sim same c d) (trace_of sim c)

@@ -1,4 +1,4 @@
--- How long the lines of a trace are together, out of the logs; and what of them two clones share.
+-- The total length of a trace's lines, from the logs, and the lines that two clones share.
 use Rattle.std.proofs.Common.{◌≡◌, ℕ, zero, suc, ◌+◌, ◌<◌, ◌≤◌, List, [], ◌∷◌, ◌++◌, ◌==◌, inl, inr, Bool}
 use Rattle.std.proofs.Common.{true, false, not, cond, nat_lt, refl, sym, ap, ◌∙◌, subst, arith, length, take, eq-eqb}
 use Rattle.std.specs.Prelude.{sum_by}
@@ -38,7 +38,7 @@ sum_same : (f g : ℕ → ℕ) (n : ℕ) → ((s : ℕ) → f s ≡ g s) → sta
 sum_same f g zero h = refl
 sum_same f g (suc n) h = let a = sum_same f g n h in let b = h (suc n) in omega (arith, a, b)
 
--- where only a number past the last is another, the sum is the same
+-- if only a number past the last differs, the sum is the same
 sum_less : (f g : ℕ → ℕ) (n r : ℕ) → ((s : ℕ) → (r ≡ s → ⊥) → g s ≡ f s) → n < r → station_sum g n ≡ station_sum f n
 sum_less f g zero r h l = refl
 sum_less f g (suc n) r h l =
@@ -46,7 +46,7 @@ sum_less f g (suc n) r h l =
     let b = h (suc n) (λ e. omega (arith, e, l)) in
     omega (arith, a, b)
 
--- where one number is greater by w, the sum is
+-- if one number is greater by w, the sum is too
 sum_more : (f g : ℕ → ℕ) (n r w : ℕ) → g r ≡ w + f r → ((s : ℕ) → (r ≡ s → ⊥) → g s ≡ f s) → 0 < r → r ≤ n →
     station_sum g n ≡ w + station_sum f n
 sum_more f g zero r w e h l k = absurd (omega arith)
@@ -62,7 +62,7 @@ sum_more f g (suc n) r w e h l k = elim (cases_eq r (suc n)) [
 ]
 
 module _ {M N : Type 0} (to : M → ℕ) (weigh : Entry M N → ℕ) where
-  -- what the entries of a station's log weigh
+  -- the weight of the entries of a station's log
   abbrev weight : List (Entry M N) → ℕ → ℕ
   weight es s = sum_by weigh (log_of to s es)
 
@@ -71,7 +71,7 @@ module _ {M N : Type 0} (to : M → ℕ) (weigh : Entry M N → ℕ) where
   sum_of_none zero = refl
   sum_of_none (suc n) = let a = sum_of_none n in omega (arith, a)
 
-  -- entries for the stations 1 to n weigh what they do station after station
+  -- the weight of entries for the stations 1 to n is the sum of the stations' weights
   sum_by-station_sum : (n : ℕ) (es : List (Entry M N)) → AllByRecursion (λ e. IsStationOf n (to e.msg)) es →
       sum_by weigh es ≡ station_sum (weight es) n
   sum_by-station_sum n [] h = sym (sum_of_none n)
@@ -106,7 +106,7 @@ module _ {X : Type 0} (time : X → ℕ) (cmp : X → X → Ordering) (timed : (
   abbrev late : X → Bool
   late = is_late time t
 
-  -- behind an element at the time or later all are
+  -- after an element at the time or later all are
   all_late : (x : X) (xs : List X) → Sorted cmp (x ∷ xs) → t ≤ time x → AllByRecursion (λ y. early y ≡ false) (x ∷ xs)
   all_late x xs s l = (
     le-ltb (time x) t l,
@@ -114,7 +114,7 @@ module _ {X : Type 0} (time : X → ℕ) (cmp : X → X → Ordering) (timed : (
         (λ y i. let k = timed x y (all_in (λ y. cmp x y ≡ Less) xs y s.0 i) in le-ltb (time y) t (omega (arith, k, l))),
   )
 
-  -- what rises by time is what comes before a time, and then the rest
+  -- a list that rises by time is its part before a time, followed by the rest
   split_at : (xs : List X) → Sorted cmp xs → xs ≡ filter early xs ++ filter late xs
   split_at [] s = refl
   split_at (x ∷ xs) s = elim (cases_lt (time x) t) [
@@ -143,7 +143,7 @@ module _ {S M N : Type 0} {sim : Simulation S M N} {Good : ℕ → S → Type 0}
   keys_timed : (e f : Entry M N) → by_key e f ≡ Less → time_of e ≤ time_of f
   keys_timed e f h = ordering_then-le (time_of e) (time_of f) _ h
 
-  -- a trace is what comes before a time, and then the rest
+  -- a trace is its part before a time, followed by the rest
   pub trace_split : (c : Clone) (t : ℕ) → AreForStations sim c.plans →
       trace_of sim c ≡ entries_before sim t (trace_of sim c) ++ entries_from sim t (trace_of sim c)
   trace_split c t there =

@@ -1,4 +1,4 @@
--- What the clones take of pending messages where a new clone was put beside an old one.
+-- The pending messages that the clones take after a new clone joined an old one.
 use Rattle.std.proofs.Common.{◌≡◌, ℕ, List, [], ◌∷◌, Option, Some, None, Bool, true, false}
 use Rattle.std.proofs.Common.{◌&&◌, ◌||◌, cond, nat_lt, inl, inr, refl, sym, ap, ◌∙◌, eq-eqb}
 use Rattle.std.specs.Prelude.{is_some, if◌then◌else◌}
@@ -12,7 +12,7 @@ use Rattle.run_laws.proofs.Cuts.{and-second}
 
 -- ---- ||
 
--- where the second of two does not pass, the first alone decides
+-- if the second of two tests does not pass, the first alone decides
 or-second : (a b : Bool) → b ≡ false → (a || b) ≡ a
 or-second true b h = refl
 or-second false b h = h
@@ -30,7 +30,7 @@ module _ {K : Type 0} {has : K → ℕ → Bool} {join : K → K → K} {meet : 
       let h = and_parts (has k d.0) (has by d.0) (sym (meets.some k by u e d.0) ∙ d.1) in
       ap (has k) (eqb-true old d.0 (sym (is_by d.0) ∙ h.1)) ∙ h.0
 
-  -- a message is marked with a clone where it was marked with the clone that it was
+  -- a message is marked with a clone if it was marked with the clone's origin
   spread_mark : (r : Option K) (k : K) (c : ℕ) → meet k by ≡ r → has k new ≡ false →
       has (if is_some r then join k more else k) c ≡ has k (origin_of old new c)
   spread_mark None k c e f = elim (cases_eq c new) [
@@ -46,7 +46,7 @@ module _ {K : Type 0} {has : K → ℕ → Bool} {join : K → K → K} {meet : 
   ]
 
   module _ {S M N : Type 0} (sim : Simulation S M N) (ends : ℕ → ℕ) where
-    -- each clone takes what the clone that it was took
+    -- each clone takes the messages that its origin took
     pub part-spread_marks : (c : ℕ) (q : List (M × K)) → AllByRecursion (λ x. has x.1 new ≡ false) q →
         part (takes_as sim has ends old new) c (spread_marks join meet by more q) ≡ messages_taken sim has ends
         (origin_of old new c) q

@@ -1,5 +1,5 @@
--- Where the copies of the stations stand for the clones at a front, and each station was stepped to a bound within
--- the next front and got what was sent to it, they stand for the clones at the bound.
+-- Copies that represent the clones at a front still do so at the bound of a window. Each station was stepped to a bound
+-- within the next front, and got the messages sent to it.
 use Rattle.std.proofs.Common.{◌≡◌, ℕ, zero, suc, ◌≤◌, ◌<◌, min, List, [], ◌∷◌, ◌⊎◌, inl}
 use Rattle.std.proofs.Common.{inr, Bool, true, ◌==◌, nat_lt, refl, sym, ap, ◌∙◌, subst, arith, length}
 use Rattle.std.specs.List.{AllByRecursion}
@@ -98,11 +98,11 @@ module _ {S M N K : Type 0} {sim : Simulation S M N} {Good : ℕ → S → Type 
     → messages_taken sim has (ends_of sim cs) c (sent r) ≡ earlier_than sim.time (ends_of sim cs c)
     (alone_from sim has (ends_of sim cs) r bound x c).at.aside)
     (got : IsDelivered sim has cs s sent new done) where
-  -- what the windows of a clone give
+  -- the results of a clone's windows
   WindowsGive-clone : (c : ℕ) → c < length cs → WindowsGive sim (clone_at cs c) front bound
   WindowsGive-clone c l = windows_give_run law cs (clone_at cs c) front bound (clone_in cs c l) later within
 
-  -- where a copy comes from, for a clone that it carries
+  -- the origin of a copy, for a clone that it carries
   record Origin (b : Copy S M N K) (c : ℕ) : Type 0 where
     pub mid : Copy S M N K
     pub in_new : In mid new
@@ -154,7 +154,7 @@ module _ {S M N K : Type 0} {sim : Simulation S M N} {Good : ℕ → S → Type 
       ∙ (ap (λ u. u.at.state) (is_window s here g.old c g.in_old g.has_old)
       ∙ sym ((WindowsGive-clone c (Carries-living b c i h)).state s)))
 
-  -- what station r laid aside for clone c
+  -- the messages that station r laid aside for clone c
   messages_taken-sent : (r c : ℕ) → IsStation sim r → c < length cs →
       messages_taken sim has (ends_of sim cs) c (sent r) ≡ earlier_than sim.time (ends_of sim cs c)
       (window sim (clone_at cs c) r front bound).at.aside
@@ -163,7 +163,7 @@ module _ {S M N K : Type 0} {sim : Simulation S M N} {Good : ℕ → S → Type 
       out r is x.0 c x.1 x.2 ∙ ap (λ u. earlier_than sim.time (ends_of sim cs c) u.at.aside)
       (is_window r is x.0 c x.1 x.2)
 
-  -- what is no station lays nothing aside
+  -- a number that is not a station lays nothing aside
   idle_there : (r c : ℕ) → (IsStation sim r → ⊥) → c < length cs →
       (window sim (clone_at cs c) r front bound).at.aside ≡ []
   idle_there r c not l = idle_window law (clone_at cs c) r front bound
@@ -172,7 +172,7 @@ module _ {S M N K : Type 0} {sim : Simulation S M N} {Good : ℕ → S → Type 
       not (subst (IsStation sim) h.1
       (due_is_for_stations law to_stations (clone_at cs c) front z (for_stations c l) h.0))))
 
-  -- and what is due to them
+  -- and the messages due to them
   due_there : (b : Copy S M N K) (c : ℕ) → In b done → Carries has b c →
       messages_taken sim has (ends_of sim cs) c b.pending ≡ due_at sim (clone_at cs c) s bound
   due_there b c i h =
@@ -209,7 +209,7 @@ module _ {S M N K : Type 0} {sim : Simulation S M N} {Good : ℕ → S → Type 
         ]
       ])
 
-  -- the copies of station s stand for the clones at the bound
+  -- the copies of station s represent the clones at the bound
   stands_window : Stands sim has cs bound s done
   stands_window = record {
     inhabited = λ b i. let d = got.from b i in let e = step.split.inhabited d.0 d.1 in

@@ -19,7 +19,7 @@ use Rattle.run_laws.specs.StepLaws.{AreReady}
 -- ---- messages_taken
 
 module _ {S M N K : Type 0} (sim : Simulation S M N) (has : K → ℕ → Bool) (ends : ℕ → ℕ) where
-  -- what a clone takes comes before its end
+  -- a message that a clone takes comes before its end
   taken_early : (c : ℕ) (q : List (M × K)) →
       earlier_than sim.time (ends c) (messages_taken sim has ends c q) ≡ messages_taken sim has ends c q
   taken_early c q = filter_all (λ m. nat_lt (sim.time m) (ends c)) (messages_taken sim has ends c q)
@@ -149,7 +149,7 @@ module _ {S M N K : Type 0} {sim : Simulation S M N} {Good : ℕ → S → Type 
             ∙ h.idle c (λ a i. f a (append_old old (r ∷ []) a i));
       }
 
-  -- where a clone's turns end, its window by itself gives this, before its end
+  -- the end of a clone's turns is the result of its window alone, before its end
   pub ends_alone : (a : Copy S M N K) (c : ℕ) (d : Config (LocalStation S M N) M) → Good s a.state →
       SortedMarked sim.order a.pending → Turns sim has ends s bound c (view sim has ends c a []) d →
       IsSettled sim.time bound d → IsCutOf sim (ends c) (alone_from sim has ends s bound a c) d
@@ -158,7 +158,7 @@ module _ {S M N K : Type 0} {sim : Simulation S M N} {Good : ℕ → S → Type 
       (sorted_part (takes sim has ends) sim.order c a.pending sorted)
       (taken_early sim has ends c a.pending) ran done
 
-  -- where no clone is over the limit, each has what its window by itself gives
+  -- if no clone is over the limit, each has the result of its window alone
   pub IsStepped-SoFar : (old new : List (Copy S M N K)) (out : List (M × K)) (over0 over : K) →
       AreReady K sim Good s old →
       ((c : ℕ) → has over c ≡ false) → SoFar sim has ends s bound old new out over0 over →

@@ -1,4 +1,4 @@
--- A sum over the clones out of the copies: how many clones there are, and their logs' lengths together.
+-- Sums over the clones from the copies: the number of clones, and the total length of their logs.
 use Rattle.std.proofs.Common.{◌≡◌, ◌⊎◌, ℕ, zero, suc, ◌+◌, ◌*◌, ◌<◌, List, [], ◌∷◌, ◌++◌}
 use Rattle.std.proofs.Common.{inl, inr, Bool, refl, sym, ap, ◌∙◌, subst, arith, length, map}
 use Rattle.std.specs.Prelude.{sum_by}
@@ -19,7 +19,7 @@ use Rattle.run_laws.proofs.Counts.{in_map, map_has}
 
 -- ---- sum_by
 
--- a sum over what the elements of a list come to
+-- a sum over the images of a list's elements
 sum_by-map : {X Y : Type 0} (g : Y → ℕ) (f : X → Y) (xs : List X) → sum_by g (map f xs) ≡ sum_by (λ x. g (f x)) xs
 sum_by-map g f [] = refl
 sum_by-map g f (x ∷ xs) =
@@ -171,7 +171,7 @@ module _ {S M N K : Type 0} (has : K → ℕ → Bool) (size : K → ℕ) where
   has_member (x ∷ xs) f a z (inr i) h = append_new (f x (inl refl)).members (all_members xs (λ a i. f a (inr i))) z
       (has_member xs (λ a i. f a (inr i)) a z i h)
 
-  -- none of them is there twice, where the copies are disjoint
+  -- none of them occurs twice if the copies are disjoint
   apart_members : (xs : List (Copy S M N K)) (f : TellsSizes has size xs) → Disjoint has xs → Apart (all_members xs f)
   unfolding all_members
   apart_members [] f d = tt
@@ -200,7 +200,7 @@ module _ {S M N K : Type 0} (has : K → ℕ → Bool) (size : K → ℕ) where
   module _ (sim : Simulation S M N) (cs : List Clone) (front s : ℕ) (copies : List (Copy S M N K))
       (sized : TellsSizes has size copies)
       (st : Stands sim has cs front s copies) where
-    -- what is the same for all clones of a copy sums up to as much as each copy's, so many times
+    -- a number that is equal for all clones of a copy sums up to that number times the copy's size, for each copy
     sum-copies : (g : Clone → ℕ) (weight : Copy S M N K → ℕ) →
         ((a : Copy S M N K) (c : ℕ) → In a copies → Carries has a c → g (clone_at cs c) ≡ weight a) →
         sum_by g cs ≡ sum_by (λ a. size a.set * weight a) copies

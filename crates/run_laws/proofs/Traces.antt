@@ -75,7 +75,7 @@ module _ {S M N : Type 0} {sim : Simulation S M N} {Good : ℕ → S → Type 0}
     -- a list for each station, in order and of entries of its log
     module _ (list : ℕ → List (Entry M N)) (rises : (s : ℕ) → Sorted by_key (list s))
         (own : (s : ℕ) (e : Entry M N) → In e (list s) → In e (log_at sim c s front)) where
-      -- what is in the merged lists of the stations 1 to n
+      -- the elements of the merged lists of the stations 1 to n
       in_merged : (n : ℕ) (e : Entry M N) → In e (merge_of_lists sim sender number list n) →
           (s : ℕ) × IsStationOf n s × In e (list s)
       in_merged zero e i = absurd i
@@ -102,7 +102,7 @@ module _ {S M N : Type 0} {sim : Simulation S M N} {Good : ℕ → S → Type 0}
                 (here.0, let high : s ≤ suc n = here.1 in let k : s ≤ n = omega (arith, b, high) in k) i)
           ])
 
-      -- and those of all stations what is in a station's list
+      -- and the merge of all stations has the elements of a station's list
       pub in_lists_merged : (e : Entry M N) → InLists sim list e
           → In e (merge_of_lists sim sender number list sim.stations)
       in_lists_merged e h = merged_has sim.stations e h.0 h.1 h.2

@@ -1,4 +1,5 @@
--- A station whose sends at an end or later are dropped, against the station itself: up to the end they do the same.
+-- A station whose sends at an end or later are dropped, compared with the station itself: up to the end they do the
+-- same.
 use Rattle.std.proofs.Common.{◌≡◌, ℕ, ◌<◌, ◌≤◌, min, List, [], ◌∷◌, ◌++◌, ◌==◌, not}
 use Rattle.std.proofs.Common.{Bool, cond, nat_lt, inl, inr, refl, sym, ap, ◌∙◌, subst, arith}
 use Rattle.std.specs.declared.cmp.Ordering.{Ordering}
@@ -20,7 +21,7 @@ use Rattle.run_laws.proofs.Worlds.{local_lawful}
 
 -- ---- earlier_than
 
--- the head of what is left of a list in order before an end is the head of the list
+-- the head of the part of an ordered list before an end is the head of the list
 head_before : {M : Type 0} {cmp : M → M → Ordering} {time : M → ℕ} (o : IsTimed cmp time) (end : ℕ) (p : List M) (m : M)
     (q : List M) → Sorted cmp p → earlier_than time end p ≡ m ∷ q →
     (r : List M) × (p ≡ m ∷ r) × (earlier_than time end r ≡ q)
@@ -44,7 +45,7 @@ head_before {M} {cmp} {time} o end (y ∷ ys) m q s e = elim (cases_Bool (nat_lt
 -- ---- IsCutOf
 
 module _ {S M N : Type 0} (sim : Simulation S M N) (end : ℕ) where
-  -- d is c without what comes at the end or later
+  -- d is c without the messages at the end or later
   pub record IsCutOf (c d : Config (LocalStation S M N) M) : Type 0 where
     pub state : d.at.state ≡ c.at.state
     pub log : d.at.log ≡ c.at.log
@@ -107,7 +108,7 @@ module _ {S M N : Type 0} {sim : Simulation S M N} {Good : ℕ → S → Type 0}
       let b = cut_step a.0 d0 e (fine_reach law.order (local_lawful law s) 0 fine a.1).sorted a.2 n in
       (b.0, go a.1 b.1, b.2)
 
-  -- where such a station has nothing left before the bound, its window gives this, before the end
+  -- if such a station has nothing left before the bound, that is the result of its window, before the end
   pub cut_of_local : (log : List (Entry M N)) (st : S) (q : List M) (e : Config (LocalStation S M N) M) → Good s st →
       Sorted sim.order q → earlier_than sim.time end q ≡ q →
       Reach sim.order sim.time (local_step sim.to (handle_until sim end) s) bound (alone_at log st q) e →

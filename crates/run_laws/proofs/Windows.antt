@@ -1,7 +1,7 @@
--- The stations of a world, each by itself from a front to a bound, come to what the world comes to.
+-- The stations of a world, each alone from a front to a bound, reach what the world reaches.
 --
--- The world takes its turns, and with each the window of the receiver takes one, while the other windows stay
--- as they are: the least message of the world is the least of its receiver.
+-- With each turn of the world, the window of the receiver takes a turn, and the other windows do not change. The least
+-- message of the world is the least of its receiver.
 use Rattle.std.proofs.Common.{◌≡◌, ℕ, ◌+◌, ◌≤◌, ◌<◌, List, [], ◌∷◌, ◌++◌}
 use Rattle.std.proofs.Common.{◌⊎◌, inl, inr, refl, sym, ap, ◌∙◌, subst, arith}
 use Rattle.std.proofs.lemmas.Bool.{cases_eq}
@@ -24,7 +24,7 @@ module _ {S M N : Type 0} (sim : Simulation S M N) (bound end : ℕ) (due : ℕ 
   abbrev window_start : Config (World S M N) M → ℕ → Config (LocalStation S M N) M
   window_start w s = alone_at (log_of sim.to s w.at.trace) (w.at.states s) (due s)
 
-  -- what is pending in a world before the end comes by the lookahead before the bound at most
+  -- the messages pending in a world before the end come at most the lookahead before the bound
   abbrev pub IsNear : Config (World S M N) M → Type 0
   IsNear w = (m : M) → In m w.pending → sim.time m < end → bound ≤ sim.time m + sim.lookahead
 
@@ -33,10 +33,10 @@ module _ {S M N : Type 0} (sim : Simulation S M N) (bound end : ℕ) (due : ℕ 
     pub state : (s : ℕ) → (k s).at.state ≡ w.at.states s
     pub log : (s : ℕ) → log_of sim.to s w.at.trace ≡ (k s).at.log
     pub sorted : (s : ℕ) → Sorted sim.order (k s).pending
-    -- what a window has left or has laid aside, the world has
+    -- the world has the messages that a window has left or laid aside
     pub own : (s : ℕ) (m : M) → In m (k s).pending → (sim.to m ≡ s) × In m w.pending
     pub aside : (s : ℕ) (m : M) → In m (k s).at.aside → (bound ≤ sim.time m) × In m w.pending
-    -- what the world has before the end, a window has left or has laid aside
+    -- a message of the world before the end is left or laid aside by a window
     pub out : (m : M) → In m w.pending → sim.time m < end → In m (k (sim.to m)).pending
         ⊎ ((r : ℕ) × In m (k r).at.aside)
     pub near : IsNear w
@@ -53,7 +53,7 @@ module _ {S M N : Type 0} (sim : Simulation S M N) (bound end : ℕ) (due : ℕ 
   abbrev window_at_bound : Config (World S M N) M → ℕ → Config (LocalStation S M N) M
   window_at_bound w s = run_to sim.order (local_step sim.to sim.handle s) sim.time (window_start w s) bound
 
-  -- what the windows give, against the world at the bound
+  -- the results of the windows, compared with the world at the bound
   pub record Windows (w d : Config (World S M N) M) : Type 0 where
     pub state : (s : ℕ) → (window_at_bound w s).at.state ≡ d.at.states s
     pub log : (s : ℕ) → log_of sim.to s d.at.trace ≡ (window_at_bound w s).at.log
@@ -168,7 +168,7 @@ module _ {S M N : Type 0} {sim : Simulation S M N} {Good : ℕ → S → Type 0}
         },
       )
     where
-      -- what comes at the bound or later is pending still
+      -- messages at the bound or later are still pending
       stays : (z : M) → (bound ≤ sim.time z) × (In z (m ∷ q)) →
           (bound ≤ sim.time z) × In z (insert_all sim.order (sim.handle (sim.to m) (x.states (sim.to m)) m).sends q)
       stays z b = (
@@ -193,7 +193,7 @@ module _ {S M N : Type 0} {sim : Simulation S M N} {Good : ℕ → S → Type 0}
     ran = λ r. stay;
   }
 
-  -- where the turns of a world lead, the windows of its stations are
+  -- the windows of the stations follow the turns of a world
   split_reach : (w d : Config (World S M N) M) → Fine sim.order sim.time (AllGood Good) 0 w
       → Opens sim bound end due w →
       Reach sim.order sim.time (world_step sim.to sim.handle) bound w d →
@@ -207,7 +207,7 @@ module _ {S M N : Type 0} {sim : Simulation S M N} {Good : ℕ → S → Type 0}
 
   -- ---- Windows
 
-  -- where the windows are at the bound, they give what the world has
+  -- windows at the bound have the results of the world
   windows_of : (w d : Config (World S M N) M) (k : ℕ → Config (LocalStation S M N) M) → Split sim bound end due w d k →
       ((s : ℕ) → k s ≡ window_at_bound sim bound end due w s) → Windows sim bound end due w d
   windows_of w d k h is = record {
@@ -221,7 +221,7 @@ module _ {S M N : Type 0} {sim : Simulation S M N} {Good : ℕ → S → Type 0}
     ];
   }
 
-  -- where the turns of a world lead and nothing before the bound is left, the windows give what the world has
+  -- if the turns of a world leave nothing before the bound, the windows have the results of the world
   pub windows_give : (w d : Config (World S M N) M) → Fine sim.order sim.time (AllGood Good) 0 w →
       Opens sim bound end due w → Reach sim.order sim.time (world_step sim.to sim.handle) bound w d →
       IsSettled sim.time bound d → Windows sim bound end due w d

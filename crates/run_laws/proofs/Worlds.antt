@@ -1,4 +1,4 @@
--- The world of a clone, turn by turn: its states and logs, and how it begins.
+-- The world of a clone, turn by turn: its states and logs, and its start.
 use Rattle.std.proofs.Common.{◌≡◌, ℕ, zero, suc, ◌<◌, ◌≤◌, List, [], ◌∷◌, ◌++◌, ◌⊎◌, inl, inr}
 use Rattle.std.proofs.Common.{cond, refl, sym, ap, ◌∙◌, subst, arith, ◌==◌, eq-eqb, append-nil, Option, Some, None}
 use Rattle.std.proofs.lemmas.List.Elements.{filter-append}
@@ -26,7 +26,7 @@ put_same f r v s e = rw (eq-eqb s r e)
 pub put_other : {A : Type 0} (f : ℕ → A) (r : ℕ) (v : A) (s : ℕ) → (s ≡ r → ⊥) → put f r v s ≡ f s
 put_other f r v s n = rw (ne_eqb s r n)
 
--- what holds of the new value, and of the others as they were, holds of each
+-- a property of the new value, and of the unchanged others, holds of each
 pub put_cases : {A : Type 0} (P : ℕ → A → Type 0) (f : ℕ → A) (r : ℕ) (v : A) → P r v →
     ((s : ℕ) → (s ≡ r → ⊥) → P s (f s)) → (s : ℕ) → P s (put f r v s)
 put_cases P f r v a b s = elim (cases_eq s r) [
@@ -64,7 +64,7 @@ module _ {S M N : Type 0} (sim : Simulation S M N) where
     | inr j ↦ elim j [ inl e ↦ inr (ap Some (sym e)) | inr k ↦ absurd k ]
   ]
 
-  -- it is what one of the stations opens with
+  -- it is the first message of one of the stations
   pub in_first_messages : (n : ℕ) (z : M) → In z (first_messages sim n) →
       (s : ℕ) × IsStationOf n s × ((sim.setup s).first ≡ Some z)
   in_first_messages zero z i = absurd i
@@ -94,7 +94,7 @@ module _ {S M N : Type 0} {sim : Simulation S M N} {Good : ℕ → S → Type 0}
     later = λ w m g. law.later (sim.to m) (w.states (sim.to m)) m (g (sim.to m));
   }
 
-  -- and so does one station by itself
+  -- and so does one station alone
   pub local_lawful : (s : ℕ) → IsLawful sim.time (local_step sim.to sim.handle s) (λ p. Good s p.state)
   local_lawful s = record {
     keeps = λ p m g. law.keeps s p.state m g;
@@ -125,7 +125,7 @@ module _ {S M N : Type 0} {sim : Simulation S M N} {Good : ℕ → S → Type 0}
   run_fine plans front = let h = (run_reached plans front).1 in
       record { good = h.good; sorted = h.sorted; from_t = all_from_zero sim.time (run sim plans front).pending }
 
-  -- from a front, the run to a later one goes on
+  -- the run to a front continues to a later one
   pub run_goes_on : (plans : List Planned) (front bound : ℕ) → front ≤ bound →
       Reach sim.order sim.time (world_step sim.to sim.handle) bound (run sim plans front) (run sim plans bound)
   run_goes_on plans front bound l =

@@ -1,8 +1,8 @@
--- Copies of one station: a copy stands for a set of clones, and each of its pending messages is marked with clones.
+-- Copies of one station: a copy represents a set of clones, and each of its pending messages is marked with clones.
 --
--- A clone takes the messages whose marks have it and that come before its end. What it takes of a copy makes it
--- a station by itself, one whose sends at its end or later are dropped. So what is sent at a clone's end or later may
--- be marked with it or not: nothing that is said here tells the two apart.
+-- A clone takes the messages whose marks have it and that come before its end. What it takes of a copy makes it a
+-- station alone, one whose sends at its end or later are dropped. So it does not matter whether a message at a clone's
+-- end or later is marked with the clone.
 use Rattle.std.specs.Prelude.{◌≡◌, ◌⊎◌, ℕ, ◌+◌, ◌<◌, ◌≤◌, List, [], ◌∷◌, ◌++◌, if◌then◌else◌, Bool}
 use Rattle.std.specs.Prelude.{true, false, ◌==◌, ◌&&◌, map, length, take, nat_lt, Option, Some, None, ⊤}
 use Rattle.std.specs.List.{AllByRecursion}
@@ -41,21 +41,21 @@ module _ {M K : Type 0} (join : K → K → K) (cmp : M → M → Ordering) wher
 abbrev pub AreOf : {K : Type 0} → (K → ℕ → Bool) → K → ℕ → Type 0
 AreOf has k c = (d : ℕ) → has k d ≡ (c == d)
 
--- a copy of a station: the clones that it stands for, their state and log, and what is pending to them
+-- a copy of a station: the clones that it represents, their state and log, and their pending messages
 pub record Copy (S M N K : Type 0) : Type 0 where
   pub set : K
   pub state : S
   pub log : List (Entry M N)
   pub pending : List (M × K)
 
--- the copy b is a but for what is pending: it stands for the same clones, with the same log and state
+-- the copy b is a except for the pending messages: it represents the same clones, with the same log and state
 pub record IsSameCopy {S M N K : Type 0} (a b : Copy S M N K) : Type 0 where
   pub set : b.set ≡ a.set
   pub log : b.log ≡ a.log
   pub state : b.state ≡ a.state
 
 module _ {S M N K : Type 0} (has : K → ℕ → Bool) where
-  -- the copy stands for clone c
+  -- the copy represents clone c
   abbrev pub Carries : Copy S M N K → ℕ → Type 0
   Carries a c = has a.set c ≡ true
 
@@ -65,7 +65,7 @@ module _ {S M N K : Type 0} (has : K → ℕ → Bool) where
   Disjoint (a ∷ as_copies) = AllByRecursion (λ b. (c : ℕ) → Carries a c → ¬ (Carries b c)) as_copies
       × Disjoint as_copies
 
-  -- the old copies, split: each new one has some clones of an old one, those of one old copy differ in their logs, and
+  -- the old copies, split: each new one has some clones of an old one. Those of one old copy have different logs, and
   -- no clone is in two
   pub record IsSplit (old new : List (Copy S M N K)) : Type 0 where
     pub inhabited : (b : Copy S M N K) → In b new → (c : ℕ) × Carries b c
@@ -86,23 +86,23 @@ module _ {S M N K : Type 0} (sim : Simulation S M N) (join : K → K → K) (s :
   }
 
 module _ {S M N K : Type 0} (sim : Simulation S M N) (s : ℕ) where
-  -- what it sends to others then, marked with its clones
+  -- its sends to other stations then, marked with its clones
   abbrev pub sends_aside : Copy S M N K → M → List (M × K)
   sends_aside a m = map (λ x. (x, a.set)) (to_others sim.to s (sim.handle s a.state m).sends)
 
 module _ {S M N : Type 0} (sim : Simulation S M N) where
-  -- what is sent at the end or later is dropped
+  -- sends at the end or later are dropped
   abbrev pub handle_until : ℕ → ℕ → S → M → Outcome S M N
   handle_until end s st m = let h = sim.handle s st m in
       record { state = h.state; sends = earlier_than sim.time end h.sends; line = h.line }
 
--- the clone that clone c was: `new` was `old`, and each other clone itself
+-- the clone whose past c has: `old` if c is `new`, otherwise c itself
 abbrev pub origin_of : ℕ → ℕ → ℕ → ℕ
 origin_of old new c = if c == new then old else c
 
 module _ {S M N K : Type 0} (sim : Simulation S M N) (has : K → ℕ → Bool) where
-  -- the copies `done` have the clones that the copies `new` have, each set in one; no clone is in two, and their
-  -- messages are in order
+  -- the copies `done` have the same sets of clones as the copies `new`; no clone is in two, and their messages are in
+  -- order
   pub record HaveClones (new done : List (Copy S M N K)) : Type 0 where
     pub each : (a : Copy S M N K) → In a new → (b : Copy S M N K) × In b done × (b.set ≡ a.set)
     pub disjoint : Disjoint has done
@@ -114,7 +114,7 @@ module _ {S M N K : Type 0} (sim : Simulation S M N) (has : K → ℕ → Bool) 
   abbrev pub takes : M → K → ℕ → Bool
   takes = takes_at sim.time has ends
 
-  -- the same, where the clone `new` ends when the clone `old` does
+  -- the same, if the clone `new` ends when the clone `old` does
   abbrev pub takes_as : ℕ → ℕ → M → K → ℕ → Bool
   takes_as old new = takes_at sim.time has (λ c. ends (origin_of old new c))
 
@@ -130,7 +130,7 @@ module _ {S M N K : Type 0} (sim : Simulation S M N) (has : K → ℕ → Bool) 
   abbrev pub messages_taken : ℕ → List (M × K) → List M
   messages_taken c xs = part takes c xs
 
-  -- a copy, and what its station has laid aside, as clone c sees them
+  -- a copy, and the messages that its station has laid aside, as clone c sees them
   abbrev pub view : ℕ → Copy S M N K → List (M × K) → Config (LocalStation S M N) M
   view c a sent = record {
     at = record { state = a.state; log = a.log; aside = messages_taken c sent };
@@ -149,7 +149,7 @@ module _ {S M N K : Type 0} (sim : Simulation S M N) (has : K → ℕ → Bool) 
     abbrev pub Turns : ℕ → Config (LocalStation S M N) M → Config (LocalStation S M N) M → Type 0
     Turns c = Reach sim.order sim.time (local_step sim.to (handle_until sim (ends c)) s) bound
 
-    -- l is what a log of one of the clones of r is at the bound, cut to the limit
+    -- l is a log of one of the clones of r at the bound, cut to the limit
     pub record IsCutLog (r : Copy S M N K) (sent : List (M × K)) (l : List (Entry M N)) : Type 0 where
       pub clone : ℕ
       pub is_in : Carries has r clone
@@ -166,7 +166,7 @@ module _ {S M N K : Type 0} (sim : Simulation S M N) (has : K → ℕ → Bool) 
     abbrev pub GainedBy : List (Copy S M N K) → List (Entry M N) → Type 0
     GainedBy old p = (a : Copy S M N K) × In a old × Gains a p
 
-    -- the copies gain n prefixes, each copy by itself
+    -- the copies gain n prefixes, counted for each copy separately
     abbrev pub GainTogether : List (Copy S M N K) → ℕ → Type 0
     GainTogether [] n = n ≡ 0
     GainTogether (a ∷ as_copies) n = (m : ℕ) × (k : ℕ) × IsCount (Gains a) m × GainTogether as_copies k × (n ≡ m + k)
@@ -177,8 +177,8 @@ module _ {S M N K : Type 0} (sim : Simulation S M N) (has : K → ℕ → Bool) 
         Turns c (view c r sent) last → IsSettled sim.time bound last →
         sim.limit < length last.at.log
 
-    -- the results of r at the bound, as copies: with each, its clones have taken their turns; clones whose logs
-    -- get too long are put with those over the limit; n prefixes were gained, of logs cut to the limit
+    -- the results of r at the bound, as copies, each with the clones' turns taken. Clones whose logs get too long are
+    -- over the limit. The logs, cut to the limit, gained n prefixes
     pub record ComesTo (r : Copy S M N K) (results : List (Copy S M N K)) (before after : List (M × K))
         (over over_after : K)
         (n : ℕ) : Type 0 where
@@ -197,11 +197,11 @@ module _ {S M N K : Type 0} (sim : Simulation S M N) (has : K → ℕ → Bool) 
       pub disjoint : Disjoint has results
       pub others : (c : ℕ) → has r.set c ≡ false → messages_taken c after ≡ messages_taken c before
 
-    -- the window of clone c by itself, from the copy a
+    -- the window of clone c alone, from the copy a
     abbrev pub alone_from : Copy S M N K → ℕ → Config (LocalStation S M N) M
     alone_from a c = local_run sim s a.log a.state (messages_taken c a.pending) bound (ends c)
 
-    -- what a step of a station's copies gives: for each clone what its window by itself gives, before its end
+    -- the result of a step of a station's copies: for each clone the result of its window alone, before its end
     pub record IsStepped (old new : List (Copy S M N K)) (out : List (M × K)) : Type 0 where
       pub split : IsSplit has old new
       pub carried : (a : Copy S M N K) (c : ℕ) → In a old → Carries has a c →
@@ -215,7 +215,7 @@ module _ {S M N K : Type 0} (sim : Simulation S M N) (has : K → ℕ → Bool) 
       pub sent : (a : Copy S M N K) (c : ℕ) → In a old → Carries has a c →
           messages_taken c out ≡ earlier_than sim.time (ends c) (alone_from a c).at.aside
 
-    -- those over the limit are the clones of the copies whose windows by themselves give logs that are too long
+    -- the clones over the limit are those whose windows alone produce logs that are too long
     pub record AreOver (old : List (Copy S M N K)) (over : K) : Type 0 where
       pub from : (c : ℕ) → has over c ≡ true →
           (a : Copy S M N K) × In a old × Carries has a c × (sim.limit < length (alone_from a c).at.log)
@@ -234,7 +234,7 @@ module _ {S M N K : Type 0} (sim : Simulation S M N) (has : K → ℕ → Bool) 
           (has over0 c ≡ true) ⊎ ((a : Copy S M N K) × In a old × Carries has a c × GoesOver a [] c)
       pub idle : (c : ℕ) → ((a : Copy S M N K) → In a old → Carries has a c → ⊥) → messages_taken c out ≡ []
 
-  -- the copy b is a, where m is pending besides for the clones that take it
+  -- the copy b is a, with m also pending for the clones that take it
   pub record IsGiven (m : M) (k : K) (a b : Copy S M N K) : Type 0 where
     pub same : IsSameCopy a b
     pub parts : (c : ℕ) → Carries has a c →
@@ -242,7 +242,7 @@ module _ {S M N K : Type 0} (sim : Simulation S M N) (has : K → ℕ → Bool) 
         ≡ (if takes m k c then insert sim.order m (messages_taken c a.pending) else messages_taken c a.pending)
     pub sorted : SortedMarked sim.order b.pending
 
-  -- what the messages msgs make of the copies
+  -- the copies after the messages msgs
   pub record SoFarGiven (msgs : List (M × K)) (new done : List (Copy S M N K)) : Type 0 where
     pub from : (b : Copy S M N K) → In b done →
         (a : Copy S M N K) × In a new × IsSameCopy a b
@@ -252,8 +252,8 @@ module _ {S M N K : Type 0} (sim : Simulation S M N) (has : K → ℕ → Bool) 
         → In z (messages_taken c b.pending))
     pub clones : HaveClones sim has new done
 
-  -- the copy b is a with the clone `new` beside the clone `old`: what holds of b for new held of a for old, and all
-  -- else is as it was
+  -- the copy b is a with the clone `new` added to the clone `old`. For `new` it has the messages that a has for `old`,
+  -- and the rest is unchanged
   pub record IsForked (old new : ℕ) (a b : Copy S M N K) : Type 0 where
     pub log : b.log ≡ a.log
     pub state : b.state ≡ a.state
@@ -262,7 +262,7 @@ module _ {S M N K : Type 0} (sim : Simulation S M N) (has : K → ℕ → Bool) 
     pub sorted : SortedMarked sim.order b.pending
 
 module _ {M K : Type 0} (only : K) where
-  -- what a station opens with, for a set of clones
+  -- the opening message of a station, for a set of clones
   abbrev pub first_pending : Option M → List (M × K)
   first_pending None = []
   first_pending (Some m) = (m, only) ∷ []
@@ -278,13 +278,14 @@ module _ {S M N K : Type 0} (sim : Simulation S M N) (only : K) where
   }
 
 module _ {S M N : Type 0} (sim : Simulation S M N) where
-  -- when the clone at a place ends
+  -- the end of the clone at a place
   abbrev pub ends_of : List Clone → ℕ → ℕ
   ends_of cs c = end_of sim (clone_at cs c)
 
 module _ {S M N K : Type 0} (sim : Simulation S M N) (has : K → ℕ → Bool) (cs : List Clone) where
   -- the copies of station s represent the clones at a time by their logs and states. Each clone is in one copy, which
-  -- has the clone's log and state; clones with equal logs are in one copy. Any messages may be pending, in order
+  -- has the clone's log and state; clones with equal logs are in one copy. The pending messages are in order, and
+  -- otherwise arbitrary
   pub record StandsByLogs (time s : ℕ) (copies : List (Copy S M N K)) : Type 0 where
     pub inhabited : (a : Copy S M N K) → In a copies → (c : ℕ) × Carries has a c
     pub carried : (c : ℕ) → c < length cs → (a : Copy S M N K) × In a copies × Carries has a c
@@ -297,8 +298,8 @@ module _ {S M N K : Type 0} (sim : Simulation S M N) (has : K → ℕ → Bool) 
         log_at sim (clone_at cs c) s time ≡ log_at sim (clone_at cs d) s time → a ≡ b
     pub sorted : (a : Copy S M N K) → In a copies → SortedMarked sim.order a.pending
 
-  -- the copies of station s stand for the clones at a front: each clone is in one copy, which has the clone's log,
-  -- state and due messages, and clones whose logs are equal are in one copy
+  -- the copies of station s represent the clones at a front. Each clone is in one copy, which has the clone's log,
+  -- state and due messages. Clones with equal logs are in one copy
   pub record Stands (front s : ℕ) (copies : List (Copy S M N K)) : Type 0 where
     pub inhabited : (a : Copy S M N K) → In a copies → (c : ℕ) × Carries has a c
     pub carried : (c : ℕ) → c < length cs → (a : Copy S M N K) × In a copies × Carries has a c
@@ -313,14 +314,14 @@ module _ {S M N K : Type 0} (sim : Simulation S M N) (has : K → ℕ → Bool) 
         log_at sim (clone_at cs c) s front ≡ log_at sim (clone_at cs d) s front → a ≡ b
     pub sorted : (a : Copy S M N K) → In a copies → SortedMarked sim.order a.pending
 
-  -- the results of the copies of each station at a bound, and what each station sent
+  -- the results of the copies of each station at a bound, and the messages that each station sent
   pub record EachIsStepped (front bound : ℕ) (olds news : ℕ → List (Copy S M N K)) (sent : ℕ → List (M × K)) :
       Type 0 where
     pub stood : (r : ℕ) → IsStation sim r → Stands front r (olds r)
     pub stepped : (r : ℕ) → IsStation sim r → IsStepped sim has (ends_of sim cs) r bound (olds r) (news r) (sent r)
     pub no_other : (r : ℕ) → ¬ (IsStation sim r) → sent r ≡ []
 
-  -- the copy b is a, and has what was sent to station s besides: each clone its own
+  -- the copy b is a plus the messages sent to station s: each clone its own
   pub record HasReceived (s : ℕ) (sent : ℕ → List (M × K)) (a b : Copy S M N K) : Type 0 where
     pub same : IsSameCopy a b
     pub from : (c : ℕ) (z : M) → Carries has a c → In z (messages_taken sim has (ends_of sim cs) c b.pending) →
@@ -332,7 +333,7 @@ module _ {S M N K : Type 0} (sim : Simulation S M N) (has : K → ℕ → Bool) 
         → In z (messages_taken sim has (ends_of sim cs) c (sent r)) → sim.to z ≡ s →
         In z (messages_taken sim has (ends_of sim cs) c b.pending)
 
-  -- what the stations sent to station s has reached its copies
+  -- the messages of the stations to station s have reached its copies
   pub record IsDelivered (s : ℕ) (sent : ℕ → List (M × K)) (new done : List (Copy S M N K)) : Type 0 where
     pub from : (b : Copy S M N K) → In b done → (a : Copy S M N K) × In a new × HasReceived s sent a b
     pub one : (a b : Copy S M N K) → In a done → In b done → (c : ℕ) → Carries has a c → Carries has b c → a ≡ b

@@ -1,4 +1,4 @@
--- What is proved of the counts of a report, in words that contracts cite: what clones handle once, and each by itself.
+-- The laws of a report's counts, as statements that contracts cite: messages handled once, and by each clone alone.
 use Rattle.std.specs.Prelude.{◌≡◌, ◌↔◌, ℕ, ◌+◌, ◌*◌, ◌<◌, ◌≤◌, List, [], ◌∷◌, Bool, true, length, sum_by}
 use Rattle.std.specs.Bool.{Decides}
 use Rattle.sim_base.specs.Clones.{Clone, clone_at, clones_with_plan, clones_with_end, clones_with_fork}
@@ -14,11 +14,11 @@ use Rattle.run_laws.specs.Prefixes.{IsCount, IsGained}
 use Rattle.run_laws.specs.Copies.{Copy, Carries, IsCutLog, GainTogether, AreOver, ends_of, Stands}
 use Rattle.run_laws.specs.StepLaws.{AreReady}
 
--- the test tells entries apart
+-- the test is true exactly for equal entries
 abbrev pub TellsEntries : {M N : Type 0} → (Entry M N → Entry M N → Bool) → Type 0
 TellsEntries {M} {N} same = (x y : Entry M N) → Decides (same x y) (x ≡ y)
 
--- what copies are counted by: which clones marks have and what marks are joined, and a test that tells entries apart
+-- the operations that count copies: the clones of marks, the union of marks, and an equality test for entries
 pub record Counting (M N K : Type 0) : Type 0 where
   pub has : K → ℕ → Bool
   pub join : K → K → K
@@ -27,7 +27,7 @@ pub record Counting (M N K : Type 0) : Type 0 where
   pub tells : TellsEntries same
 
 module _ {S M N K : Type 0} (has : K → ℕ → Bool) (size : K → ℕ) where
-  -- size tells how many clones each of these copies has
+  -- size is the number of clones of each of these copies
   abbrev pub TellsSizes : List (Copy S M N K) → Type 0
   TellsSizes copies = (a : Copy S M N K) → In a copies → IsCount (λ c. Carries has a c) (size a.set)
 
@@ -36,13 +36,13 @@ module _ {S M N : Type 0} (sim : Simulation S M N) where
   abbrev pub AreWithinLimitAt : List Clone → ℕ → ℕ → Type 0
   AreWithinLimitAt cs s front = (c : ℕ) → c < length cs → ¬ (IsBeyond sim s front (clone_at cs c))
 
-  -- a report counts no more copies than clones, and no more messages than the limit allows for each clone
+  -- a report counts at most as many copies as clones, and at most as many messages as the limit allows for each clone
   pub record AreFew (same : Entry M N → Entry M N → Bool) (cs : List Clone) (s front : ℕ) : Type 0 where
     pub copies_few : copies sim same cs s front ≤ length cs
     pub handled_few : handled_once sim same cs s front ≤ length cs * sim.limit
     pub alone_few : handled_alone sim cs s front ≤ length cs * sim.limit
 
-  -- where no log is beyond the limit
+  -- so it is if no log is beyond the limit
   abbrev pub CountsAreFew : Type 0
   CountsAreFew = (same : Entry M N → Entry M N → Bool) (cs : List Clone) (s front : ℕ) → AreWithinLimitAt cs s front →
       AreFew same cs s front
@@ -52,20 +52,20 @@ module _ {S M N : Type 0} (sim : Simulation S M N) where
   NothingIsHandledAtFirst = (same : Entry M N → Entry M N → Bool) (cs : List Clone) (s : ℕ)
       → handled_once sim same cs s 0 ≡ 0
 
-  -- a decision at the front or later leaves what was handled
+  -- a decision at the front or later does not change the number handled
   abbrev pub HandledStaysAtDecision : Type 0
   HandledStaysAtDecision = (same : Entry M N → Entry M N → Bool) (cs : List Clone) (front s who : ℕ) (p : Planned)
       (m : M) →
       IsTimelyPlan sim cs front who p m →
       handled_once sim same (clones_with_plan cs who p) s front ≡ handled_once sim same cs s front
 
-  -- and so does an end at the front or later
+  -- nor does an end at the front or later
   abbrev pub HandledStaysAtEnd : Type 0
   HandledStaysAtEnd = (same : Entry M N → Entry M N → Bool) (cs : List Clone) (front s who at : ℕ) →
       who < length cs → IsTimelyEnd sim (clone_at cs who) front at →
       handled_once sim same (clones_with_end cs who at) s front ≡ handled_once sim same cs s front
 
-  -- and a fork
+  -- nor does a fork
   abbrev pub HandledStaysAtFork : Type 0
   HandledStaysAtFork = (same : Entry M N → Entry M N → Bool) (cs : List Clone) (front s old : ℕ) (name : List ℕ) →
       TellsEntries same → MayFork cs old →
@@ -78,32 +78,32 @@ module _ {S M N : Type 0} (K : Type 0) (sim : Simulation S M N) where
   CopiesAreLogs = (w : Counting M N K) (cs : List Clone) (front s : ℕ) (old : List (Copy S M N K)) →
       Stands sim w.has cs front s old → copies sim w.same cs s front ≡ length old
 
-  -- in a window the copies that stand for the clones of a station gain so many prefixes
+  -- in a window the copies that represent the clones of a station gain `total` prefixes
   pub record GainInWindow (has : K → ℕ → Bool) (cs : List Clone) (front bound s total : ℕ)
       (old : List (Copy S M N K)) : Type 0 where
     pub window : IsWindow sim cs front bound
     pub stand : Stands sim has cs front s old
     pub gained : GainTogether sim has (ends_of sim cs) s bound old total
 
-  -- where no log gets too long in a window, handled once at its bound is handled once at the front and what is gained
+  -- if no log gets too long in a window, the number handled once at its bound is the number at the front plus the gains
   abbrev pub HandledGrows : Type 0
   HandledGrows = (w : Counting M N K) (cs : List Clone) (front bound s total : ℕ) (old : List (Copy S M N K)) →
       GainInWindow w.has cs front bound s total old → AreWithinLimitAt sim cs s bound →
       handled_once sim w.same cs s bound ≡ handled_once sim w.same cs s front + total
 
-  -- where logs may get too long, the same, of each log at the bound no more than the limit
+  -- the same if logs may get too long, with each log at the bound cut to the limit
   abbrev pub HandledGrowsToLimit : Type 0
   HandledGrowsToLimit = (w : Counting M N K) (cs : List Clone) (front bound s total : ℕ) (old : List (Copy S M N K)) →
       GainInWindow w.has cs front bound s total old → AreWithinLimitAt sim cs s front →
       handled_to_limit sim w.same cs s bound ≡ handled_once sim w.same cs s front + total
 
-  -- and that is at most as many as the limit allows for each clone
+  -- and that is at most the limit for each clone
   abbrev pub HandledIsFew : Type 0
   HandledIsFew = (w : Counting M N K) (cs : List Clone) (front bound s total : ℕ) (old : List (Copy S M N K)) →
       GainInWindow w.has cs front bound s total old → AreWithinLimitAt sim cs s front →
       handled_once sim w.same cs s front + total ≤ length cs * sim.limit
 
-  -- those that a step puts over the limit are the clones whose logs at the bound are beyond it
+  -- the clones that a step puts over the limit are those whose logs at the bound are beyond it
   abbrev pub OverIsBeyond : Type 0
   OverIsBeyond = (has : K → ℕ → Bool) (join : K → K → K) (cs : List Clone) (front bound s : ℕ)
       (old : List (Copy S M N K))
@@ -112,42 +112,42 @@ module _ {S M N : Type 0} (K : Type 0) (sim : Simulation S M N) where
       AreOver sim has (ends_of sim cs) s bound old over → (c : ℕ) →
       (has over c ≡ true) ↔ ((c < length cs) × IsBeyond sim s bound (clone_at cs c))
 
-  -- what a copy gains is at most the limit for each of its clones, whomever it stands for
+  -- a copy gains at most the limit for each of its clones, whichever clones it represents
   abbrev pub CopyGainsFew : (ℕ → S → Type 0) → Type 0
   CopyGainsFew Good = (has : K → ℕ → Bool) (ends : ℕ → ℕ) (s bound n size : ℕ) (r : Copy S M N K)
       (sent : List (M × K)) →
       Good s r.state → SortedMarked sim.order r.pending → IsCount (λ c. Carries has r c) size →
       IsCount (IsGained (IsCutLog sim has ends s bound r sent) r.log) n → n ≤ size * sim.limit
 
-  -- and so it is for several copies
+  -- and so do several copies
   abbrev pub CopiesGainFew : (ℕ → S → Type 0) → Type 0
   CopiesGainFew Good = (has : K → ℕ → Bool) (ends : ℕ → ℕ) (s bound n : ℕ) (size : K → ℕ) (old : List (Copy S M N K)) →
       AreReady K sim Good s old → TellsSizes has size old →
       GainTogether sim has ends s bound old n → n ≤ sum_by (λ a. size a.set) old * sim.limit
 
   module _ (has : K → ℕ → Bool) (cs : List Clone) (s : ℕ) where
-    -- from window to window, up to each of the fronts, the copies of station s stand for the clones, and all that
-    -- they gain are n prefixes
+    -- from window to window, up to each of the fronts, the copies of station s represent the clones, and they gain n
+    -- prefixes in all
     abbrev pub WindowsGain : ℕ → List ℕ → ℕ → Type 0
     WindowsGain front [] n = n ≡ 0
     WindowsGain front (f ∷ fs) n = (copies : List (Copy S M N K)) × (m : ℕ) × (k : ℕ) ×
         Stands sim has cs front s copies × GainTogether sim has (ends_of sim cs) s f copies m × WindowsGain f fs k
         × (n ≡ m + k)
 
-  -- where no log gets too long, all windows from a front to the horizon gain what is handled once besides
+  -- if no log gets too long, all windows from a front to the horizon gain the rest of the number handled once
   abbrev pub WindowsAddUp : Type 0
   WindowsAddUp = (w : Counting M N K) (cs : List Clone) (s front n : ℕ) (fs : List ℕ) →
       0 < sim.lookahead → AreFronts sim cs front fs → AreWithinLimitAt sim cs s sim.horizon →
       WindowsGain w.has cs s front fs n
       → handled_once sim w.same cs s sim.horizon ≡ handled_once sim w.same cs s front + n
 
-  -- so the windows of a run gain what its report says
+  -- so the windows of a run gain the number in its report
   abbrev pub RunAddsUp : Type 0
   RunAddsUp = (w : Counting M N K) (cs : List Clone) (s n : ℕ) (fs : List ℕ) →
       0 < sim.lookahead → AreFronts sim cs 0 fs → AreWithinLimitAt sim cs s sim.horizon →
       WindowsGain w.has cs s 0 fs n → handled_once sim w.same cs s sim.horizon ≡ n
 
-  -- copies of a station that stand for the clones at a front, and how many clones each has
+  -- copies of a station that represent the clones at a front, and the number of clones of each
   pub record CountedCopies : Type 0 where
     pub has : K → ℕ → Bool
     pub size : K → ℕ
@@ -158,7 +158,7 @@ module _ {S M N : Type 0} (K : Type 0) (sim : Simulation S M N) where
     pub sized : TellsSizes has size copies
     pub stand : Stands sim has clones front station copies
 
-  -- each clone by itself would handle the messages of its copy's log
+  -- each clone alone would handle the messages of its copy's log
   abbrev pub AloneIsOfCopies : Type 0
   AloneIsOfCopies = (w : CountedCopies) →
       handled_alone sim w.clones w.station w.front ≡ sum_by (λ a. w.size a.set * length a.log) w.copies

@@ -1,7 +1,7 @@
--- What the laws of runs ask of a simulation: of its order of messages, and of what its stations do.
+-- The requirements of the laws on a simulation: on its order of messages, and on its stations.
 --
--- What is asked of a station holds in states that are good, which the author of a simulation may choose;
--- a station opens in a good state, and stays in one.
+-- The requirements on a station hold in good states, which the author of a simulation chooses. A station opens in a
+-- good state, and stays in good states.
 use Rattle.std.specs.Prelude.{◌≡◌, ◌⊎◌, ℕ, ◌+◌, ◌<◌, ◌≤◌, List, Some, length}
 use Rattle.std.specs.List.{AllByRecursion}
 use Rattle.std.specs.Cmp.{IsTotalOrder}
@@ -14,7 +14,7 @@ use Rattle.run_laws.specs.Queue.{In}
 use Rattle.run_laws.specs.Simulation.{Simulation}
 use Rattle.run_laws.specs.World.{World}
 
--- an order that tells any two elements apart
+-- an order that separates any two elements
 pub record IsOrder {M : Type 0} (cmp : M → M → Ordering) : Type 0 where
   pub total : IsTotalOrder cmp
   pub same : (x y : M) → cmp x y ≡ Equal → x ≡ y
@@ -24,7 +24,7 @@ pub record IsTimed {M : Type 0} (cmp : M → M → Ordering) (time : M → ℕ) 
   pub order : IsOrder cmp
   pub timed : (x y : M) → cmp x y ≡ Less → time x ≤ time y
 
--- a machine that stays good, and whose sends come later than what was handled
+-- a machine that stays good, and whose sends come later than the handled message
 pub record IsLawful {X M : Type 0} (time : M → ℕ) (handle : X → M → X × List M) (Good : X → Type 0) : Type 0 where
   pub keeps : (x : X) (m : M) → Good x → Good (handle x m).0
   pub later : (x : X) (m : M) → Good x → AllByRecursion (λ z. time m < time z) (handle x m).1
@@ -51,35 +51,35 @@ module _ {S M N : Type 0} (sim : Simulation S M N) where
   abbrev pub AllAreForStations : List Clone → Type 0
   AllAreForStations cs = (c : ℕ) → c < length cs → AreForStations (clone_at cs c).plans
 
-  -- what the runs, the windows and the copies rest on
+  -- the requirements of the laws of runs, windows and copies
   pub record HandlesLawfully (Good : ℕ → S → Type 0) : Type 0 where
     pub order : IsTimed sim.order sim.time
     pub opens : (s : ℕ) → Good s (sim.setup s).state
     pub keeps : (s : ℕ) (st : S) (m : M) → Good s st → Good s (sim.handle s st m).state
-    -- what is sent comes later
+    -- a send comes later
     pub later : (s : ℕ) (st : S) (m : M) → Good s st →
         AllByRecursion (λ z. sim.time m < sim.time z) (sim.handle s st m).sends
-    -- and to another station by the lookahead later, or more
+    -- and a send to another station comes later by the lookahead or more
     pub far : (s : ℕ) (st : S) (m z : M) → Good s st → In z (sim.handle s st m).sends → ¬ (sim.to z ≡ s) →
         sim.time m + sim.lookahead ≤ sim.time z
 
-  -- every message is for a station, where the decisions are
+  -- every message is for a station, if the decisions are
   pub record SendsToStations (Good : ℕ → S → Type 0) : Type 0 where
     pub first : (s : ℕ) (m : M) → IsStation s → (sim.setup s).first ≡ Some m → sim.to m ≡ s
     pub set_message : (k : ℕ) (p : Planned) → sim.to (sim.set_message k p) ≡ p.station
     pub sends : (s : ℕ) (st : S) (m z : M) → IsStation s → Good s st → In z (sim.handle s st m).sends →
         IsStation (sim.to z)
 
-  -- a station numbers what it sends, each number once, and a decision, whose sender is 0, has its place in the list
+  -- a station numbers its sends, each number once; a decision has sender 0 and its place in the list as its number
   pub record HandlesFreshly (Good : ℕ → S → Type 0) (sender number : M → ℕ) (next : S → ℕ) : Type 0 where
     -- messages that differ in time, sender or number are ordered by those
     pub keyed : (x y : M) → sim.order x y ≡ Less →
         (key_order sim.time sender number x y ≡ Less) ⊎ (key_order sim.time sender number x y ≡ Equal)
-    -- what a station opens with is its own, of a number that is used up
+    -- the opening message of a station is its own, and its number counts as used
     pub opened : (s : ℕ) (m : M) → IsStation s → (sim.setup s).first ≡ Some m →
         (sender m ≡ s) × (number m < next (sim.setup s).state)
     pub set_message : (k : ℕ) (p : Planned) → (sender (sim.set_message k p) ≡ 0) × (number (sim.set_message k p) ≡ k)
-    -- what a station sends is its own, and has numbers from the next one on, which are used up then, each number once
+    -- the sends of a station are its own, with numbers from the next one on, each used once
     pub mine : (s : ℕ) (st : S) (m z : M) → IsStation s → Good s st → In z (sim.handle s st m).sends → sender z ≡ s
     pub low : (s : ℕ) (st : S) (m z : M) → IsStation s → Good s st → In z (sim.handle s st m).sends → next st ≤ number z
     pub high : (s : ℕ) (st : S) (m z : M) → IsStation s → Good s st → In z (sim.handle s st m).sends →

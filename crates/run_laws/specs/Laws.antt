@@ -1,4 +1,4 @@
--- What is proved of machines and of runs, in words that contracts cite.
+-- The laws of machines and of runs, as statements that contracts cite.
 use Rattle.std.specs.Prelude.{◌≡◌, ◌⊎◌, ◌↔◌, ℕ, ◌<◌, ◌≤◌, List}
 use Rattle.std.specs.Prelude.{◌==◌, ◌&&◌, if◌then◌else◌, map, length, nat_lt}
 use Rattle.std.specs.List.{filter}
@@ -15,7 +15,7 @@ use Rattle.run_laws.specs.Runs.{end_of, IsTimelyEnd, run_of, log_at, state_at, a
 use Rattle.run_laws.specs.Fronts.{IsWindow}
 use Rattle.run_laws.specs.Handlers.{key_order, IsStation, AreForStations}
 
--- a message more is pending
+-- one message more is pending
 abbrev pub and_pending : {X M : Type 0} → (M → M → Ordering) → M → Config X M → Config X M
 and_pending cmp m c = record { at = c.at; pending = insert cmp m c.pending }
 
@@ -31,22 +31,22 @@ module _ {X M : Type 0} (cmp : M → M → Ordering) (time : M → ℕ) (handle 
       Reach cmp time handle bound c (run_to cmp handle time c bound)
       × IsSettled time bound (run_to cmp handle time c bound)
 
-  -- whatever turns before the bound lead to where no message before it is left, that is the run
+  -- if turns before the bound lead to a state with no message before it, that is the run
   abbrev pub RunIsDetermined : Type 0
   RunIsDetermined = (bound : ℕ) (c d : Config X M) → IsReady c →
       Reach cmp time handle bound c d → IsSettled time bound d → d ≡ run_to cmp handle time c bound
 
-  -- a run to one bound, and on from there to a later one, is the run to the later one
+  -- a run to one bound, continued to a later one, is the run to the later one
   abbrev pub RunGoesOn : Type 0
   RunGoesOn = (front bound : ℕ) (c : Config X M) → IsReady c → front ≤ bound →
       run_to cmp handle time (run_to cmp handle time c front) bound ≡ run_to cmp handle time c bound
 
-  -- a message at or after the bound changes nothing but that it is pending
+  -- a message at or after the bound stays pending, and changes nothing else
   abbrev pub LateMessageStaysPending : Type 0
   LateMessageStaysPending = (bound : ℕ) (c : Config X M) (m : M) → IsReady c → bound ≤ time m →
       run_to cmp handle time (and_pending cmp m c) bound ≡ and_pending cmp m (run_to cmp handle time c bound)
 
--- a message that a world has handled, or that is pending there
+-- a message that a world has handled, or that is pending in it
 abbrev pub IsMessageOf : {S M N : Type 0} → Config (World S M N) M → M → Type 0
 IsMessageOf w m = In m (map (λ e. e.msg) w.at.trace) ⊎ In m w.pending
 
@@ -60,37 +60,37 @@ module _ {S M N : Type 0} (sim : Simulation S M N) where
   TraceRises sender number = (c : Clone) (front : ℕ) → AreForStations sim c.plans →
       Sorted (key_order sim.time sender number) (map (λ e. e.msg) (run_of sim c front).at.trace)
 
-  -- no two messages of a clone have one sender and number
+  -- no two messages of a clone have the same sender and number
   abbrev pub NumbersAreOnce : (M → ℕ) → (M → ℕ) → Type 0
   NumbersAreOnce sender number = (c : Clone) (front : ℕ) (m k : M) → AreForStations sim c.plans →
       IsMessageOf (run_of sim c front) m → IsMessageOf (run_of sim c front) k → sender m ≡ sender k →
       number m ≡ number k → m ≡ k
 
-  -- every message that is due is for a station, where the decisions are
+  -- every due message is for a station, if the decisions are
   abbrev pub DueIsForStations : Type 0
   DueIsForStations = (c : Clone) (front : ℕ) (m : M) → AreForStations sim c.plans → In m (all_due sim c front) →
       IsStation sim (sim.to m)
 
-  -- the state of a station at a front is what the messages of its log lead to from its opening state
+  -- the state of a station at a front results from its opening state by the messages of its log
   abbrev pub StateIsReplay : Type 0
   StateIsReplay = (c : Clone) (s front : ℕ) →
       state_at sim c s front ≡ replay sim.to sim.handle s (sim.setup s).state (log_at sim c s front)
 
-  -- whatever the log, that state is good
+  -- that state is good for every log
   abbrev pub ReplayIsGood : (ℕ → S → Type 0) → Type 0
   ReplayIsGood Good = (s : ℕ) (es : List (Entry M N)) → Good s (replay sim.to sim.handle s (sim.setup s).state es)
 
-  -- two clones whose logs at a station are equal have it in one state
+  -- if two clones have equal logs at a station, they have it in the same state
   abbrev pub EqualLogsEqualStates : Type 0
   EqualLogsEqualStates = (c d : Clone) (s front : ℕ) →
       log_at sim c s front ≡ log_at sim d s front → state_at sim c s front ≡ state_at sim d s front
 
-  -- the log of a station at a front is that part of any later log which comes before the front
+  -- the log of a station at a front is the part of any later log before the front
   abbrev pub LogAtFront : Type 0
   LogAtFront = (c : Clone) (s front bound : ℕ) → front ≤ bound →
       entries_before front (log_at sim c s bound) ≡ log_at sim c s front
 
-  -- what a new decision, as the message m, changes at a front: m is due, where it comes before the clone's end
+  -- the changes at a front by a new decision, as the message m: m is due if it comes before the clone's end
   pub record AddsDue (c : Clone) (p : Planned) (m : M) (front : ℕ) : Type 0 where
     pub world : (run_of sim (with_plan c p) front).at ≡ (run_of sim c front).at
     pub due : all_due sim (with_plan c p) front
@@ -100,29 +100,30 @@ module _ {S M N : Type 0} (sim : Simulation S M N) where
         ≡ (if nat_lt (sim.time m) (end_of sim c) && sim.to m == s then insert sim.order m
         (due_at sim c s front) else due_at sim c s front)
 
-  -- a decision at or after a front adds its message to what is due, and changes nothing else
+  -- a decision at or after a front adds its message to the due ones, and changes nothing else
   abbrev pub DecisionAddsDue : Type 0
   DecisionAddsDue = (c : Clone) (p : Planned) (front : ℕ) →
       front ≤ sim.time (sim.set_message (length c.plans) p) → AddsDue c p (sim.set_message (length c.plans) p) front
 
-  -- what a new end changes at a front: the due messages from it on are no longer due
+  -- the changes at a front by a new end: the messages from it on are no longer due
   pub record DropsDue (c : Clone) (at front : ℕ) : Type 0 where
     pub world : (run_of sim (with_end c at) front).at ≡ (run_of sim c front).at
     pub due : all_due sim (with_end c at) front ≡ earlier_than sim.time at (all_due sim c front)
     pub due_here : (s : ℕ) → due_at sim (with_end c at) s front ≡ earlier_than sim.time at (due_at sim c s front)
 
-  -- an end at or after a front, and not past the end that the clone had, drops the due messages from it on,
-  -- and changes nothing else
+  -- an end at or after a front, and not past the clone's present end, drops the due messages from it on, and changes
+  -- nothing else
   abbrev pub EndDropsDue : Type 0
   EndDropsDue = (c : Clone) (at front : ℕ) → IsTimelyEnd sim c front at → DropsDue c at front
 
-  -- station s of a clone by itself, from a front to a bound
+  -- station s of a clone alone, from a front to a bound
   abbrev pub window : Clone → ℕ → ℕ → ℕ → Config (LocalStation S M N) M
   window c s front bound = local_run sim s (log_at sim c s front) (state_at sim c s front)
       (due_at sim c s front) bound (end_of sim c)
 
-  -- the stations of a clone, each by itself from a front to a bound, come to what the clone's run comes to;
-  -- due at a station is then what it has left, and what others have laid aside for it, before the clone's end
+  -- the windows of a clone's stations, each alone from a front to a bound, end with the logs and states of the clone's
+  -- run. A station's due messages are then its own remaining ones, and those that others laid aside for it, before the
+  -- clone's end
   pub record WindowsGive (c : Clone) (front bound : ℕ) : Type 0 where
     pub log : (s : ℕ) → log_at sim c s bound ≡ (window c s front bound).at.log
     pub state : (s : ℕ) → state_at sim c s bound ≡ (window c s front bound).at.state
@@ -131,7 +132,7 @@ module _ {S M N : Type 0} (sim : Simulation S M N) where
         ((sim.time m < end_of sim c) × (In m (window c s front bound).pending
         ⊎ ((sim.to m ≡ s) × ((r : ℕ) × In m (window c r front bound).at.aside))))
 
-  -- so it is for each of several clones, where the bound is not past their next front
+  -- so it is for each of several clones, if the bound is not past their next front
   abbrev pub WindowsGiveRuns : Type 0
   WindowsGiveRuns = (cs : List Clone) (c : Clone) (front bound : ℕ) → In c cs → IsWindow sim cs front bound →
       WindowsGive c front bound

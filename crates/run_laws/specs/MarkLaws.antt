@@ -1,4 +1,5 @@
--- What is proved of marks, in words that contracts cite: the halves of a split, and a fork, take what was taken.
+-- The laws of marks, as statements that contracts cite: the halves of a split, and a fork, take the same messages as
+-- before.
 use Rattle.std.specs.Prelude.{◌≡◌, ℕ, List, Bool, true, false, Option, Some}
 use Rattle.std.specs.List.{AllByRecursion}
 use Rattle.sim_base.specs.Pending.{cut_by, spread_marks}
@@ -7,7 +8,7 @@ use Rattle.run_laws.specs.Simulation.{Simulation}
 use Rattle.run_laws.specs.Copies.{AreOf, part, messages_taken, takes_as, origin_of}
 
 module _ {S M N : Type 0} (K : Type 0) (sim : Simulation S M N) where
-  -- a clone of a half takes of the messages that were cut to it what it took of the whole
+  -- a clone of a half takes the same messages of those cut to the half as of all
   abbrev pub HalfTakesTheSame : Type 0
   HalfTakesTheSame = (has : K → ℕ → Bool) (meet : K → K → Option K) (ends : ℕ → ℕ) (half : K) (c : ℕ)
       (q : List (M × K)) →
@@ -19,7 +20,7 @@ module _ {S M N : Type 0} (K : Type 0) (sim : Simulation S M N) where
   HalfKeepsItsMarks = (has : K → ℕ → Bool) (meet : K → K → Option K) (half : K) (q : List (M × K)) →
       MeetsMarks has meet → AllByRecursion (λ x. (c : ℕ) → has x.1 c ≡ true → has half c ≡ true) (cut_by meet half q)
 
-  -- where a new clone is put beside an old one in all marks, each clone takes what the clone that it was took
+  -- after a new clone joins an old one in all marks, each clone takes the messages that its origin took
   abbrev pub ForkTakesAsItsOrigin : Type 0
   ForkTakesAsItsOrigin = (has : K → ℕ → Bool) (join : K → K → K) (meet : K → K → Option K) (ends : ℕ → ℕ) (old new : ℕ)
       (of_old of_new : K) (c : ℕ) (q : List (M × K)) →

@@ -15,12 +15,12 @@ merge_by Equal x y with_x with_y = x ∷ with_x
 merge_by Greater x y with_x with_y = y ∷ with_y
 
 module _ {X : Type 0} (cmp : X → X → Ordering) where
-  -- x is put before the first of ys that does not come before it; `rest` merges what follows x
+  -- x is put before the first of ys that does not come before it; `rest` merges the elements after x
   abbrev pub merge_at : X → (List X → List X) → List X → List X
   merge_at x rest [] = x ∷ rest []
   merge_at x rest (y ∷ ys) = merge_by (cmp x y) x y (rest (y ∷ ys)) (merge_at x rest ys)
 
-  -- two lists as one; of elements that tie, that of the first list goes first
+  -- two lists as one; of elements that tie, that of the first list comes first
   abbrev pub merge : List X → List X → List X
   merge [] ys = ys
   merge (x ∷ xs) ys = merge_at x (merge xs) ys

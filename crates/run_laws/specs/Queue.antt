@@ -5,14 +5,14 @@ use Rattle.std.specs.declared.cmp.Ordering.{Ordering}
 use Rattle.std.specs.declared.cmp.Ordering.TheVariants.{Less, Equal, Greater}
 pub use Rattle.sim_base.specs.Counts.{In}
 
--- x before y ∷ ys, in y's stead, or in the rest after y
+-- x is put before y ∷ ys, replaced by y if equal, or put into the rest after y
 abbrev pub insert_by : {X : Type 0} → Ordering → X → X → List X → List X → List X
 insert_by Less x y ys rest = x ∷ y ∷ ys
 insert_by Equal x y ys rest = y ∷ ys
 insert_by Greater x y ys rest = y ∷ rest
 
 module _ {X : Type 0} (cmp : X → X → Ordering) where
-  -- adds x in its place; where it is there already, nothing changes
+  -- adds x in its place; if it is already there, nothing changes
   abbrev pub insert : X → List X → List X
   insert x [] = x ∷ []
   insert x (y ∷ ys) = insert_by (cmp x y) x y ys (insert x ys)

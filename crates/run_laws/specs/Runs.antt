@@ -8,13 +8,13 @@ use Rattle.run_laws.specs.Machine.{Config, run_to}
 use Rattle.run_laws.specs.Simulation.{Simulation}
 use Rattle.run_laws.specs.World.{World, first_world, world_step, to_it, log_of}
 
--- a clone may be forked: it is there, and has no end
+-- a clone may be forked: it exists, and has no end
 pub record MayFork (cs : List Clone) (old : ℕ) : Type 0 where
   pub there : old < length cs
   pub going : (clone_at cs old).end ≡ None
 
 module _ {S M N : Type 0} (sim : Simulation S M N) where
-  -- the run of a world, from what it is now, to a front: every message below the front is handled
+  -- the run of a world from its present state to a front: every message below the front is handled
   abbrev pub run_from : Config (World S M N) M → ℕ → Config (World S M N) M
   run_from world front = run_to sim.order (world_step sim.to sim.handle) sim.time world front
 
@@ -22,30 +22,30 @@ module _ {S M N : Type 0} (sim : Simulation S M N) where
   abbrev pub run : List Planned → ℕ → Config (World S M N) M
   run plans front = run_from (first_world sim plans) front
 
-  -- a clone's end, which is the horizon where it has none
+  -- a clone's end, or the horizon if it has none
   abbrev pub end_of : Clone → ℕ
   end_of c = unwrap_or c.end sim.horizon
 
-  -- m is the message of a decision of clone who, which is there, and comes at a front or later
+  -- m is the message of a decision of clone who, which exists, and comes at a front or later
   pub record IsTimelyPlan (cs : List Clone) (front who : ℕ) (p : Planned) (m : M) : Type 0 where
     pub there : who < length cs
     pub is : m ≡ sim.set_message (length (clone_at cs who).plans) p
     pub late : front ≤ sim.time m
 
-  -- a clone may end so: at a front or later, and not past the end that it has
+  -- a clone may end then: at a front or later, and not past its present end
   pub record IsTimelyEnd (c : Clone) (front at : ℕ) : Type 0 where
     pub late : front ≤ at
     pub within : at ≤ end_of c
 
-  -- a clone's run to a front: its end, where that comes first, is as far as it goes
+  -- a clone's run to a front, or to its end if that comes first
   abbrev pub run_of : Clone → ℕ → Config (World S M N) M
   run_of c front = run c.plans (min front (end_of c))
 
-  -- all that a clone handles before the horizon
+  -- the entries of all messages that a clone handles before the horizon
   abbrev pub trace_of : Clone → List (Entry M N)
   trace_of c = (run_of c sim.horizon).at.trace
 
-  -- what station s has handled before a front
+  -- the entries of station s before a front
   abbrev pub log_at : Clone → ℕ → ℕ → List (Entry M N)
   log_at c s front = log_of sim.to s (run_of c front).at.trace
 

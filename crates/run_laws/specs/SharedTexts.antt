@@ -1,4 +1,4 @@
--- What the traces of two clones have in common, and how long their lines are together.
+-- What the traces of two clones have in common, and the total length of their lines.
 use Rattle.std.specs.Prelude.{◌≡◌, ℕ, zero, suc, ◌+◌, ◌≤◌, List, [], ◌∷◌, ◌++◌}
 use Rattle.std.specs.Prelude.{Bool, true, not, if◌then◌else◌, min, nat_lt, length, take, sum_by}
 use Rattle.std.specs.List.{filter, flat_map}
@@ -15,7 +15,7 @@ use Rattle.run_laws.specs.Handlers.{AreForStations}
 use Rattle.run_laws.specs.Merges.{entry_order}
 use Rattle.run_laws.specs.TraceLaws.{InLists}
 
--- the least time, from `most` down, of a decision that one of two lists has at a place and the other has not
+-- the least time, at most `most`, of a decision that is in only one of two lists at its place
 abbrev pub parting_time : (Planned → Planned → Bool) → ℕ → List Planned → List Planned → ℕ
 parting_time same most [] [] = most
 parting_time same most (p ∷ ps) [] = min p.at (parting_time same most ps [])
@@ -23,7 +23,7 @@ parting_time same most [] (q ∷ qs) = min q.at (parting_time same most [] qs)
 parting_time same most (p ∷ ps) (q ∷ qs) =
     if same p q then parting_time same most ps qs else min (min p.at q.at) (parting_time same most ps qs)
 
--- the sum of a number for each station from 1 to n
+-- the sum of f over the stations 1 to n
 abbrev pub station_sum : (ℕ → ℕ) → ℕ → ℕ
 station_sum f zero = 0
 station_sum f (suc n) = station_sum f n + f (suc n)
@@ -33,38 +33,38 @@ module _ {S M N : Type 0} (sim : Simulation S M N) where
   abbrev pub entries_from : ℕ → List (Entry M N) → List (Entry M N)
   entries_from t es = filter (λ e. not (nat_lt (sim.time e.msg) t)) es
 
-  -- what the log of station s has from a time on
+  -- the entries of station s from a time on
   abbrev pub log_from : Clone → ℕ → ℕ → List (Entry M N)
   log_from c t s = entries_from t (log_at sim c s sim.horizon)
 
-  -- the time before which two clones have one trace
+  -- the time before which two clones have the same trace
   abbrev pub parting_of : (Planned → Planned → Bool) → Clone → Clone → ℕ
   parting_of same c d = parting_time same (min (end_of sim c) (end_of sim d)) c.plans d.plans
 
-  -- `same` holds of no two different decisions, and each decision comes at its time
+  -- `same` is false for different decisions, and each decision comes at its time
   pub record TellsPlans (same : Planned → Planned → Bool) : Type 0 where
     pub sound : (p q : Planned) → same p q ≡ true → p ≡ q
     pub at : (k : ℕ) (p : Planned) → sim.time (sim.set_message k p) ≡ p.at
 
-  -- clones whose decisions agree below a time that neither ends before have one trace before it
+  -- clones have the same trace before a time if their decisions agree below it and neither ends before it
   abbrev pub TracesAgree : Type 0
   TracesAgree = (c d : Clone) (t : ℕ) → t ≤ end_of sim c → t ≤ end_of sim d → t ≤ sim.horizon →
       earlier_than sim.time t (set_messages sim 0 c.plans) ≡ earlier_than sim.time t (set_messages sim 0 d.plans) →
       entries_before sim t (trace_of sim c) ≡ entries_before sim t (trace_of sim d)
 
-  -- and so do clones up to where their decision lists part
+  -- and so do clones until their decision lists diverge
   abbrev pub TracesAgreeToParting : Type 0
   TracesAgreeToParting = (same : Planned → Planned → Bool) (c d : Clone) → TellsPlans same →
       end_of sim c ≤ sim.horizon → end_of sim d ≤ sim.horizon →
       entries_before sim (parting_of same c d) (trace_of sim c)
       ≡ entries_before sim (parting_of same c d) (trace_of sim d)
 
-  -- a trace is what comes before a time, and then the rest
+  -- a trace is its part before a time followed by the rest
   abbrev pub TraceIsSplit : Type 0
   TraceIsSplit = (c : Clone) (t : ℕ) → AreForStations sim c.plans →
       trace_of sim c ≡ entries_before sim t (trace_of sim c) ++ entries_from t (trace_of sim c)
 
-  -- where two clones part, the lines of the one so far are the first lines of the other, whatever a line is
+  -- before two clones diverge, their first lines are equal, for every format of a line
   abbrev pub LinesAgree : Type 0
   LinesAgree = (same : Planned → Planned → Bool) (c d : Clone) (line : Entry M N → List ℕ) → TellsPlans same →
       end_of sim c ≤ sim.horizon → end_of sim d ≤ sim.horizon → AreForStations sim c.plans
@@ -80,8 +80,8 @@ module _ {S M N : Type 0} (sim : Simulation S M N) where
       length (flat_map line (entries_from t (trace_of sim c))) ≡
       station_sum (λ s. sum_by (λ e. length (line e)) (log_from c t s)) sim.stations
 
-  -- a list that rises by key, and has the entries of the stations' logs from a time on and no others,
-  -- is the trace from there on
+  -- a list that rises by key, and has exactly the entries of the stations' logs from a time on, is the trace from then
+  -- on
   abbrev pub RestIsOfLogs : (M → ℕ) → (M → ℕ) → Type 0
   RestIsOfLogs sender number = (c : Clone) (t : ℕ) (es : List (Entry M N)) → AreForStations sim c.plans →
       Sorted (entry_order sim.time sender number) es → ((e : Entry M N) → In e es → InLists sim (log_from c t) e) →

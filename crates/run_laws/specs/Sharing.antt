@@ -21,11 +21,11 @@ module _ {E : Type 0} (same : E → E → Bool) where
   same_list xs ys = false
 
 module _ {S M N : Type 0} (sim : Simulation S M N) where
-  -- the logs of the clones at a station, one clone after the other
+  -- the logs of the clones at a station, in the order of the clones
   abbrev pub logs_at : List Clone → ℕ → ℕ → List (List (Entry M N))
   logs_at cs s front = map (λ c. log_at sim c s front) cs
 
-  -- handled alone: each clone by itself handles the messages of its log
+  -- handled alone: each clone alone handles the messages of its log
   abbrev pub handled_alone : List Clone → ℕ → ℕ → ℕ
   handled_alone cs s front = sum_by length (logs_at cs s front)
 
@@ -33,21 +33,21 @@ module _ {S M N : Type 0} (sim : Simulation S M N) where
   abbrev pub IsBeyond : ℕ → ℕ → Clone → Type 0
   IsBeyond s front c = sim.limit < length (log_at sim c s front)
 
-  -- and its log at no station is
+  -- and at no station is its log beyond the limit
   abbrev pub IsWithinLimit : ℕ → Clone → Type 0
   IsWithinLimit front c = (s : ℕ) → IsStation sim s → ¬ (IsBeyond s front c)
 
   module _ (same : Entry M N → Entry M N → Bool) where
-    -- the number of classes at a station: its different logs
+    -- the number of classes at a station: of different logs
     abbrev pub copies : List Clone → ℕ → ℕ → ℕ
     copies cs s front = distinct_count (same_list same) (logs_at cs s front)
 
-    -- handled once: what clones have in common from the start on counts once, so this is the number
-    -- of different nonempty prefixes of their logs
+    -- handled once: the past that clones share counts once, so this is the number of different nonempty prefixes of
+    -- their logs
     abbrev pub handled_once : List Clone → ℕ → ℕ → ℕ
     handled_once cs s front = distinct_count (same_list same) (flat_map prefixes (logs_at cs s front))
 
-    -- handled once, where of each log no more counts than the limit allows
+    -- handled once, with each log cut to the limit
     abbrev pub handled_to_limit : List Clone → ℕ → ℕ → ℕ
     handled_to_limit cs s front = distinct_count (same_list same)
         (flat_map prefixes (map (take sim.limit) (logs_at cs s front)))

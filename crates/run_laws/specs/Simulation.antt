@@ -1,22 +1,22 @@
--- What a run is about: messages and their order, stations, and how a station handles a message.
+-- The parts of a run: messages and their order, stations, and how a station handles a message.
 --
--- S are the states of stations, M messages, N the counts that a log shows after a message.
+-- S are the states of stations, M messages, N the counts that a log has for each message.
 use Rattle.std.specs.Prelude.{ℕ, List, Option}
 use Rattle.std.specs.declared.cmp.Ordering.{Ordering}
 use Rattle.sim_base.specs.declared.decision.Planned.{Planned}
 
--- what the handling of a message gives
+-- the result of handling a message
 pub record Outcome (S M N : Type 0) : Type 0 where
   pub state : S
   pub sends : List M
   pub line : N
 
--- what a station opens with
+-- a station's state at the start, and its first message
 pub record Opening (S M : Type 0) : Type 0 where
   pub state : S
   pub first : Option M
 
--- all that a run is about: the messages, the stations and how they handle messages, and the bounds of the run
+-- the parts of a run: the messages, the stations and how they handle messages, and the bounds of the run
 pub record Simulation (S M N : Type 0) : Type 0 where
   -- the order of messages, the time stamp and the receiver of each
   pub order : M → M → Ordering
@@ -31,5 +31,5 @@ pub record Simulation (S M N : Type 0) : Type 0 where
   -- no link is faster than the lookahead; nothing is handled at the horizon or later
   pub lookahead : ℕ
   pub horizon : ℕ
-  -- how many entries the log of a station may have
+  -- the most entries in the log of a station
   pub limit : ℕ

@@ -1,5 +1,5 @@
--- What is proved of a step of a station's copies up to a bound, in words that contracts cite: copy after copy,
--- the results of each are what its clones' own windows give; and of giving messages to copies.
+-- The laws of a step of a station's copies up to a bound, as statements that contracts cite. The results of each copy
+-- are those of its clones' own windows. Then the laws of giving messages to copies.
 use Rattle.std.specs.Prelude.{◌≡◌, ◌⊎◌, ℕ, ◌+◌, ◌<◌, ◌≤◌, List, [], ◌∷◌, ◌++◌, Bool, false, length}
 use Rattle.std.specs.List.{AllByRecursion, AllZip}
 use Rattle.sim_base.specs.Clones.{Clone}
@@ -11,8 +11,7 @@ use Rattle.run_laws.specs.Copies.{view, ComesTo, IsStepped, AreOver, SoFar, Disj
 use Rattle.run_laws.specs.Copies.{GainTogether, IsGiven, SoFarGiven, ends_of, IsDelivered, AllTake, NoneTakes}
 use Rattle.run_laws.specs.Machine.{IsSettled}
 
--- what a step works with: which clones marks have and what marks are joined, when each clone ends, the station, and
--- the bound up to which it goes
+-- the parameters of a step: the clones of marks, the union of marks, the end of each clone, the station, and the bound
 pub record Step (K : Type 0) : Type 0 where
   pub has : K → ℕ → Bool
   pub join : K → K → K
@@ -23,7 +22,7 @@ pub record Step (K : Type 0) : Type 0 where
 
 -- K are sets of clones
 module _ {S M N : Type 0} (K : Type 0) (sim : Simulation S M N) (Good : ℕ → S → Type 0) where
-  -- the copy r gives these copies, sends, clones over the limit and so many new prefixes
+  -- the copy r results in these copies, sends, clones over the limit and number of new prefixes
   abbrev pub Gives : Step K → Copy S M N K → List (Copy S M N K) → List (M × K) → List (M × K) → K → K → ℕ → Type 0
   Gives w = ComesTo sim w.has w.ends w.station w.bound
 
@@ -31,20 +30,20 @@ module _ {S M N : Type 0} (K : Type 0) (sim : Simulation S M N) (Good : ℕ → 
   abbrev pub AreReady : ℕ → List (Copy S M N K) → Type 0
   AreReady s old = (a : Copy S M N K) → In a old → Good s a.state × SortedMarked sim.order a.pending
 
-  -- a copy whose messages all come at the bound or later has nothing left before it
+  -- a copy whose messages all come at the bound or later has none left before it
   abbrev pub LateCopyIsSettled : Type 0
   LateCopyIsSettled = (w : Step K) (r : Copy S M N K) (sent : List (M × K)) (c : ℕ) →
       AllByRecursion (λ x. w.bound ≤ sim.time x.0) r.pending →
       IsSettled sim.time w.bound (view sim w.has w.ends c r sent)
 
-  -- a copy whose clones have nothing left before the bound stays, and gains nothing
+  -- a copy whose clones have no message left before the bound does not change, and gains nothing
   abbrev pub SettledCopyStays : Type 0
   SettledCopyStays = (w : Step K) (r : Copy S M N K) (sent : List (M × K)) (over : K) →
       (c : ℕ) × Carries w.has r c → length r.log ≤ sim.limit →
       ((c : ℕ) → Carries w.has r c → IsSettled sim.time w.bound (view sim w.has w.ends c r sent)) →
       Gives w r (r ∷ []) sent sent over over 0
 
-  -- the clones of a copy whose log is full, and that all take a message before the bound, go over the limit
+  -- if the log of a copy is full and all its clones take a message before the bound, they go over the limit
   abbrev pub FullCopyGoesOver : Type 0
   FullCopyGoesOver = (w : Step K) (r : Copy S M N K) (x : M × K) (q sent : List (M × K)) (over : K) →
       length r.log ≡ sim.limit → r.pending ≡ x ∷ q → AllTake sim w.has w.ends r x.0 x.1 → sim.time x.0 < w.bound →
@@ -61,7 +60,7 @@ module _ {S M N : Type 0} (K : Type 0) (sim : Simulation S M N) (Good : ℕ → 
       over_after n →
       Gives w r results sent after over over_after (n + 1)
 
-  -- a message that no clone of a copy takes may be passed over
+  -- a message that no clone of a copy takes may be skipped
   abbrev pub MessageOfNoneIsPassedOver : Type 0
   MessageOfNoneIsPassedOver = (w : Step K) (r : Copy S M N K) (x : M × K) (q before after : List (M × K))
       (results : List (Copy S M N K)) (over over_after : K) (n : ℕ) →
@@ -69,8 +68,8 @@ module _ {S M N : Type 0} (K : Type 0) (sim : Simulation S M N) (Good : ℕ → 
       Gives w (record r { pending = q }) results before after over over_after n →
       Gives w r results before after over over_after n
 
-  -- a copy of which some clones take the least message and some do not splits: its results are those of
-  -- its halves, whose logs differ from then on
+  -- a copy splits if only some of its clones take the least message. Its results are those of its halves, whose logs
+  -- differ from then on
   abbrev pub CopySplits : Type 0
   CopySplits = (w : Step K) (r some rest : Copy S M N K) (x : M × K) (q before mid after : List (M × K))
       (results1 results2 : List (Copy S M N K)) (over over1 over2 : K) (n1 n2 : ℕ) →
@@ -81,7 +80,7 @@ module _ {S M N : Type 0} (K : Type 0) (sim : Simulation S M N) (Good : ℕ → 
       Gives w some results1 before mid over over1 n1 → Gives w rest results2 mid after over1 over2 n2 →
       Gives w r (results1 ++ results2) before after over over2 (n1 + n2)
 
-  -- a step that has come so far may take one copy more
+  -- a step may take one copy more
   abbrev pub StepTakesCopies : Type 0
   StepTakesCopies = (w : Step K) (old new results : List (Copy S M N K)) (r : Copy S M N K) (out next : List (M × K))
       (over0 over over_after : K) (n : ℕ) →
@@ -89,21 +88,21 @@ module _ {S M N : Type 0} (K : Type 0) (sim : Simulation S M N) (Good : ℕ → 
       SoFar sim w.has w.ends w.station w.bound old new out over0 over → Gives w r results out next over over_after n →
       SoFar sim w.has w.ends w.station w.bound (old ++ r ∷ []) (new ++ results) next over0 over_after
 
-  -- a step with no clone over the limit gives for each clone what its own window gives
+  -- a step with no clone over the limit has for each clone the result of its own window
   abbrev pub StepGivesWindows : Type 0
   StepGivesWindows = (w : Step K) (old new : List (Copy S M N K)) (out : List (M × K)) (over0 over : K) →
       AreReady w.station old → ((c : ℕ) → w.has over c ≡ false) →
       SoFar sim w.has w.ends w.station w.bound old new out over0 over →
       IsStepped sim w.has w.ends w.station w.bound old new out
 
-  -- those that a step has put over the limit are the clones whose own windows give logs that are too long
+  -- the clones that a step has put over the limit are those whose own windows produce logs that are too long
   abbrev pub StepFindsThoseOver : Type 0
   StepFindsThoseOver = (w : Step K) (old new : List (Copy S M N K)) (out : List (M × K)) (over0 over : K) →
       AreReady w.station old → ((c : ℕ) → w.has over0 c ≡ false) →
       SoFar sim w.has w.ends w.station w.bound old new out over0 over →
       AreOver sim w.has w.ends w.station w.bound old over
 
-  -- the prefixes that one copy more gains are counted besides
+  -- the prefixes that one more copy gains are added
   abbrev pub CopiesGainTogether : Type 0
   CopiesGainTogether = (w : Step K) (old results : List (Copy S M N K)) (r : Copy S M N K) (out next : List (M × K))
       (over over_after : K) (n m : ℕ) →
@@ -113,7 +112,7 @@ module _ {S M N : Type 0} (K : Type 0) (sim : Simulation S M N) (Good : ℕ → 
       GainTogether sim w.has w.ends w.station w.bound (old ++ r ∷ []) (n + m)
 
 module _ {S M N : Type 0} (K : Type 0) (sim : Simulation S M N) where
-  -- before any message is given, the copies are as they were
+  -- before any message is given, the copies are unchanged
   abbrev pub NothingIsGiven : Type 0
   NothingIsGiven = (has : K → ℕ → Bool) (ends : ℕ → ℕ) (new : List (Copy S M N K)) → Disjoint has new →
       ((a : Copy S M N K) → In a new → SortedMarked sim.order a.pending) →
@@ -127,7 +126,7 @@ module _ {S M N : Type 0} (K : Type 0) (sim : Simulation S M N) where
       SoFarGiven sim has ends msgs new done → AllZip (IsGiven sim has ends m k) done next →
       SoFarGiven sim has ends (msgs ++ (m, k) ∷ []) new next
 
-  -- where the messages given to station s are, for each clone, those that the stations sent to it, all is delivered
+  -- all is delivered if the messages given to station s are, for each clone, those that the stations sent to it
   abbrev pub GivenIsDelivered : Type 0
   GivenIsDelivered = (has : K → ℕ → Bool) (cs : List Clone) (s : ℕ) (sent : ℕ → List (M × K)) (msgs : List (M × K))
       (new done : List (Copy S M N K)) →

@@ -1,4 +1,4 @@
--- What is proved of traces and the stations' logs, in words that contracts cite.
+-- The laws of traces and the stations' logs, as statements that contracts cite.
 use Rattle.std.specs.Prelude.{◌≡◌, ℕ, List}
 use Rattle.sim_base.specs.Clones.{Clone}
 use Rattle.sim_base.specs.declared.entry.Entry.{Entry}
@@ -18,7 +18,7 @@ module _ {S M N : Type 0} (sim : Simulation S M N) where
   InLogs c front e = InLists (λ s. log_at sim c s front) e
 
   module _ (sender number : M → ℕ) where
-    -- a list that rises by key, and has the entries of the stations' logs and no others, is the trace
+    -- a list that rises by key, and has exactly the entries of the stations' logs, is the trace
     abbrev pub TraceIsOfLogs : Type 0
     TraceIsOfLogs = (c : Clone) (front : ℕ) (es : List (Entry M N)) → AreForStations sim c.plans →
         Sorted (entry_order sim.time sender number) es → ((e : Entry M N) → In e es → InLogs c front e) →

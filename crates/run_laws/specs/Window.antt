@@ -1,4 +1,4 @@
--- One station by itself in a window.
+-- One station alone in a window.
 use Rattle.std.specs.Prelude.{ℕ, List, [], ◌∷◌, ◌++◌, ◌==◌, not, min, nat_lt}
 use Rattle.std.specs.List.{filter}
 use Rattle.sim_base.specs.declared.entry.Entry.{Entry}
@@ -6,7 +6,7 @@ use Rattle.run_laws.specs.Machine.{Config, run_to}
 use Rattle.run_laws.specs.Simulation.{Simulation, Outcome}
 use Rattle.run_laws.specs.World.{to_it}
 
--- a station by itself: its state, its log, and what it has laid aside for other stations
+-- a station alone: its state, its log, and the messages that it has laid aside for other stations
 pub record LocalStation (S M N : Type 0) : Type 0 where
   pub state : S
   pub log : List (Entry M N)
@@ -23,7 +23,7 @@ module _ {M : Type 0} (time : M → ℕ) where
   earlier_than t ms = filter (λ m. nat_lt (time m) t) ms
 
 module _ {S M N : Type 0} (to : M → ℕ) (handle : ℕ → S → M → Outcome S M N) where
-  -- station s handles a message: what it sends to itself becomes pending, and the rest is laid aside
+  -- station s handles a message: its sends to itself become pending, and the others are laid aside
   abbrev pub local_step : ℕ → LocalStation S M N → M → LocalStation S M N × List M
   local_step s p m =
       let h = handle s p.state m in (
@@ -41,8 +41,8 @@ module _ {S M N : Type 0} where
   alone_at log state pending = record { at = record { state = state; log = log; aside = [] }; pending = pending }
 
 module _ {S M N : Type 0} (sim : Simulation S M N) where
-  -- one station's window, from its log, state and pending messages: it handles, least first,
-  -- the messages below the bound and below the end of its clone
+  -- one station's window, from its log, state and pending messages. It handles the messages below the bound and its
+  -- clone's end, least first
   abbrev pub local_run : ℕ → List (Entry M N) → S → List M → ℕ → ℕ → Config (LocalStation S M N) M
   local_run s log state pending bound end =
       run_to sim.order (local_step sim.to sim.handle s) sim.time (alone_at log state pending)

@@ -7,7 +7,7 @@ use Rattle.run_laws.specs.Queue.{insert_all}
 use Rattle.run_laws.specs.Machine.{Config}
 use Rattle.run_laws.specs.Simulation.{Simulation, Outcome}
 
--- one state for each station, and what was handled, in order
+-- one state for each station, and the handled messages in order
 pub record World (S M N : Type 0) : Type 0 where
   pub states : ℕ → S
   pub trace : List (Entry M N)
@@ -21,12 +21,12 @@ module _ {M : Type 0} (to : M → ℕ) where
   abbrev pub log_of : {N : Type 0} → ℕ → List (Entry M N) → List (Entry M N)
   log_of s es = filter (λ e. to e.msg == s) es
 
--- f, but v at r
+-- f, except that r has v
 abbrev pub put : {A : Type 0} → (ℕ → A) → ℕ → A → ℕ → A
 put f r v s = if s == r then v else f s
 
 module _ {S M N : Type 0} (to : M → ℕ) (handle : ℕ → S → M → Outcome S M N) where
-  -- a message is handled by its receiver: its state changes, the trace grows, and its sends go out
+  -- the receiver handles a message: its state changes, the trace grows, and its sends are returned
   abbrev pub world_step : World S M N → M → World S M N × List M
   world_step w m =
       let h = handle (to m) (w.states (to m)) m in (
@@ -40,7 +40,7 @@ module _ {S M N : Type 0} (to : M → ℕ) (handle : ℕ → S → M → Outcome
   replay s st (e ∷ es) = replay s (handle s st e.msg).state es
 
 module _ {S M N : Type 0} (sim : Simulation S M N) where
-  -- messages, and behind them the first message of a station that has one
+  -- messages, followed by a station's first message if it has one
   abbrev pub and_first : List M → Option M → List M
   and_first ms None = ms
   and_first ms (Some m) = ms ++ m ∷ []

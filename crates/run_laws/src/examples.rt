@@ -1,6 +1,6 @@
 //! A small simulation, computed by the checker from the definitions of a run alone.
 //!
-//! It stands in `specs/Examples.antt`. Each function's contract is a theorem; there is nothing to run.
+//! Its definitions are in `specs/Examples.antt`. Each function's contract is a theorem; there is nothing to run.
 ghost use Rattle.std.specs.Prelude.{◌≡◌, [], ◌∷◌, Some, None};
 ghost use Rattle.sim_base.specs.Clones.{base};
 ghost use Rattle.run_laws.specs.Runs.{trace_of, all_due, due_at};
@@ -26,7 +26,7 @@ pub fn fronts()
     ensures ended { AreFronts game (until_eight ∷ []) 0 (5 ∷ 8 ∷ 12 ∷ []) }
 {}
 
-/// What comes at the horizon is pending, and never due.
+/// A message at the horizon is pending, and never due.
 pub fn at_the_horizon()
     ensures trace { trace_of game last_minute ≡ last_minute_trace }
     ensures due { due_at game last_minute 1 11 ≡ ball 11 2 1 ∷ [] }
@@ -34,7 +34,7 @@ pub fn at_the_horizon()
     ensures fronts { AreFronts game (last_minute ∷ []) 0 (5 ∷ 8 ∷ 11 ∷ 12 ∷ []) }
 {}
 
-/// The least time that is due: of a clone, by its stations, and of several.
+/// The least due time: of a clone, by its stations, and of several clones.
 pub fn due_times()
     ensures clone { least_of game until_eight 5 ≡ Some 5 }
     ensures stations { least_to game until_eight 5 2 ≡ Some 5 }
@@ -48,7 +48,7 @@ pub fn merges()
     ensures last_minute { merged_trace last_minute ≡ last_minute_trace }
 {}
 
-/// One station's window from 5 to 8: its log grows, and what it sent to the other is laid aside.
+/// The window of one station from 5 to 8: its log grows, and its sends to the other station are laid aside.
 pub fn windows()
     ensures log { (window_of busy 1 5 8).at.log ≡ catch_at 2 0 1 1 ∷ catch_at 5 2 1 2 ∷ catch_at 6 1 1 3
         ∷ catch_at 6 12 1 4 ∷ catch_at 7 11 1 5 ∷ [] }
@@ -74,7 +74,7 @@ pub fn counts()
     ensures within { ¬ (IsBeyond game 1 12 base) }
 {}
 
-/// The game meets what the laws ask of a simulation.
+/// The game meets the requirements of the laws.
 pub fn game_is_lawful()
     ensures handles { HandlesLawfully game AnyState }
     ensures sends { SendsToStations game AnyState }

@@ -1,6 +1,6 @@
 //! The laws of machines and of runs: each function's contract is a law, and there is nothing to run.
 //!
-//! `specs/*Laws.antt` and `specs/Numbers.antt` have the laws in words, `specs/Handlers.antt` what they ask of a
+//! `specs/*Laws.antt` and `specs/Numbers.antt` state the laws, `specs/Handlers.antt` their requirements on a
 //! simulation.
 ghost use Rattle.std.specs.Prelude.{ℕ, List};
 ghost use Rattle.std.specs.declared.cmp.Ordering.{Ordering as Order};
@@ -29,7 +29,7 @@ ghost use Rattle.run_laws.specs.CopyLaws.{StandsAtStart, StandsAfterWindow, Stan
 ghost use Rattle.run_laws.specs.CopyLaws.{StandsAfterOtherDecision, StandsAfterEnd, StandsAfterFork};
 ghost use Rattle.run_laws.specs.StepLaws.{LateCopyIsSettled};
 
-/// A machine that stays in good states, and whose sends come later than what it handles.
+/// A machine that stays in good states, and whose sends come later than the message it handles.
 pub trait Machine<X, M> {
     ghost order: { M → M → Order };
 
@@ -44,7 +44,7 @@ pub trait Machine<X, M> {
     ghost lawful: { IsLawful time handle good };
 }
 
-/// A simulation whose stations stay in good states, send later, and by the lookahead later to each other.
+/// A simulation whose stations stay in good states and send later, and to each other later by at least the lookahead.
 pub trait Stations<S, M, N> {
     ghost sim: { Simulation S M N };
 
@@ -55,7 +55,7 @@ pub trait Stations<S, M, N> {
     ghost to_stations: { SendsToStations sim good };
 }
 
-/// One whose stations number what they send.
+/// A simulation whose stations number their messages.
 pub trait NumberingStations<S, M, N>: Stations<S, M, N> {
     ghost sender: { M → ℕ };
 
@@ -66,7 +66,7 @@ pub trait NumberingStations<S, M, N>: Stations<S, M, N> {
     ghost fresh: { HandlesFreshly Self.sim Self.good sender number next };
 }
 
-/// A run is what its turns lead to, and a run to a front goes on to each later one.
+/// The turns lead to exactly the run, and a run to one front continues to each later one.
 pub fn turns_make_the_run<X, M, T: Machine<X, M>>()
     ensures reached { RunIsReached T.order T.time T.handle T.good }
     ensures determined { RunIsDetermined T.order T.time T.handle T.good }
@@ -74,7 +74,7 @@ pub fn turns_make_the_run<X, M, T: Machine<X, M>>()
     ensures late { LateMessageStaysPending T.order T.time T.handle T.good }
 {}
 
-/// A trace rises strictly, no number is used twice, and what is due is for stations.
+/// A trace rises strictly, no sequence number is used twice, and every due message is for a station.
 pub fn traces_rise<S, M, N, T: NumberingStations<S, M, N>>()
     ensures rises { TraceRises T.sim T.sender T.number }
     ensures once { NumbersAreOnce T.sim T.sender T.number }
@@ -82,13 +82,13 @@ pub fn traces_rise<S, M, N, T: NumberingStations<S, M, N>>()
     ensures for_stations { DueIsForStations T.sim }
 {}
 
-/// A trace is what the logs of the stations make together, in the order of messages.
+/// A trace is the merge of the stations' logs, in the order of messages.
 pub fn logs_make_the_trace<S, M, N, T: NumberingStations<S, M, N>>()
     ensures of_logs { TraceIsOfLogs T.sim T.sender T.number }
     ensures merge { TraceIsMerge T.sim T.sender T.number }
 {}
 
-/// A log tells its station's state, and that log at each earlier front.
+/// A station's log determines its state, and its log at each earlier front.
 pub fn logs_tell_states<S, M, N, T: Stations<S, M, N>>()
     ensures replay { StateIsReplay T.sim }
     ensures good { ReplayIsGood T.sim T.good }
@@ -96,18 +96,18 @@ pub fn logs_tell_states<S, M, N, T: Stations<S, M, N>>()
     ensures at_front { LogAtFront T.sim }
 {}
 
-/// What a decision or an end at or after a front changes there.
+/// The changes that a decision or an end at or after a front makes there.
 pub fn decisions_change_what_is_due<S, M, N, T: Stations<S, M, N>>()
     ensures decision { DecisionAddsDue T.sim }
     ensures ending { EndDropsDue T.sim }
 {}
 
-/// Up to the next front each station may go by itself.
+/// Up to the next front each station may run alone.
 pub fn windows_give_runs<S, M, N, T: Stations<S, M, N>>()
     ensures alone { WindowsGiveRuns T.sim }
 {}
 
-/// From front to front (window boundaries) a run reaches the horizon, and there it ends.
+/// From front to front (window boundaries) a run reaches the horizon, and ends there.
 pub fn fronts_reach_the_horizon<S, M, N, T: Stations<S, M, N>>()
     ensures far { FrontIsFar T.sim }
     ensures rises { FrontRises T.sim }
@@ -116,7 +116,7 @@ pub fn fronts_reach_the_horizon<S, M, N, T: Stations<S, M, N>>()
     ensures one_list { FrontsAreOne T.sim }
 {}
 
-/// The least time that is due in a clone, by its stations and after each change of it, and in all clones by the copies.
+/// The least due time: of a clone, by its stations and after each change of it; and of all clones, by the copies.
 pub fn least_times_are_of_stations<S, M, N, K, T: Stations<S, M, N>>()
     ensures stations { LeastIsOfStations T.sim }
     ensures decision { LeastAtDecision T.sim }
@@ -126,8 +126,8 @@ pub fn least_times_are_of_stations<S, M, N, K, T: Stations<S, M, N>>()
     ensures copies { LeastIsOfCopies K T.sim }
 {}
 
-/// What a step gives for a station's copies up to a bound, message by message and copy by copy, and that it is what
-/// the clones' own windows give.
+/// The results of a step of a station's copies up to a bound, message by message and copy by copy. They equal the
+/// clones' own windows.
 pub fn steps_give_windows<S, M, N, K, T: Stations<S, M, N>>()
     ensures late { LateCopyIsSettled K T.sim T.good }
     ensures settled { SettledCopyStays K T.sim T.good }
@@ -141,21 +141,21 @@ pub fn steps_give_windows<S, M, N, K, T: Stations<S, M, N>>()
     ensures gains { CopiesGainTogether K T.sim T.good }
 {}
 
-/// Cut to a half, and spread to a fork, pending messages are taken as they were.
+/// Messages that are cut to a half or spread to a fork are taken as before.
 pub fn halves_and_forks_take_the_same<S, M, N, K, T: Stations<S, M, N>>()
     ensures half { HalfTakesTheSame K T.sim }
     ensures half_marks { HalfKeepsItsMarks K T.sim }
     ensures fork { ForkTakesAsItsOrigin K T.sim }
 {}
 
-/// What a station was sent is given to its copies message by message, and then it is delivered.
+/// The messages sent to a station are given to its copies one by one; then they are delivered.
 pub fn messages_are_delivered<S, M, N, K, T: Stations<S, M, N>>()
     ensures nothing { NothingIsGiven K T.sim }
     ensures message { MessageIsGiven K T.sim }
     ensures delivered { GivenIsDelivered K T.sim }
 {}
 
-/// From the start on, through windows, decisions, ends and forks, a station's copies stand for the clones.
+/// From the start on, through windows, decisions, ends and forks, a station's copies represent the clones.
 pub fn copies_stand_for_clones<S, M, N, K, T: Stations<S, M, N>>()
     ensures start { StandsAtStart K T.sim }
     ensures window { StandsAfterWindow K T.sim }
@@ -165,14 +165,14 @@ pub fn copies_stand_for_clones<S, M, N, K, T: Stations<S, M, N>>()
     ensures forking { StandsAfterFork K T.sim }
 {}
 
-/// How many copies there are, how many messages were handled once, and who is over the limit: by the logs alone.
+/// The number of copies, the number of messages handled once, and the clones over the limit, all by the logs alone.
 pub fn counts_are_of_logs<S, M, N, K, T: Stations<S, M, N>>()
     ensures copies { CopiesAreLogs K T.sim }
     ensures grows { HandledGrows K T.sim }
     ensures over { OverIsBeyond K T.sim }
 {}
 
-/// Handled once is nothing at the start, and a decision, an end or a fork leaves it.
+/// The number handled once is 0 at the start. A decision, an end or a fork does not change it.
 pub fn handled_once_stays<S, M, N, T: Stations<S, M, N>>()
     ensures first { NothingIsHandledAtFirst T.sim }
     ensures decision { HandledStaysAtDecision T.sim }
@@ -180,7 +180,8 @@ pub fn handled_once_stays<S, M, N, T: Stations<S, M, N>>()
     ensures forking { HandledStaysAtFork T.sim }
 {}
 
-/// What windows gain where logs may get too long, that it is little, and that all windows gain what is handled once.
+/// The gains of windows in which logs may get too long, their bound, and the sum of all windows: the number handled
+/// once.
 pub fn gains_add_up<S, M, N, K, T: Stations<S, M, N>>()
     ensures to_limit { HandledGrowsToLimit K T.sim }
     ensures few { HandledIsFew K T.sim }
@@ -190,12 +191,12 @@ pub fn gains_add_up<S, M, N, K, T: Stations<S, M, N>>()
     ensures run { RunAddsUp K T.sim }
 {}
 
-/// Where no log is beyond the limit the counts of a report are few.
+/// If no log is beyond the limit, the counts of a report are bounded.
 pub fn counts_are_few<S, M, N, T: Stations<S, M, N>>()
     ensures few { CountsAreFew T.sim }
 {}
 
-/// Out of the copies: handled alone, the number of clones, and who shares a log.
+/// From the copies: the number handled alone, the number of clones, and which clones share a log.
 pub fn counts_are_of_copies<S, M, N, K, T: Stations<S, M, N>>()
     ensures alone { AloneIsOfCopies K T.sim }
     ensures clones { ClonesAreOfCopies K T.sim }

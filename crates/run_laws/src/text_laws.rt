@@ -1,7 +1,7 @@
-//! The laws of shared texts: what the traces of two clones have in common, and how long their lines are.
+//! The laws of shared texts: what the traces of two clones have in common, and the lengths of their lines.
 //!
-//! `specs/SharedTexts.antt` has them in words. So a text may begin with the first lines of the text before it, and
-//! its length is known before a line is written.
+//! `specs/SharedTexts.antt` states them. They let a text begin with the first lines of the text before it. Its length
+//! is known before a line is written.
 ghost use Rattle.std.specs.Prelude.{ℕ, List};
 ghost use Rattle.run_laws.specs.Simulation.{Simulation};
 ghost use Rattle.run_laws.specs.SharedTexts.{TracesAgree, TracesAgreeToParting, TraceIsSplit};
@@ -9,13 +9,13 @@ ghost use Rattle.run_laws.specs.SharedTexts.{LinesAgree, LengthIsOfLogs, RestIsO
 
 use crate::laws::{NumberingStations, Stations};
 
-/// Two clones have one trace up to where their decision lists part.
+/// Two clones have the same trace until their decision lists diverge.
 pub fn traces_agree<S, M, N, T: Stations<S, M, N>>()
     ensures agree { TracesAgree T.sim }
     ensures to_parting { TracesAgreeToParting T.sim }
 {}
 
-/// The lines that two clones share, how long the others are, and that the logs have them.
+/// The lines that two clones share, the lengths of the others, and their entries in the logs.
 pub fn lines_are_of_logs<S, M, N, T: NumberingStations<S, M, N>>()
     ensures split { TraceIsSplit T.sim }
     ensures agree { LinesAgree T.sim }

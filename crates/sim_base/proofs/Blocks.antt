@@ -1,4 +1,4 @@
--- Pending messages in blocks: what an insertion into one block is to all, and a block cut in two.
+-- Pending messages in blocks: the effect of an insertion into one block, and of splitting a block.
 use Rattle.std.proofs.Common.{◌≡◌, ℕ, zero, suc, ◌<◌, refl, sym, ap, ◌∙◌, subst}
 use Rattle.std.proofs.Common.{List, [], ◌∷◌, ◌++◌, false, Ordering, Greater, length, take}
 use Rattle.std.proofs.Common.{drop, get_or, set, map, arith, append_assoc, Option}
@@ -43,7 +43,7 @@ module _ {X : Type 0} where
   second_half zero (b ∷ bs) l = refl
   second_half (suc at) (b ∷ bs) l = second_half at bs (omega arith)
 
-  -- and then comes the block that was behind it
+  -- and then comes the block that was after it
   pub behind_halves : (at : ℕ) (bs : List (List X)) → at < length bs
       → get_or (halves_of at bs) (suc (suc at)) [] ≡ get_or bs (suc at) []
   behind_halves at [] l = absurd (omega arith)
@@ -54,7 +54,7 @@ module _ {X : Type 0} where
   half_lengths : (b : List X) → length b ≡ MOST_IN_BLOCK → (length (take HALF b) ≡ HALF) × (length (drop HALF b) ≡ HALF)
   half_lengths b full = (omega (arith, length-take HALF b), omega (arith, length-drop HALF b))
 
-  -- where a full block is cut, no block is empty and none has too many messages
+  -- after a full block is split, no block is empty or too large
   AreFilled-halves : (at : ℕ) (bs : List (List X)) → AreFilled bs → length (get_or bs at []) ≡ MOST_IN_BLOCK
       → AreFilled (halves_of at bs)
   AreFilled-halves at [] h full = h

@@ -1,4 +1,4 @@
--- The decision lists of the clones in memory, and what contracts see of them.
+-- The decision lists of the clones in memory, and their view in contracts.
 use Rattle.std.proofs.Common.{◌≡◌, ℕ, ◌+◌, ◌<◌, ◌≤◌, List, [], ◌∷◌, ◌++◌, length, map, refl, ap, ◌∙◌, sym, arith, zero}
 use Rattle.std.proofs.Common.{suc, Some, slice_set, length-set, position, Result, Ok, Err, OnOk, OnErr}
 use Rattle.sim_base.proofs.ListLaws.{all_push, all_pop, position-map}
@@ -12,7 +12,7 @@ use Rattle.sim_base.specs.Clones.{fork_of}
 use Rattle.sim_base.specs.CloneListViews.{CloneListView, AreReserved, clone_of, list_at}
 use Rattle.sim_base.specs.CloneListViews.{list_fork, lists_with_plan, list_with_plan, lists_with_end}
 
--- ---- clone_of: what contracts see
+-- ---- clone_of: the view in contracts
 
 -- of the list of a clone
 pub seen_at : (lists : List CloneListView) (c : ℕ) → clone_at (map clone_of lists) c ≡ clone_of (list_at lists c)
@@ -75,7 +75,7 @@ reserved_push lists reserved_clones spare most reserved new old h enough = recor
   clones = omega (arith, length_push lists (list_fork lists new old reserved), h.clones);
 }
 
--- each list still has as much reserved where one is exchanged for one with as much
+-- each list still has its memory reserved if one is replaced by one with as much
 plans_set : (most : ℕ) (lists : List CloneListView) (c : ℕ) (k : CloneListView)
     → k.plans.reserved ≡ (list_at lists c).plans.reserved → AllByRecursion (λ k. most ≤ k.plans.reserved) lists
     → AllByRecursion (λ k. most ≤ k.plans.reserved) (slice_set lists c k)
@@ -95,14 +95,14 @@ reserved_set lists reserved_clones spare most c k e h =
       clones = omega (arith, long, h.clones);
     }
 
--- each list has so much reserved
+-- each list has at least `most` reserved
 plans_at : (most : ℕ) (lists : List CloneListView) (c : ℕ) → c < length lists
     → AllByRecursion (λ k. most ≤ k.plans.reserved) lists → most ≤ (list_at lists c).plans.reserved
 plans_at most [] c b h = absurd (omega arith)
 plans_at most (k ∷ ks) zero b h = h.0
 plans_at most (k ∷ ks) (suc c) b h = plans_at most ks c (omega arith) h.1
 
--- a list that is seen shorter than what is reserved can take one more
+-- a list shorter than its reserved memory can take one more
 pub reserved_to_add : (lists : List CloneListView) (seen : List Clone) (most c : ℕ) → map clone_of lists ≡ seen
     → c < length seen → AllByRecursion (λ k. most ≤ k.plans.reserved) lists → length (clone_at seen c).plans < most
     → length (list_at lists c).plans.items < (list_at lists c).plans.reserved
@@ -112,9 +112,9 @@ reserved_to_add lists seen most c same b h fits =
     let short : length (list_at lists c).plans.items < most = rw (← same, seen_at lists c) at fits in
     omega (arith, enough)
 
--- ---- what holds of either value
+-- ---- properties of either value
 
--- what holds of the new value and of the old one holds after, whichever it is
+-- a property of the new value and of the old one holds afterwards, whichever it is
 pub holds_after : {X T E : Type 0} (P : X → Type 0) (r : Result T E) (new old after : X) → OnOk r (after ≡ new)
     → OnErr r (after ≡ old) → P new → P old → P after
 holds_after P (Ok v) new old after ok err n o = rw ok n

@@ -1,4 +1,4 @@
--- Messages whose marks meet some marks: of lists together, in order still; and marks that are spread.
+-- Messages whose marks meet given marks: order, appended lists, and marks that are spread.
 use Rattle.std.proofs.Common.{◌≡◌, ℕ, suc, ◌≤◌, refl, List, [], ◌∷◌, ◌++◌, Option, Some, None}
 use Rattle.std.proofs.Common.{Ordering, Less, length, option_map, arith}
 use Rattle.std.specs.Prelude.{slice_get}
@@ -20,11 +20,11 @@ module _ {M K : Type 0} (meet : K → K → Option K) (by : K) where
       → cut_by meet by (x ∷ rest) ≡ cut_by meet by rest
   cut-None x rest e = rw e refl
 
-  -- what meets of two lists
+  -- the messages that meet, of two lists
   pub cut-append : (xs ys : List (M × K)) → cut_by meet by (xs ++ ys) ≡ cut_by meet by xs ++ cut_by meet by ys
   cut-append xs ys = filter_map-append (shared_by meet by) xs ys
 
-  -- one message, where it meets, makes a list at most one longer
+  -- one message makes a list at most one longer if it meets
   length_one : (r : Option K) (x : M × K) (rest : List (M × K)) (n : ℕ) → length rest ≤ n
       → length (cons_option (option_map (λ k. (x.0, k)) r) rest) ≤ suc n
   length_one None x rest n l = omega arith
@@ -36,24 +36,24 @@ module _ {M K : Type 0} (meet : K → K → Option K) (by : K) where
   length-cut (x ∷ xs) = length_one (meet x.1 by) x (cut_by meet by xs) (length xs) (length-cut xs)
 
   module _ (cmp : M → M → Ordering) where
-    -- what comes before a message and others comes before them where it meets, and where it does not
+    -- elements that come before a message and others come before them, whether it meets or not
     above_one : (r : Option K) (m : M) (x : M × K) (rest : List (M × K)) → cmp m x.0 ≡ Less → Above cmp m rest
         → Above cmp m (cons_option (option_map (λ k. (x.0, k)) r) rest)
     above_one None m x rest l h = h
     above_one (Some k) m x rest l h = (l, h)
 
-    -- what comes before messages comes before those that meet
+    -- elements that come before messages come before those that meet
     Above-cut : (m : M) (xs : List (M × K)) → Above cmp m xs → Above cmp m (cut_by meet by xs)
     Above-cut m [] h = tt
     Above-cut m (x ∷ xs) h = above_one (meet x.1 by) m x (cut_by meet by xs) h.0 (Above-cut m xs h.1)
 
-    -- one message, where it meets, goes in order before others
+    -- one message that meets goes in order before others
     sorted_one : (r : Option K) (x : M × K) (rest : List (M × K)) → Above cmp x.0 rest → SortedMarked cmp rest
         → SortedMarked cmp (cons_option (option_map (λ k. (x.0, k)) r) rest)
     sorted_one None x rest a s = s
     sorted_one (Some k) x rest a s = (a, s)
 
-    -- what meets is in order
+    -- the messages that meet are in order
     pub SortedMarked-cut : (xs : List (M × K)) → SortedMarked cmp xs → SortedMarked cmp (cut_by meet by xs)
     SortedMarked-cut [] s = tt
     SortedMarked-cut (x ∷ xs) s =
@@ -62,7 +62,7 @@ module _ {M K : Type 0} (meet : K → K → Option K) (by : K) where
 -- ---- spread_marks
 
 module _ {M K : Type 0} (join : K → K → K) (meet : K → K → Option K) (by more : K) (cmp : M → M → Ordering) where
-  -- other marks leave what comes before the messages
+  -- other marks keep the elements before the messages before them
   Above-spread : (m : M) (xs : List (M × K)) → Above cmp m xs → Above cmp m (spread_marks join meet by more xs)
   Above-spread m [] h = tt
   Above-spread m (x ∷ xs) h = (h.0, Above-spread m xs h.1)
@@ -81,7 +81,7 @@ module _ {X : Type 0} where
   first_of_some [] ys x e = absurd (cc)
   first_of_some (y ∷ xs) ys x e = e
 
-  -- or of the other, where the one is empty
+  -- or of the other, if the first is empty
   pub first_of_none : (xs ys : List X) → slice_get xs 0 ≡ None → xs ++ ys ≡ ys
   first_of_none [] ys e = refl
   first_of_none (y ∷ xs) ys e = absurd (cc)

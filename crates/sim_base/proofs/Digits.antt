@@ -18,7 +18,7 @@ digit_value-digit c h = grind (arith, nat_tests)
 
 -- ---- is_digit
 
--- where all bytes are digits, the one at each place is a digit
+-- if all bytes are digits, the one at each place is a digit
 digits_at : (ds : List ℕ) (i : ℕ) → list_all is_digit ds ≡ true → i < length ds → is_digit (get_or ds i 0) ≡ true
 digits_at [] i h b = absurd (omega arith)
 digits_at (d ∷ ds) zero h b = (and_parts (is_digit d) (list_all is_digit ds) h).0

@@ -1,4 +1,4 @@
--- No two clones have one name.
+-- No two clones have the same name.
 use Rattle.std.proofs.Common.{◌≡◌, ℕ, ◌+◌, ◌^◌, ◌<◌, List, [], ◌∷◌, ◌++◌, length, map, refl, ap}
 use Rattle.std.proofs.Common.{◌∙◌, sym, arith, zero, suc, Some, None, slice_set, length-set, Bool, false, get_or}
 use Rattle.std.proofs.lemmas.Grind.{common_steps}
@@ -98,7 +98,7 @@ name_read [] c k b e = absurd (omega arith)
 name_read (x ∷ xs) zero k b e = ap (λ k. k.name) e
 name_read (x ∷ xs) (suc c) k b e = name_read xs c k (omega arith) e
 
--- what contracts see of a place by the name that was read there
+-- the view of a place by the name read there
 pub seen_by_name : (lists : List CloneListView) (seen : List Clone) (c : ℕ) (k : CloneListView)
     → map clone_of lists ≡ seen → AreClones (map clone_of lists) → c < length seen → k ≡ get_or lists c k
     → place_of k.name seen ≡ Some c

@@ -1,4 +1,4 @@
--- What is in a list, and what is read from it; the lesser of two numbers.
+-- The elements of a list, and lookups; the lesser of two numbers.
 use Rattle.std.proofs.Common.{◌≡◌, ℕ, zero, suc, ◌+◌, ◌<◌, ◌⊎◌, inl, inr, min, List, [], ◌∷◌, ◌++◌}
 use Rattle.std.proofs.Common.{Bool, true, false, cond, length, take, get_or, refl, sym, ap, ◌∙◌, arith}
 use Rattle.std.specs.List.{Contains}
@@ -14,19 +14,19 @@ min_cases a b = elim (cases_lt a b) [ inl below ↦ inl (omega arith) | inr abov
 
 -- ---- In of cond
 
--- what is in a list with one element more, on a condition
+-- the elements of a list with one more on a condition
 pub in_cons_if : {X : Type 0} (b : Bool) (x : X) (xs : List X) (z : X) → In z (cond b (x ∷ xs) xs)
     → ((b ≡ true) × (z ≡ x)) ⊎ In z xs
 in_cons_if true x xs z (inl e) = inl (refl, e)
 in_cons_if true x xs z (inr j) = inr j
 in_cons_if false x xs z j = inr j
 
--- what was there stays, on any condition
+-- the old elements stay, on any condition
 pub cons_if_old : {X : Type 0} (b : Bool) (x : X) (xs : List X) (z : X) → In z xs → In z (cond b (x ∷ xs) xs)
 cons_if_old true x xs z i = inr i
 cons_if_old false x xs z i = i
 
--- and the new element is there where the condition holds
+-- and the new element is there if the condition holds
 pub cons_if_new : {X : Type 0} (b : Bool) (x : X) (xs : List X) (z : X) → b ≡ true → z ≡ x
     → In z (cond b (x ∷ xs) xs)
 cons_if_new true x xs z b e = inl e
@@ -42,7 +42,7 @@ in_at (y ∷ ys) (suc i) x l e = inr (in_at ys i x (omega (arith, l)) e)
 
 -- ---- get_or
 
--- what is read at one place twice is the same
+-- reading one place twice has the same result
 pub get_or-same : {X : Type 0} (xs : List X) (i k : ℕ) (x y : X) → i ≡ k → i < length xs → x ≡ get_or xs i x
     → y ≡ get_or xs k y → x ≡ y
 get_or-same xs i k x y same there here also =
@@ -50,7 +50,7 @@ get_or-same xs i k x y same there here also =
 
 -- ---- Contains
 
--- what a list has, a longer one has
+-- a longer list has the elements of a shorter one
 pub contains_tail : {X : Type 0} (x c : X) (xs : List X) → Contains xs c → Contains (x ∷ xs) c
 contains_tail x c xs h = (suc h.0, omega (arith, h.1), h.2)
 

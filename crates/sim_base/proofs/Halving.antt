@@ -1,4 +1,4 @@
--- A full block that is cut in two: the blocks after it, and where a message goes then.
+-- Splitting a full block: the blocks afterwards, and the block that a message then belongs to.
 use Rattle.std.proofs.Common.{◌≡◌, ℕ, zero, suc, ◌+◌, ◌-◌, ◌<◌, ◌≤◌, refl, sym, ap, ◌∙◌, subst, List}
 use Rattle.std.proofs.Common.{[], ◌∷◌, Bool, true, false, Ordering, length, take, drop, get_or, set, arith}
 use Rattle.std.specs.List.{insert}
@@ -19,7 +19,7 @@ module _ {X : Type 0} where
       → (first' ∷ new) ≡ halves_of at (first ∷ later)
   halve_first at first first' half later later' new e f h l n = rw (n, l, e, f, h) refl
 
-  -- the first half in the place of a later block, and the second half behind it
+  -- the first half replaces a later block, and the second half follows it
   set_and_insert : (n : ℕ) (later : List (List X)) → n < length later
       → insert (set later n (take HALF (get_or later n []))) (suc n) (drop HALF (get_or later n [])) ≡ halves_of n later
   set_and_insert n [] l = absurd (omega arith)
@@ -48,17 +48,17 @@ module _ {X : Type 0} where
     first_half_at : get_or (first' ∷ later') at [] ≡ take HALF (block_at first later at)
     first_half_at = ap (λ (bs : List (List X)). get_or bs at []) cut ∙ first_half at (first ∷ later) (omega arith)
 
-    -- behind it is its second half
+    -- after it comes its second half
     second_half_at : get_or later' at [] ≡ drop HALF (block_at first later at)
     second_half_at = ap (λ (bs : List (List X)). get_or bs (suc at) []) cut
         ∙ second_half at (first ∷ later) (omega arith)
 
-    -- and then comes the block that was behind it
+    -- and then comes the block that was after it
     behind_at : get_or later' (suc at) [] ≡ get_or later at []
     behind_at = ap (λ (bs : List (List X)). get_or bs (suc (suc at)) []) cut
         ∙ behind_halves at (first ∷ later) (omega arith)
 
-    -- where the block was full, there is a free place in the first half
+    -- if the block was full, there is a free place in the first half
     pub first_free : length (block_at first later at) ≡ MOST_IN_BLOCK
         → length (block_at first' later' at) < MOST_IN_BLOCK
     first_free full = rw first_half_at (omega (arith, length-take HALF (block_at first later at)))
@@ -90,7 +90,7 @@ module _ {X : Type 0} where
 
 -- ---- AreBlocks
 
--- where a full block was cut, they are blocks as before
+-- after a full block is split, they are valid blocks again
 pub AreBlocks-halves : {M K : Type 0} (cmp : M → M → Ordering) (at : ℕ) (first first' : List (M × K))
     (later later' : List (List (M × K))) → (first' ∷ later') ≡ halves_of at (first ∷ later)
     → length (block_at first later at) ≡ MOST_IN_BLOCK → AreBlocks cmp first later → AreBlocks cmp first' later'
@@ -102,7 +102,7 @@ AreBlocks-halves cmp at first first' later later' cut full h = record {
 -- ---- StartsAfter and IsBlockOf
 
 module _ {M K : Type 0} (cmp : M → M → Ordering) (m : M) where
-  -- what is read at a place
+  -- the value read at a place
   pub starts_there : (bs : List (List (M × K))) (n : ℕ) (b : List (M × K)) (r : Bool) → n < length bs
       → b ≡ get_or bs n b → StartsAfter cmp m b r → StartsAfter cmp m (get_or bs n []) r
   starts_there bs n b r l is starts = subst (λ t. StartsAfter cmp m t r) (get_or_read bs n b l is []) starts

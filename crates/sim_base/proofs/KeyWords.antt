@@ -11,21 +11,21 @@ use Rattle.sim_base.proofs.OrderEqual.{three_same}
 
 -- ---- ordering_then
 
--- numbers by number, then by what comes next
+-- by number, then by the next order
 by_number : {A : Type 0} (x y : ℕ) (r s : Ordering) → MatchOrdering r (x < y) (x ≡ y) (y < x) → (y < x → ⊥)
     → (x ≡ y → (s ≡ Less) ⊎ ((s ≡ Equal) × A)) → (ordering_then r s ≡ Less) ⊎ ((ordering_then r s ≡ Equal) × A)
 by_number x y Less s m f g = inl refl
 by_number x y Equal s m f g = g m
 by_number x y Greater s m f g = absurd (f m)
 
--- the last number, and what holds where it ties
+-- the last number, and the case of a tie
 last_number : {A : Type 0} (x y : ℕ) (r : Ordering) → MatchOrdering r (x < y) (x ≡ y) (y < x) → (y < x → ⊥)
     → (x ≡ y → A) → (r ≡ Less) ⊎ ((r ≡ Equal) × A)
 last_number x y Less m f g = inl refl
 last_number x y Equal m f g = inr (refl, g m)
 last_number x y Greater m f g = absurd (f m)
 
--- what is less by two orders one after the other is less by the first, or ties there and is less by the second
+-- less by two orders in turn means less by the first, or a tie there and less by the second
 by_two : (x y : ℕ) (s : Ordering) → ordering_then (nat_cmp x y) s ≡ Less → (x < y) ⊎ ((x ≡ y) × (s ≡ Less))
 by_two x y s e = by (nat_cmp x y) (ranks x y) e
   where
@@ -36,13 +36,13 @@ by_two x y s e = by (nat_cmp x y) (ranks x y) e
     by Equal m e = inr (m, e)
     by Greater m e = absurd (cc)
 
--- what is less by number is less
+-- less by number means less
 by_last : (x y : ℕ) → nat_cmp x y ≡ Less → x < y
 by_last x y e = subst (λ r. MatchOrdering r (x < y) (x ≡ y) (y < x)) e (ranks x y)
 
 -- ---- key_word
 
--- a word is less only where its key is, or where the keys are equal and its place is less
+-- a word is less only if its key is, or if the keys are equal and its place is less
 pub words-ordered : (p q : ℕ) (j k : Key) → FitsWord j → FitsWord k → p < WORD_PLACES → q < WORD_PLACES
     → key_word p j < key_word q k → (key_cmp j k ≡ Less) ⊎ ((key_cmp j k ≡ Equal) × (p < q))
 words-ordered p q j k a b l m h =

@@ -1,4 +1,4 @@
--- Lists: what holds of each element, and the first place that passes a test.
+-- Lists: properties of all elements, and the first place that passes a test.
 use Rattle.std.proofs.Common.{◌≡◌, ℕ, ◌+◌, ◌<◌, ◌≤◌, zero, suc, List, [], ◌∷◌, ◌++◌, length}
 use Rattle.std.proofs.Common.{map, slice_set, Bool, not, cond, false, position, get_or, None, refl, sym, ap, ◌∙◌}
 use Rattle.std.proofs.Common.{take, arith, append_assoc}
@@ -11,7 +11,7 @@ use Rattle.std.proofs.Math.Seq.{take-append_seam}
 
 -- ---- AllByRecursion
 
--- what holds of all holds with one more
+-- a property of all holds with one more
 pub all_push : {X : Type 0} (P : X → Type 0) (xs : List X) (x : X) → AllByRecursion P xs → P x
     → AllByRecursion P (xs ++ x ∷ [])
 all_push P [] x h k = (k, tt)
@@ -36,13 +36,13 @@ all_set P [] i x h k = h
 all_set P (y ∷ ys) zero x h k = (k, h.1)
 all_set P (y ∷ ys) (suc i) x h k = (h.0, all_set P ys i x h.1 k)
 
--- what is said of all may be weakened
+-- a property of all may be weakened
 pub all_weaker : {X : Type 0} (P Q : X → Type 0) (xs : List X) → ((x : X) → P x → Q x) → AllByRecursion P xs
     → AllByRecursion Q xs
 all_weaker P Q [] f h = tt
 all_weaker P Q (x ∷ xs) f h = (f x h.0, all_weaker P Q xs f h.1)
 
--- what holds of what f makes of each holds of all that f makes
+-- a property of each image by f holds of all images
 pub all_map : {X Y : Type 0} (P : Y → Type 0) (f : X → Y) (xs : List X) → AllByRecursion (λ x. P (f x)) xs
     → AllByRecursion P (map f xs)
 all_map P f [] h = tt
@@ -54,7 +54,7 @@ pub all_of_map : {X Y : Type 0} (P : Y → Type 0) (f : X → Y) (xs : List X) �
 all_of_map P f [] h = tt
 all_of_map P f (x ∷ xs) h = (h.0, all_of_map P f xs h.1)
 
--- what is said of all of two lists is said of all of the first
+-- a property of all elements of two lists holds of the first list
 pub all_left : {X : Type 0} (P : X → Type 0) (xs ys : List X) → AllByRecursion P (xs ++ ys) → AllByRecursion P xs
 all_left P [] ys h = tt
 all_left P (x ∷ xs) ys h = (h.0, all_left P xs ys h.1)
@@ -73,24 +73,24 @@ all_at P (x ∷ xs) (suc i) d h l = all_at P xs i d h.1 (omega arith)
 
 -- ---- take
 
--- cut where its first part ends, a list is that part
+-- cut at the end of its first part, a list is that part
 pub take-append : {X : Type 0} (xs ys : List X) (n : ℕ) → length xs ≡ n → take n (xs ++ ys) ≡ xs
 take-append xs ys n h = ap (λ k. take k (xs ++ ys)) (sym h) ∙ take-append_seam xs ys
 
 -- ---- position
 
--- a test of images is a test of what they are images of
+-- a test of images is a test of their originals
 prefix_len-map : {X Y : Type 0} (p : Y → Bool) (f : X → Y) (xs : List X)
     → prefix_len p (map f xs) ≡ prefix_len (λ x. p (f x)) xs
 prefix_len-map p f [] = refl
 prefix_len-map p f (x ∷ xs) = ap (λ n. cond (p (f x)) (1 + n) 0) (prefix_len-map p f xs)
 
--- a place among images is a place among what they are images of
+-- a place among images is a place among their originals
 pub position-map : {X Y : Type 0} (p : Y → Bool) (f : X → Y) (xs : List X)
     → position p (map f xs) ≡ position (λ x. p (f x)) xs
 position-map p f xs = rw (length-map, prefix_len-map (λ y. not (p y)) f xs) refl
 
--- where no element passes, each fails
+-- if no element passes, each fails
 pub none_passes : {X : Type 0} (p : X → Bool) (xs : List X) → position p xs ≡ None → (k : ℕ) (d : X) → k < length xs
     → p (get_or xs k d) ≡ false
 none_passes p xs none k d b =

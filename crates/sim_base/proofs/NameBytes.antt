@@ -1,4 +1,4 @@
--- The bytes of a name: zeros stand behind them, and they are text.
+-- The bytes of a name: they are padded with zeros, and they are text.
 use Rattle.std.proofs.Common.{◌≡◌, ℕ, ◌≤◌, ◌&&◌, refl, ◌∙◌, List, [], ◌∷◌, ◌++◌}
 use Rattle.std.proofs.Common.{length, drop, replicate, true, nat_lt, zero, suc, ◌<◌, arith, length-append}
 use Rattle.std.specs.List.{list_all}
@@ -23,7 +23,7 @@ short_name (b ∷ bs) h =
 
 -- ---- IsPadded
 
--- a name with zeros behind it is padded
+-- a name followed by zeros is padded
 pub padded_name : (text : List ℕ) → is_name text ≡ true
     → IsPadded (text ++ drop (length text) (replicate LONGEST_NAME 0)) (length text)
 padded_name text h =
@@ -44,13 +44,13 @@ padded_name text h =
 name_byte_small : (b : ℕ) → is_name_byte b ≡ true → b < 128
 name_byte_small b h = grind (arith, nat_tests)
 
--- a to z may stand in a name
+-- a name may contain a to z
 lower_is_name_byte : (b : ℕ) → is_lower b ≡ true → is_name_byte b ≡ true
 lower_is_name_byte b h = rw h refl
 
 -- ---- IsAscii and IsUtf8
 
--- bytes that may stand in a name are ASCII
+-- the bytes that a name may contain are ASCII
 small_bytes : (bs : List ℕ) → list_all is_name_byte bs ≡ true → IsAscii bs
 small_bytes [] h = λ i. grind arith
 small_bytes (b ∷ bs) h =

@@ -15,23 +15,23 @@ use Rattle.sim_base.specs.Order.{key_cmp, job_cmp, param_index, change_cmp, payl
 
 -- ---- ordering_then
 
--- where two orders one after the other tie, each does
+-- if two orders in turn tie, each does
 both_equal : (o p : Ordering) → ordering_then o p ≡ Equal → (o ≡ Equal) × (p ≡ Equal)
 both_equal Less p e = absurd (cc)
 both_equal Equal p e = (refl, e)
 both_equal Greater p e = absurd (cc)
 
--- where two orders one after the other are Less, the first is Less or a tie
+-- if two orders in turn are Less, the first is Less or a tie
 ordering_then-Less : (o p : Ordering) → ordering_then o p ≡ Less → (o ≡ Less) ⊎ (o ≡ Equal)
 ordering_then-Less Less p e = inl refl
 ordering_then-Less Equal p e = inr refl
 ordering_then-Less Greater p e = absurd (cc)
 
--- what is less by the first of two orders is less
+-- less by the first of two orders means less
 pub ordering_then-lt : (x y : ℕ) (s : Ordering) → x < y → ordering_then (nat_cmp x y) s ≡ Less
 ordering_then-lt x y s l = ap (λ o. ordering_then o s) (sym (nat_cmp_is x y Less l))
 
--- and what is less by both is not greater by the first
+-- and less by both means not greater by the first
 pub ordering_then-le : (x y : ℕ) (s : Ordering) → ordering_then (nat_cmp x y) s ≡ Less → x ≤ y
 ordering_then-le x y s e = by (nat_cmp x y) (ranks x y) e
   where
@@ -80,7 +80,7 @@ param_at (suc (suc (suc zero))) = Servers
 param_at (suc (suc (suc (suc zero)))) = Room
 param_at (suc (suc (suc (suc (suc n))))) = Weight
 
--- each parameter stands at its place
+-- each parameter is at its place
 param_back : (p : Param) → param_at (param_index p) ≡ p
 param_back Every = refl
 param_back Service = refl

@@ -1,4 +1,4 @@
--- The order of messages is total, and so is that of entries.
+-- The order of messages is total, and so is the order of entries.
 use Rattle.std.proofs.Common.{◌≡◌, ℕ, ◌<◌, refl, sym, Ordering, Less, nat_cmp}
 use Rattle.std.specs.Ordering.{ordering_then}
 use Rattle.std.specs.Cmp.{IsTotalOrder, nat_cmp_total, nat_cmp_is}

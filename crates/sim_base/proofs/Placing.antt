@@ -1,4 +1,4 @@
--- Where a marked message goes in a list in order, and that the order is kept.
+-- The place of a marked message in an ordered list; inserting it there keeps the order.
 use Rattle.std.proofs.Common.{◌≡◌, ℕ, zero, suc, ◌+◌, ◌<◌, ◌≤◌, refl, sym, ap}
 use Rattle.std.proofs.Common.{◌∙◌, subst, List, [], ◌∷◌, ◌++◌, Bool, true, false, Ordering, Less}
 use Rattle.std.proofs.Common.{Equal, Greater, length, get_or, set, arith}
@@ -15,7 +15,7 @@ use Rattle.sim_base.specs.Blocks.{IsPlaceOf, is_there}
 
 -- ---- is_lt
 
--- what `is_lt` tells is Less
+-- `is_lt` means Less
 pub is_lt-Less : (o : Ordering) → is_lt o ≡ true → o ≡ Less
 is_lt-Less Less e = refl
 is_lt-Less Equal e = absurd (cc)
@@ -23,13 +23,13 @@ is_lt-Less Greater e = absurd (cc)
 
 -- ---- is_gt
 
--- what `is_gt` tells is Greater
+-- `is_gt` means Greater
 is_gt-Greater : (o : Ordering) → is_gt o ≡ true → o ≡ Greater
 is_gt-Greater Less e = absurd (cc)
 is_gt-Greater Equal e = absurd (cc)
 is_gt-Greater Greater e = refl
 
--- what neither `is_gt` nor `is_eq` tells is Less
+-- neither `is_gt` nor `is_eq` means Less
 is_gt-Less : (o : Ordering) → is_gt o ≡ false → is_eq o ≡ false → o ≡ Less
 is_gt-Less Less g e = refl
 is_gt-Less Equal g e = absurd (cc)
@@ -49,7 +49,7 @@ module _ {M K : Type 0} (cmp : M → M → Ordering) where
   sorted_right (x ∷ xs) ys s = sorted_right xs ys s.1
 
 module _ {M : Type 0} {cmp : M → M → Ordering} (o : IsTotalOrder cmp) where
-  -- after what comes behind it, a message comes behind what is before that
+  -- a message that is not before y is after all messages before y
   after_later : (m : M) (x y : M) → cmp x y ≡ Less → is_lt (cmp m y) ≡ false → cmp m x ≡ Greater
   after_later m x y below late = by_order (cmp m y) refl late
     where
@@ -64,7 +64,7 @@ module _ {M : Type 0} {cmp : M → M → Ordering} (o : IsTotalOrder cmp) where
           o.antisymm m x ∙ ap ordering_reverse (o.trans x y m below back)
 
 module _ {M K : Type 0} {cmp : M → M → Ordering} (o : IsTotalOrder cmp) where
-  -- all of the messages come before m, as one behind them does
+  -- all of the messages come before m, since the one after them does
   pub all_before : (m : M) (xs : List (M × K)) (y : M × K) (ys : List (M × K)) → SortedMarked cmp (xs ++ y ∷ ys)
       → is_lt (cmp m y.0) ≡ false → AllByRecursion (λ x. cmp m x.0 ≡ Greater) xs
   all_before m [] y ys s late = tt
@@ -74,13 +74,13 @@ module _ {M K : Type 0} {cmp : M → M → Ordering} (o : IsTotalOrder cmp) wher
 -- ---- insert_marked
 
 module _ {M K : Type 0} (cmp : M → M → Ordering) (join : K → K → K) (m : M) (k : K) where
-  -- a message goes behind all that come before it
+  -- a message goes after all that come before it
   pub insert_behind : (xs ys : List (M × K)) → AllByRecursion (λ x. cmp m x.0 ≡ Greater) xs
       → insert_marked join cmp m k (xs ++ ys) ≡ xs ++ insert_marked join cmp m k ys
   insert_behind [] ys h = refl
   insert_behind (x ∷ xs) ys h = rw h.0 (ap (λ t. x ∷ t) (insert_behind xs ys h.1))
 
-  -- what comes after all of them stays behind a message that is put in its place
+  -- an element after all of them stays after a message that is put in its place
   before_place : (r : Ordering) (x : M × K) (xs zs : List (M × K))
       → insert_marked join cmp m k (xs ++ zs) ≡ insert_marked join cmp m k xs ++ zs
       → place_marked join r m k x (xs ++ zs) (insert_marked join cmp m k (xs ++ zs)) ≡ place_marked join r m k x xs
@@ -98,7 +98,7 @@ module _ {M K : Type 0} (cmp : M → M → Ordering) (join : K → K → K) (m :
 -- ---- SortedMarked of insert_marked
 
 module _ {M K : Type 0} {cmp : M → M → Ordering} (o : IsTotalOrder cmp) (join : K → K → K) (m : M) (k : K) where
-  -- what comes before a message and others comes before them with it in its place
+  -- an element before a message and others comes before them with it in its place
   above_place : (r : Ordering) (z : M) (y : M × K) (ys rest : List (M × K)) → cmp z m ≡ Less → Above cmp z (y ∷ ys)
       → Above cmp z rest → Above cmp z (place_marked join r m k y ys rest)
   above_place Less z y ys rest e f g = (e, f)
@@ -178,10 +178,10 @@ module _ {M K : Type 0} {cmp : M → M → Ordering} (o : IsTotalOrder cmp) (joi
       let greater : cmp m x.0 ≡ Greater = first_before x xs i d s (omega arith) (before i (omega arith)) in
       rw greater (ap (λ t. x ∷ t) (insert_there xs i d s.1 (omega arith) (λ j e. before (suc j) (omega arith)) same))
 
--- ---- what was read at a place
+-- ---- the value read at a place
 
 module _ {M K : Type 0} (cmp : M → M → Ordering) (m : M) where
-  -- whether m comes after what was read at a place
+  -- whether m comes after the value read at a place
   pub gt_at : (xs : List (M × K)) (i j : ℕ) (x d : M × K) (r : Bool) → j ≡ i → i < length xs → x ≡ get_or xs i x
       → is_gt (cmp m x.0) ≡ r → is_gt (cmp m (get_or xs j d).0) ≡ r
   gt_at xs i j x d r same l read e = subst (λ n. is_gt (cmp m (get_or xs n d).0) ≡ r) (sym same)
@@ -194,7 +194,7 @@ module _ {M K : Type 0} (cmp : M → M → Ordering) (m : M) where
   there_within (x ∷ xs) (suc i) e = let l = there_within xs i e in omega arith
 
 module _ {M K : Type 0} {cmp : M → M → Ordering} (o : IsTotalOrder cmp) (join : K → K → K) (m : M) (k : K) where
-  -- what an insertion does at the place of a message, where the message isn't there
+  -- the effect of an insertion at the place of a message that is not there
   pub new_at : (xs : List (M × K)) (i : ℕ) → SortedMarked cmp xs → IsPlaceOf cmp m xs i
       → is_there cmp m (slice_get xs i) ≡ false → insert_marked join cmp m k xs ≡ insert xs i (m, k)
   new_at xs i s place there =
@@ -202,7 +202,7 @@ module _ {M K : Type 0} {cmp : M → M → Ordering} (o : IsTotalOrder cmp) (joi
       (λ l. let no : is_eq (cmp m (get_or xs i (m, k)).0) ≡ false = rw (slice_get-get_or xs i (m, k) l) at there in
       is_gt-Less _ (place.behind (m, k) l) no)
 
-  -- and where it is
+  -- and of one that is
   pub joined_at : (xs : List (M × K)) (i : ℕ) (x : M × K) → SortedMarked cmp xs → IsPlaceOf cmp m xs i
       → is_there cmp m (slice_get xs i) ≡ true → x ≡ get_or xs i x
       → insert_marked join cmp m k xs ≡ set xs i (x.0, join x.1 k)

@@ -1,4 +1,4 @@
--- A message that is put into the block to which it goes: all blocks after it.
+-- Inserting a message into its block: all blocks afterwards.
 use Rattle.std.proofs.Common.{◌≡◌, ℕ, zero, suc, ◌-◌, ◌<◌, ◌≤◌, refl, sym, ap, ◌∙◌, subst, List}
 use Rattle.std.proofs.Common.{[], ◌∷◌, Ordering, length, get_or, set, arith, Result, Ok, Err, OnOk, OnErr}
 use Rattle.std.specs.Cmp.{IsTotalOrder}
@@ -37,13 +37,13 @@ module _ {X : Type 0} where
         later_filled = AreFilled-set n later b h.later_filled some few;
       }
 
-  -- to set a block behind the first is to set it among the later ones, one place before
+  -- setting a block after the first sets it among the later ones, one place before
   pub set_later : (at : ℕ) (first : List X) (later : List (List X)) (b : List X)
       → 0 < at → (first ∷ set later (at - 1) b) ≡ set (first ∷ later) at b
   set_later zero first later b l = absurd (omega arith)
   set_later (suc n) first later b l = let e : suc n - 1 ≡ n = omega arith in rw e refl
 
-  -- and what is read there is the block of that number
+  -- and the block of that number is read there
   pub later_at : (at : ℕ) (first : List X) (later : List (List X))
       → 0 < at → get_or later (at - 1) [] ≡ block_at first later at
   later_at zero first later l = absurd (omega arith)
@@ -75,7 +75,7 @@ module _ {M K : Type 0} {cmp : M → M → Ordering} (o : IsTotalOrder cmp) (joi
       ap of_blocks e ∙ sym (insert-of_blocks o join m k at first later blocks.sorted blocks.sized.later_filled place)
 
 module _ {M K A E : Type 0} (cmp : M → M → Ordering) (join : K → K → K) (m : M) (k : K) where
-  -- what a message that is put into a block is to all of them
+  -- the effect on all blocks of a message put into one
   pub record IsPut (r : Result A E) (first : List (M × K)) (later : List (List (M × K))) (first' : List (M × K))
       (later' : List (List (M × K))) : Type 0 where
     pub blocks : AreBlocks cmp first' later'
@@ -83,7 +83,7 @@ module _ {M K A E : Type 0} (cmp : M → M → Ordering) (join : K → K → K) 
     pub err : OnErr r (of_blocks (first' ∷ later') ≡ of_blocks (first ∷ later))
 
 module _ {M K A E : Type 0} {cmp : M → M → Ordering} (o : IsTotalOrder cmp) (join : K → K → K) (m : M) (k : K) where
-  -- a message that is put into the block to which it goes is put into all; where that fails, none changes
+  -- a message that is put into its block is put into all; if that fails, none changes
   pub is_put : (at : ℕ) (first : List (M × K)) (later : List (List (M × K))) → AreBlocks cmp first later
       → IsBlockOf cmp m later at → length (block_at first later at) < MOST_IN_BLOCK →
       (r : Result A E) (b first' : List (M × K)) (later' : List (List (M × K)))

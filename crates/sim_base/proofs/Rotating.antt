@@ -1,4 +1,4 @@
--- Lists that are gone through once in a ring: each element is taken out first, and what it becomes is put last.
+-- One rotation through a ring: each element is removed at the front, and its replacement is appended.
 use Rattle.std.proofs.Common.{◌≡◌, ℕ, zero, suc, ◌+◌, ◌<◌, ◌≤◌, refl, sym, ap, ◌∙◌, subst, List, [], ◌∷◌, ◌++◌}
 use Rattle.std.proofs.Common.{Option, Some, None, set}
 use Rattle.std.proofs.Common.{true, false, ◌==◌, if◌then◌else◌, length, take, drop, get_or, arith, append_assoc}
@@ -17,7 +17,7 @@ use Rattle.sim_base.proofs.Cutting.{cut-Some, cut-None, cut-append, length-cut}
 -- ---- drop
 
 module _ {X : Type 0} where
-  -- what is taken out first is the next of the old list
+  -- the first one taken out is the next of the old list
   drop_next : (old items rest done : List X) (i : ℕ) (x : X) → i < length old → items ≡ drop i old ++ done
       → items ≡ x ∷ rest → (x ≡ get_or old i x) × (rest ≡ drop (i + 1) old ++ done)
   drop_next old items rest done i x l is leaves =
@@ -29,11 +29,11 @@ module _ {X : Type 0} where
 
 module _ {M K : Type 0} (meet : K → K → Option K) (by : K) (old items rest : List (M × K)) (i : ℕ) (x : M × K)
     (l : i < length old) (is : items ≡ drop i old ++ cut_by meet by (take i old)) (leaves : items ≡ x ∷ rest) where
-  -- what is taken out is the next message, and the others stay
+  -- the next message is taken out, and the others stay
   get_or-next : (x ≡ get_or old i x) × (rest ≡ drop (i + 1) old ++ cut_by meet by (take i old))
   get_or-next = drop_next old items rest (cut_by meet by (take i old)) i x l is leaves
 
-  -- what meets so far, with one message more
+  -- the messages that meet so far, with one more message
   cut_by-next : cut_by meet by (take (i + 1) old) ≡ cut_by meet by (take i old) ++ cut_by meet by (x ∷ [])
   cut_by-next = ap (cut_by meet by) (take_next old i x l get_or-next.0) ∙ cut-append meet by (take i old) (x ∷ [])
 
@@ -57,7 +57,7 @@ module _ {M K : Type 0} (meet : K → K → Option K) (by : K) (old items rest :
 -- ---- HasRotated
 
 module _ {M K : Type 0} (meet : K → K → Option K) (by : K) (old : List (List (M × K))) where
-  -- what the blocks so far have become
+  -- the new form of the blocks so far
   pub record HasRotated (now : List (List (M × K))) (n : ℕ) : Type 0 where
     pub done : List (List (M × K))
     pub items : now ≡ drop n old ++ done
@@ -66,11 +66,11 @@ module _ {M K : Type 0} (meet : K → K → Option K) (by : K) (old : List (List
 
   module _ (items rest : List (List (M × K))) (i : ℕ) (b : List (M × K)) (l : i < length old)
       (rotated : HasRotated items i) (leaves : items ≡ b ∷ rest) where
-    -- what is taken out is the next block, and the others stay
+    -- the next block is taken out, and the others stay
     next_block : (b ≡ get_or old i b) × (rest ≡ drop (i + 1) old ++ rotated.done)
     next_block = drop_next old items rest rotated.done i b l rotated.items leaves
 
-    -- what meets so far, with one block more
+    -- the messages that meet so far, with one more block
     more_blocks : cut_by meet by (of_blocks (take (i + 1) old)) ≡ of_blocks rotated.done ++ cut_by meet by b
     more_blocks =
         ap (λ bs. cut_by meet by (of_blocks bs)) (take_next old i b l next_block.0)
@@ -107,7 +107,7 @@ module _ {M K : Type 0} (meet : K → K → Option K) (by : K) (old : List (List
 -- ---- cut_by, block by block
 
 module _ {M K : Type 0} (meet : K → K → Option K) (by : K) where
-  -- what is cut so far, and one block more
+  -- the cut so far, with one more block
   pub cut_more : (so_far now : List (M × K)) (b cut : List (M × K)) (rest rest' : List (List (M × K)))
       (all : List (M × K)) → now ≡ so_far ++ cut → cut ≡ cut_by meet by b → rest ≡ b ∷ rest' →
       so_far ++ cut_by meet by (of_blocks rest) ≡ all → now ++ cut_by meet by (of_blocks rest') ≡ all
@@ -129,7 +129,7 @@ module _ {M K : Type 0} (meet : K → K → Option K) (by : K) where
 pub empty_if : {X : Type 0} (xs : List X) → true ≡ (length xs == 0) → xs ≡ []
 empty_if xs e = nil_from_length xs (eqb-true (length xs) 0 (sym e))
 
--- and where its length is not 0 it has an element
+-- and if its length is not 0 it has an element
 pub filled_if : {X : Type 0} (xs : List X) → false ≡ (length xs == 0) → 0 < length xs
 filled_if xs e = let some = eqb-false (length xs) 0 (sym e) in omega arith
 

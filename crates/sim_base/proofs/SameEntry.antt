@@ -1,4 +1,4 @@
--- Entries are the same exactly where they are equal.
+-- Entries are the same exactly when they are equal.
 use Rattle.std.proofs.Common.{◌≡◌, ◌==◌, ◌&&◌, true, refl, ap, eqb-true, eq-eqb, subst}
 use Rattle.std.specs.Bool.{Decides}
 use Rattle.std.specs.Cmp.{tied_itself, Equal-is}
@@ -54,7 +54,7 @@ line_itself (Sink g y) = and_from (g == g) (y == y) (eq-eqb g g refl) (eq-eqb y 
 
 -- ---- same_entry
 
--- two entries are the same exactly where they are equal
+-- two entries are the same exactly if they are equal
 pub same_entry-Decides : (x y : Entry Msg Line) → Decides (same_entry x y) (x ≡ y)
 same_entry-Decides x y = (
   (λ e.

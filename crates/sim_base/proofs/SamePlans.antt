@@ -1,4 +1,4 @@
--- Planned decisions are the same exactly where they are equal.
+-- Planned decisions are the same exactly when they are equal.
 use Rattle.std.proofs.Common.{◌≡◌, ◌==◌, ◌&&◌, true, refl, ap, subst, eqb-true, eq-eqb}
 use Rattle.std.specs.Bool.{Decides}
 use Rattle.std.specs.Cmp.{tied_itself, Equal-is}
@@ -15,7 +15,7 @@ use Rattle.sim_base.proofs.OrderEqual.{change_same}
 
 -- ---- change_cmp
 
--- a message that tells a change
+-- a message with a change
 abbrev message_of : Change → Msg
 message_of c = record { key = record { time = 0; sender = 0; number = 0 }; to = 0; payload = Set c }
 
@@ -45,6 +45,6 @@ same_plan-itself p = and_from (p.at == p.at && p.station == p.station) (is_eq (c
     (and_from (p.at == p.at) (p.station == p.station) (eq-eqb p.at p.at refl) (eq-eqb p.station p.station refl))
     (change_itself p.change)
 
--- two decisions are the same exactly where they are equal
+-- two decisions are the same exactly if they are equal
 pub same_plan-Decides : (p q : Planned) → Decides (same_plan p q) (p ≡ q)
 same_plan-Decides p q = (same_plan-equal p q, λ e. subst (λ r. same_plan p r ≡ true) e (same_plan-itself p))

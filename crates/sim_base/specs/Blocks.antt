@@ -1,4 +1,4 @@
--- Pending messages in blocks: a first block, and later ones behind it.
+-- Pending messages in blocks: a first block, and later ones after it.
 use Rattle.std.specs.Prelude.{◌≡◌, ℕ, zero, suc, ◌+◌, ◌<◌, ◌≤◌, List, [], ◌∷◌, ◌++◌}
 use Rattle.std.specs.Prelude.{length, take, drop, flat_map, Bool, true, false, slice_index_or, ⊤, Option, Some, None}
 use Rattle.std.specs.List.{AllByRecursion}
@@ -13,27 +13,27 @@ abbrev pub of_blocks : {X : Type 0} → List (List X) → List X
 of_blocks blocks = flat_map (λ b. b) blocks
 
 module _ {X : Type 0} where
-  -- the block of this number: the first is 0
+  -- block number `at`; the first is 0
   abbrev pub block_at : List X → List (List X) → ℕ → List X
   block_at first later at = slice_index_or (first ∷ later) at []
 
-  -- the block of this number is cut in two halves
+  -- block number `at` is split into two halves
   abbrev pub halves_of : ℕ → List (List X) → List (List X)
   halves_of at [] = []
   halves_of zero (b ∷ bs) = take HALF b ∷ drop HALF b ∷ bs
   halves_of (suc at) (b ∷ bs) = b ∷ halves_of at bs
 
-  -- no block is empty, and none has too many messages
+  -- no block is empty or too large
   abbrev pub AreFilled : List (List X) → Type 0
   AreFilled blocks = AllByRecursion (λ b. (0 < length b) × (length b ≤ MOST_IN_BLOCK)) blocks
 
-  -- the first block may be empty, but only where it is alone
+  -- the first block may be empty, but only if it is the only one
   pub record AreSized (first : List X) (later : List (List X)) : Type 0 where
     pub first_filled : 0 < length later → 0 < length first
     pub first_small : length first ≤ MOST_IN_BLOCK
     pub later_filled : AreFilled later
 
--- where there is a first message, this is its time
+-- the time of the first message, if there is one
 abbrev pub StartsAt : {K : Type 0} → ℕ → List (Msg × K) → Type 0
 StartsAt time [] = ⊤
 StartsAt time (x ∷ xs) = time ≡ x.0.key.time
@@ -44,7 +44,7 @@ module _ {M K : Type 0} (cmp : M → M → Ordering) where
     pub sorted : SortedMarked cmp (first ++ of_blocks later)
     pub sized : AreSized first later
 
-  -- i messages are before m: the last of them is, and the one at i, if there is one, is not
+  -- i messages are before m: the last of them is, and the one at i, if it exists, is not
   pub record IsPlaceOf (m : M) (xs : List (M × K)) (i : ℕ) : Type 0 where
     pub within : i ≤ length xs
     pub before : (d : M × K) (j : ℕ) → j + 1 ≡ i → is_gt (cmp m (slice_index_or xs j d).0) ≡ true
@@ -60,7 +60,7 @@ module _ {M K : Type 0} (cmp : M → M → Ordering) where
   StartsAfter m [] b = ⊤
   StartsAfter m (y ∷ ys) b = b ≡ is_lt (cmp m y.0)
 
-  -- where m goes among later blocks: the last of those before `at` starts with m or before it, the one at `at` after it
+  -- the place of m among later blocks: the last block before `at` starts with m or before it, the one at `at` after it
   pub record IsBlockOf (m : M) (later : List (List (M × K))) (at : ℕ) : Type 0 where
     pub within : at ≤ length later
     pub before : (j : ℕ) → j + 1 ≡ at → StartsAfter m (slice_index_or later j []) false

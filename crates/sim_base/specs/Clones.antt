@@ -4,27 +4,28 @@ use Rattle.std.specs.Prelude.{None, slice_get, slice_set, unwrap_or, position, c
 use Rattle.std.specs.Str.{bytes_eq}
 use Rattle.sim_base.specs.declared.decision.Planned.{Planned}
 
--- a clone: its name, its decisions in order of arrival, and the time from which it handles nothing, if there is one
+-- a clone: its name, its decisions in order of arrival, and the time from which it handles nothing, if any
 pub record Clone : Type 0 where
   pub name : List ℕ
   pub plans : List Planned
   pub end : Option ℕ
 
--- the clones in order of making; memory is reserved for so many clones of so many decisions each
+-- the clones in the order in which they were made, and the numbers of clones and of decisions each that memory is
+-- reserved for
 pub record ListsView : Type 0 where
   pub clones : List Clone
   pub reserved_clones : ℕ
   pub reserved_plans : ℕ
 
--- the clone that is there from the start
+-- the clone that exists from the start
 abbrev pub base : Clone
 base = record { name = codes "base"; plans = []; end = None }
 
--- the place of the first clone of this name
+-- the place of the first clone with this name
 abbrev pub place_of : List ℕ → List Clone → Option ℕ
 place_of name clones = position (λ c. bytes_eq c.name name) clones
 
--- the clone at a place where there is none
+-- the default clone, if there is none at a place
 abbrev pub nobody : Clone
 nobody = record { name = []; plans = []; end = None }
 
@@ -32,7 +33,7 @@ nobody = record { name = []; plans = []; end = None }
 abbrev pub clone_at : List Clone → ℕ → Clone
 clone_at clones c = unwrap_or (slice_get clones c) nobody
 
--- a new clone with the decisions of this one as they are now, and no end
+-- a new clone with the current decisions of this one, and no end
 abbrev pub fork_of : Clone → List ℕ → Clone
 fork_of c name = record { name = name; plans = c.plans; end = None }
 
@@ -48,10 +49,10 @@ with_end c at = record c { end = Some at }
 abbrev pub clones_with_fork : List Clone → List ℕ → ℕ → List Clone
 clones_with_fork clones new old = clones ++ fork_of (clone_at clones old) new ∷ []
 
--- one decision more of the clone at this place
+-- the clone at this place gets one decision more
 abbrev pub clones_with_plan : List Clone → ℕ → Planned → List Clone
 clones_with_plan clones c plan = slice_set clones c (with_plan (clone_at clones c) plan)
 
--- the clone at this place has this end
+-- the clone at this place gets this end
 abbrev pub clones_with_end : List Clone → ℕ → ℕ → List Clone
 clones_with_end clones c at = slice_set clones c (with_end (clone_at clones c) at)

@@ -1,4 +1,4 @@
--- Decisions, each of which speaks of one clone, and whether two planned ones are equal.
+-- Decisions, each about one clone, and whether two planned ones are equal.
 use Rattle.std.specs.Prelude.{◌≡◌, ℕ, List, Bool, ◌&&◌, ◌==◌}
 use Rattle.std.specs.Bool.{Decides}
 use Rattle.std.specs.Ordering.{is_eq}
@@ -7,7 +7,7 @@ use Rattle.sim_base.specs.declared.decision.Decision.{Decision}
 use Rattle.sim_base.specs.declared.decision.Decision.TheVariants.{Fork, Set, End}
 use Rattle.sim_base.specs.declared.decision.Planned.{Planned}
 
--- the clone that a decision speaks of: the one that is forked, set or ended
+-- the clone that a decision is about: the one that is forked, changed or ended
 abbrev pub subject : Decision → List ℕ
 subject (Fork new old) = old
 subject (Set who at station change) = who
@@ -17,6 +17,6 @@ subject (End who at) = who
 abbrev pub same_plan : Planned → Planned → Bool
 same_plan p q = (p.at == q.at && p.station == q.station) && is_eq (change_cmp p.change q.change)
 
--- two planned decisions are the same exactly where they are equal
+-- two planned decisions are the same exactly when they are equal
 abbrev pub PlansAreToldApart : Type 0
 PlansAreToldApart = (p q : Planned) → Decides (same_plan p q) (p ≡ q)

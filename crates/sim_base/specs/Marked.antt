@@ -1,4 +1,4 @@
--- Marked messages: their order, and what marks that are joined or met have of clones.
+-- Marked messages: their order, and the clones in unions and intersections of marks.
 use Rattle.std.specs.Prelude.{◌≡◌, ℕ, List, [], ◌∷◌, Bool, false, ◌&&◌, ◌||◌, Option, Some, None, ⊤}
 use Rattle.std.specs.List.{AllByRecursion}
 use Rattle.std.specs.declared.cmp.Ordering.{Ordering}
@@ -14,11 +14,11 @@ module _ {M K : Type 0} (cmp : M → M → Ordering) where
   SortedMarked [] = ⊤
   SortedMarked (x ∷ xs) = Above x.0 xs × SortedMarked xs
 
--- marks that are joined are those of both
+-- joined marks have the clones of both
 pub record JoinsMarks {K : Type 0} (has : K → ℕ → Bool) (join : K → K → K) : Type 0 where
   pub joined : (a b : K) (c : ℕ) → has (join a b) c ≡ (has a c || has b c)
 
--- marks that meet share what both have, and there are none where they share nothing
+-- marks that meet have the clones of both; without a common clone there are none
 pub record MeetsMarks {K : Type 0} (has : K → ℕ → Bool) (meet : K → K → Option K) : Type 0 where
   pub none : (a b : K) → meet a b ≡ None → (c : ℕ) → (has a c && has b c) ≡ false
   pub some : (a b k : K) → meet a b ≡ Some k → (c : ℕ) → has k c ≡ (has a c && has b c)

@@ -16,7 +16,7 @@ is_digit b = nat_le 48 b && nat_le b 57
 abbrev pub is_leading : ℕ → Bool
 is_leading b = nat_le 49 b && nat_le b 57
 
--- whether it may stand in a name: a to z, digits and _
+-- whether a name may contain it: a to z, digits and _
 abbrev pub is_name_byte : ℕ → Bool
 is_name_byte b = (is_lower b || is_digit b) || (b == 95)
 

@@ -1,4 +1,4 @@
--- The order of messages: time, sender, number; then the receiver and the payload, which only tell equal keys apart.
+-- The order of messages: time, sender, number; then the receiver and the payload, which only separate equal keys.
 use Rattle.std.specs.Prelude.{ℕ}
 use Rattle.std.specs.Ordering.{nat_cmp, ordering_then}
 use Rattle.std.specs.declared.cmp.Ordering.{Ordering}
@@ -11,12 +11,12 @@ use Rattle.sim_base.specs.declared.message.Param.TheVariants.{Every, Service, Ho
 use Rattle.sim_base.specs.declared.message.Payload.{Payload}
 use Rattle.sim_base.specs.declared.message.Payload.TheVariants.{Tick, Job, Done, Set}
 
--- what has a time, a sender and a number, by time, then by sender, then by number
+-- by time, then by sender, then by number
 abbrev pub key_order : {M : Type 0} → (M → ℕ) → (M → ℕ) → (M → ℕ) → M → M → Ordering
 key_order time sender number x y = ordering_then (nat_cmp (time x) (time y))
     (ordering_then (nat_cmp (sender x) (sender y)) (nat_cmp (number x) (number y)))
 
--- keys are ordered so
+-- keys in this order
 abbrev pub key_cmp : Key → Key → Ordering
 key_cmp a b = key_order (λ (k : Key). k.time) (λ k. k.sender) (λ k. k.number) a b
 

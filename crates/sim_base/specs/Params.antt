@@ -1,4 +1,5 @@
--- The parameters of stations: their words in scripts and traces, how many values each takes, and the words of a change.
+-- The parameters of stations: their keywords in scripts and traces, the number of values of each, and the words of a
+-- change.
 use Rattle.std.specs.Prelude.{ℕ, ◌==◌, if◌then◌else◌, List, [], ◌∷◌, codes, decimal, Option}
 use Rattle.std.specs.List.{find}
 use Rattle.std.specs.Str.{bytes_eq}
@@ -14,7 +15,7 @@ param_word Servers = codes "servers"
 param_word Room = codes "room"
 param_word Weight = codes "weight"
 
--- how many values it takes: a range has two, a weight of a link has the link's place too
+-- the number of values it takes: a range has two, and a weight also names its link
 abbrev pub param_values : Param → ℕ
 param_values Every = 2
 param_values Service = 2
@@ -35,6 +36,6 @@ words_of_change param a b = param_word param ∷ value_words (param_values param
 abbrev pub all_params : List Param
 all_params = Every ∷ Service ∷ Hold ∷ Servers ∷ Room ∷ Weight ∷ []
 
--- the parameter of this word
+-- the parameter with this keyword
 abbrev pub param_of_word : List ℕ → Option Param
 param_of_word word = find (λ p. bytes_eq (param_word p) word) all_params

@@ -6,13 +6,13 @@ use Rattle.std.specs.declared.cmp.Ordering.TheVariants.{Less, Equal, Greater}
 use Rattle.sim_base.specs.declared.message.Msg.{Msg}
 
 module _ {M K : Type 0} (join : K → K → K) where
-  -- m before y ∷ ys, with its marks joined to those of y, or in the rest after y
+  -- m is put before y ∷ ys, its marks are joined to those of y, or it is put into the rest after y
   abbrev pub place_marked : Ordering → M → K → M × K → List (M × K) → List (M × K) → List (M × K)
   place_marked Less m k y ys rest = (m, k) ∷ y ∷ ys
   place_marked Equal m k y ys rest = (y.0, join y.1 k) ∷ ys
   place_marked Greater m k y ys rest = y ∷ rest
 
-  -- a message is put in its place; where it stands already, its marks are joined
+  -- a message is put in its place; if it is already there, its marks are joined
   abbrev pub insert_marked : (M → M → Ordering) → M → K → List (M × K) → List (M × K)
   insert_marked cmp m k [] = (m, k) ∷ []
   insert_marked cmp m k (y ∷ ys) = place_marked (cmp m y.0) m k y ys (insert_marked cmp m k ys)
@@ -22,11 +22,11 @@ module _ {M K : Type 0} (join : K → K → K) where
   spread_marks meet by more xs = map (λ x. (x.0, if is_some (meet x.1 by) then join x.1 more else x.1)) xs
 
 module _ {M K : Type 0} (meet : K → K → Option K) where
-  -- a message whose marks meet `by`, with what they share
+  -- a message whose marks meet `by`, with the marks in common
   abbrev pub shared_by : K → M × K → Option (M × K)
   shared_by by x = option_map (λ k. (x.0, k)) (meet x.1 by)
 
-  -- the messages whose marks meet `by`, each with what they share
+  -- the messages whose marks meet `by`, each with the marks in common
   abbrev pub cut_by : K → List (M × K) → List (M × K)
   cut_by by xs = filter_map (shared_by by) xs
 
@@ -38,7 +38,7 @@ first_time xs = option_map (λ x. x.0.key.time) (slice_get xs 0)
 abbrev pub first_marks : {M K : Type 0} → List (M × K) → Option K
 first_marks xs = option_map (λ x. x.1) (slice_get xs 0)
 
--- nothing is pending, or the first message is at the bound or later
+-- no message is pending, or the first is at the bound or later
 abbrev pub NothingBefore : {K : Type 0} → ℕ → List (Msg × K) → Type 0
 NothingBefore bound [] = ⊤
 NothingBefore bound (x ∷ xs) = bound ≤ x.0.key.time

@@ -1,7 +1,7 @@
--- A list, and for how many elements memory is reserved.
+-- A list, and the number of elements that memory is reserved for.
 use Rattle.std.specs.Prelude.{ℕ, List}
 
--- what contracts see of such a list: its elements, and for how many memory is reserved
+-- the list that contracts see: its elements, and the number of elements that memory is reserved for
 pub record ReservedView (T : Type 0) : Type 0 where
   pub items : List T
   pub reserved : ℕ

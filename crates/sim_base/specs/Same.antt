@@ -1,4 +1,4 @@
--- Whether two entries of a log are equal, a job's time of birth among them.
+-- Whether two entries of a log are equal, including a job's time of birth.
 use Rattle.std.specs.Prelude.{◌≡◌, Bool, false, ◌&&◌, ◌==◌}
 use Rattle.std.specs.Bool.{Decides}
 use Rattle.std.specs.Ordering.{is_eq}
@@ -21,6 +21,6 @@ same_line _ _ = false
 abbrev pub same_entry : Entry Msg Line → Entry Msg Line → Bool
 same_entry e f = is_eq (msg_cmp e.msg f.msg) && same_line e.line f.line
 
--- two entries are the same exactly where they are equal
+-- two entries are the same exactly when they are equal
 abbrev pub EntriesAreToldApart : Type 0
 EntriesAreToldApart = (e f : Entry Msg Line) → Decides (same_entry e f) (e ≡ f)

@@ -1,4 +1,4 @@
-//! Decisions, and what a clone has of them.
+//! Decisions, and the changes that they plan for a clone.
 ghost use Rattle.std.specs.Prelude.{◌≡◌};
 ghost use Rattle.std.specs.Bool.{Decides};
 ghost use Rattle.sim_base.specs.Decisions.{subject};
@@ -9,19 +9,19 @@ use crate::name::Name;
 /// What an analyst decides.
 #[derive(Clone, Copy, Debug, PartialEq, Eq)]
 pub enum Decision {
-    /// A new clone branches off an old one.
+    /// Forks a new clone from an old one.
     Fork {
         new: Name,
         old: Name,
     },
-    /// From a time on, a station of one clone has other values of a parameter.
+    /// Gives a parameter of a station new values in one clone, from a time on.
     Set {
         who: Name,
         at: u64,
         station: Name,
         change: Change,
     },
-    /// One clone handles nothing at this time or later.
+    /// Ends a clone: it handles nothing at this time or later.
     End {
         who: Name,
         at: u64,
@@ -29,7 +29,7 @@ pub enum Decision {
 }
 
 impl Decision {
-    /// The clone that it speaks of: the one that is forked, set or ended.
+    /// The clone that the decision is about: the one that is forked, changed or ended.
     pub fn subject(&self) -> Name
         ensures value { result ≡ subject self.now }
     {
@@ -41,7 +41,7 @@ impl Decision {
     }
 }
 
-/// One element of a clone's decision list: at a time, a station takes new values of a parameter.
+/// One element of a clone's decision list: a station's parameter takes new values at a time.
 #[derive(Clone, Copy, Debug, PartialEq, Eq)]
 pub struct Planned {
     pub at: u64,

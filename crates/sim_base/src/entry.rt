@@ -1,4 +1,4 @@
-//! Entries of a log: each has a message that a station handled, and the station's counts after it.
+//! Entries of a log: a handled message, and the station's counts after it.
 ghost use Rattle.std.specs.Prelude.{◌≡◌};
 ghost use Rattle.std.specs.Bool.{Decides};
 
@@ -11,7 +11,7 @@ pub enum Line {
     Source {
         sent: u64,
     },
-    /// A server: jobs in service, jobs that wait, jobs done, jobs lost because the queue was full.
+    /// A server: jobs in service, jobs waiting, jobs done, jobs lost because the queue was full.
     Server {
         busy: u64,
         wait: u64,
@@ -22,19 +22,19 @@ pub enum Line {
     Passed {
         passed: u64,
     },
-    /// A sink: jobs that came, and the sum of their times in the network.
+    /// A sink: jobs that arrived, and the sum of their times in the network.
     Sink {
         got: u64,
         stay: u64,
     },
 }
 
-/// One element of a log: a message that was handled, and the counts after it.
+/// One element of a log: a handled message, and the counts after it.
 #[derive(Clone, Copy, Debug, PartialEq, Eq)]
 pub struct Entry<M = Msg, N = Line> {
-    /// What was handled.
+    /// The handled message.
     pub msg: M,
-    /// The counts after it.
+    /// The station's counts after it.
     pub line: N,
 }
 

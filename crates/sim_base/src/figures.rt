@@ -1,7 +1,7 @@
-//! What the report counts at a station: copies, and messages.
+//! The counts that the report has for a station: copies, and messages.
 
-/// What the report says of one station: its physical copies, the messages that copies handled, and
-/// the messages that the clones would have handled alone.
+/// The report's figures for one station: its physical copies, the messages that the copies handled, and the messages
+/// that the clones would have handled alone.
 #[derive(Clone, Copy, Debug, PartialEq, Eq)]
 pub struct Figures {
     pub copies: u64,

@@ -1,14 +1,13 @@
-//! The words that all crates speak: names, messages and their order, log entries, decisions, the decision
-//! lists of the clones, and pending messages.
+//! The data types that all crates share: names, messages and their order, log entries, decisions, the decision lists of
+//! the clones, and pending messages.
 //!
-//! A simulation is a set of stations (the literature's *logical processes*) that change state only when they
-//! handle a message with a time stamp. A `Msg` is ordered by time, then by its sender, then by the sender's
-//! running count (a *sequence number*), so no two runs can disagree on ties. What is still to be handled is
-//! `Pending` (the *future event list*); what was handled is a log of `Entry`s, each a message with the counts
-//! of its station after it.
+//! A simulation is a set of stations (the literature's *logical processes*) that change state only when they handle a
+//! message with a time stamp. A `Msg` is ordered by time, then by its sender, then by the sender's running count (a
+//! *sequence number*). So ties are always broken in the same way. `Pending` holds the messages still to be handled (the
+//! *future event list*). A log holds the handled ones: each `Entry` has a message and the station's counts after it.
 //!
-//! A clone is a branch of the simulation. It differs from the others only by its decisions: `Lists` keeps for
-//! each clone its name, its list of `Planned` changes in order of arrival, and its end, if it has one:
+//! A clone is a branch of the simulation. It differs from the others only by its decisions. For each clone, `Lists`
+//! keeps its name, its list of `Planned` changes in order of arrival, and its end, if it has one:
 //!
 //! ```text
 //! base   service of desk at 40          <- decided first, so `fast` has it too
@@ -19,16 +18,16 @@
 //!
 //! ```text
 //! let mut lists = Lists::with_room(alloc, MOST_CLONES, MOST_DECISIONS)?;
-//! lists.fork_in_reserved(name, 0);          // a second clone, with what base has by now
+//! lists.fork_in_reserved(name, 0);          // a second clone, with base's decisions so far
 //! lists.add(1, plan)?;                      // a decision of the second clone alone
 //! ```
 //!
-//! What is reserved is taken once, so that a decision in the middle of a run needs no memory: a fork copies the
-//! old clone's list into a spare one, and a decision is a push. To find a clone by its name is a walk over the
-//! clones, `MOST_CLONES` at most.
+//! Memory is reserved once, so a decision in the middle of a run allocates nothing. A fork copies the old clone's list
+//! into a spare one, and a decision is a push. Finding a clone by its name is a walk over the clones, at most
+//! `MOST_CLONES`.
 //!
-//! Here stand the facts that the promises of exact sharing rest on: the order of messages is total, messages
-//! that tie in it are equal, and two entries are the same exactly where they are equal, every count included.
+//! The promises of exact sharing rest on the laws in `laws`. The order of messages is total, and messages that tie in
+//! it are equal. Two entries are the same exactly when they are equal, every count included.
 #![tactic(auto)]
 
 pub mod decision;

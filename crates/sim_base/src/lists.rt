@@ -13,9 +13,9 @@ use crate::reserved::Reserved;
 use std::alloc::Global;
 use std::marker::Model;
 
-/// How many clones there may be.
+/// The most clones of a study.
 pub const MOST_CLONES: u32 = 256;
-/// How many decisions the list of a clone may hold.
+/// The most decisions of a clone.
 pub const MOST_DECISIONS: u32 = 256;
 
 // A clone as it is stored: its list has memory reserved.
@@ -39,7 +39,7 @@ impl Model for CloneList {
 pub struct Lists {
     clones: Vec<CloneList>,
     reserved_clones: u32,
-    // an empty list for each fork within what is reserved
+    // an empty list for each fork within the reserved memory
     spare: Reserved<Reserved<Planned>>,
     reserved_plans: u32,
 }
@@ -80,7 +80,7 @@ impl Lists {
         })
     }
 
-    /// The base clone alone, with memory reserved for so many clones of so many decisions each.
+    /// The base clone alone, with memory reserved for `clones` clones of `plans` decisions each.
     pub fn with_room(alloc: Global, clones: u32, plans: u32) -> Result<Lists, NoMemory>
         requires one { 1 ≤ clones }
         requires few { clones ≤ MOST_CLONES }
@@ -111,7 +111,7 @@ impl Lists {
         })
     }
 
-    /// How many clones there are.
+    /// The number of clones.
     pub fn len(&self) -> u32
         ensures value { result ≡ length self.now.clones }
         ensures some { 1 ≤ result }
@@ -119,7 +119,7 @@ impl Lists {
         self.clones.len() as u32
     }
 
-    /// The place of the clone of this name.
+    /// The index of the clone with this name.
     #[tactic(auto, using(crate::proofs::CloneLists::seen_place))]
     pub fn find(&self, name: &Name) -> Option<u32>
         ensures value { result ≡ place_of name.now self.now.clones }
@@ -134,7 +134,7 @@ impl Lists {
     pub fn name(&self, c: u32) -> Name
         requires there { c < length self.now.clones }
         ensures value { result ≡ (clone_at self.now.clones c).name }
-        // no two clones have one name
+        // no two clones have the same name
         ensures only { place_of result self.now.clones ≡ Some c }
     {
         let clone = &self.clones[c as usize];
@@ -160,7 +160,7 @@ impl Lists {
         clone.end
     }
 
-    /// Gives a clone its end.
+    /// Sets a clone's end.
     #[tactic(auto, using(crate::proofs::CloneLists::seen_ended))]
     pub fn end(&mut self, c: u32, at: u64)
         requires there { c < length self.old.clones }
@@ -170,8 +170,8 @@ impl Lists {
         set_end(&mut self.clones, c as usize, at);
     }
 
-    /// Adds a decision to a clone's list; out of memory leaves all unchanged. Within what is reserved it
-    /// takes no memory.
+    /// Adds a decision to a clone's list. Allocates nothing within the reserved memory; if out of memory, changes
+    /// nothing.
     #[tactic(auto, using(crate::proofs::CloneLists::seen_added))]
     pub fn add(&mut self, c: u32, plan: Planned) -> Result<(), NoMemory>
         requires there { c < length self.old.clones }
@@ -184,8 +184,8 @@ impl Lists {
         push_plan(&mut self.clones, c as usize, plan)
     }
 
-    /// A further clone with an old one's decisions and no end; out of memory leaves all unchanged. Within
-    /// what is reserved it takes no memory.
+    /// Adds a clone with the old one's decisions and no end. Allocates nothing within the reserved memory; if out of
+    /// memory, changes nothing.
     #[tactic(auto, using(crate::proofs::CloneLists::seen_fork))]
     pub fn fork(&mut self, alloc: Global, new: Name, old: u32) -> Result<(), NoMemory>
         requires there { old < length self.old.clones }
@@ -208,7 +208,7 @@ impl Lists {
         push_fork(&mut self.clones, plans, new, old as usize)
     }
 
-    /// A further clone with an old one's decisions and no end, within what is reserved. It takes no memory.
+    /// Adds a clone with the old one's decisions and no end, within the reserved memory. Allocates nothing.
     #[tactic(auto, using(crate::proofs::CloneLists::seen_fork))]
     pub fn fork_in_reserved(&mut self, new: Name, old: u32)
         requires there { old < length self.old.clones }
@@ -226,7 +226,7 @@ impl Lists {
     }
 }
 
-// The place of the first clone of this name.
+// The index of the first clone with this name.
 fn place(clones: &[CloneList], name: &Name) -> Option<usize>
     ensures value { result ≡ position (λ k. bytes_eq k.name name.now) clones.now }
 {
@@ -235,7 +235,6 @@ fn place(clones: &[CloneList], name: &Name) -> Option<usize>
         .position(|clone| clone.name.as_bytes() == name.as_bytes())
 }
 
-// The name of the clone that is there from the start.
 fn base_name() -> Name
     ensures value { result ≡ codes "base" }
 {
@@ -245,7 +244,7 @@ fn base_name() -> Name
     }
 }
 
-// The base clone alone, and memory for so many clones.
+// The base clone alone, and memory for `capacity` clones.
 fn base_alone(
     alloc: Global,
     capacity: usize,
@@ -263,7 +262,7 @@ fn base_alone(
     Ok(clones)
 }
 
-// So many lists with no decision, each with memory for so many.
+// `count` lists with no decision, each with memory for `reserved` decisions.
 #[tactic(auto, using(crate::proofs::ListLaws::all_push))]
 fn spare_lists(
     alloc: Global,
@@ -297,7 +296,7 @@ fn copy_clones(alloc: Global, clones: &[CloneList]) -> Result<Vec<CloneList>, No
     Ok(copies)
 }
 
-// A fork of the old clone at the end: its list goes into `plans`, which is empty.
+// Appends a fork of the old clone; `plans` is empty and becomes its list.
 fn push_fork(
     clones: &mut Vec<CloneList>,
     plans: Reserved<Planned>,
@@ -320,12 +319,12 @@ fn push_fork(
     clones.push(CloneList {
         name: new,
         plans,
-        end: None, // an end is the old clone's own
+        end: None, // a fork does not inherit an end
     })?;
     Ok(())
 }
 
-// The clone at this place has its end.
+// Sets the end of clone `c`.
 fn set_end(clones: &mut Vec<CloneList>, c: usize, at: u64)
     requires there { c < length clones.old.items }
     ensures ok { clones.new.items ≡ lists_with_end clones.old.items c at }
@@ -335,7 +334,7 @@ fn set_end(clones: &mut Vec<CloneList>, c: usize, at: u64)
     clone.end = Some(at);
 }
 
-// One decision more for the clone at this place.
+// Adds a decision to the list of clone `c`.
 fn push_plan(clones: &mut Vec<CloneList>, c: usize, plan: Planned) -> Result<(), NoMemory>
     requires there { c < length clones.old.items }
     ensures ok { OnOk result (clones.new.items ≡ lists_with_plan clones.old.items c plan) }

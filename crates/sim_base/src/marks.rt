@@ -1,22 +1,22 @@
-//! What messages are marked with: what a type of marks must say, and the marks of one clone run alone.
+//! Marks of messages: the trait that they implement, and the marks of one clone run alone.
 ghost use Rattle.std.specs.Prelude.{◌≡◌, Option, Some};
 
-/// What a pending message is marked with: for which clones it is.
+/// The marks of a pending message: the clones that it is for.
 pub trait Marks: Copy {
     ghost union: { Self → Self → Self };
 
     ghost common: { Self → Self → Option Self };
 
-    /// The marks of both.
+    /// The union of the two.
     fn join(self, other: Self) -> Self
         ensures { result ≡ union self other };
 
-    /// What both mark, or None where that is nothing.
+    /// The intersection of the two, or None if it is empty.
     fn meet(self, other: Self) -> Option<Self>
         ensures { result ≡ common self other };
 }
 
-/// With one clone alone there is nothing to mark.
+/// One clone alone needs no marks.
 impl Marks for () {
     ghost union = { λ a b. tt };
 

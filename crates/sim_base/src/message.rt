@@ -7,22 +7,22 @@ ghost use Rattle.sim_base.specs.Params.{param_word, param_values, param_of_word}
 
 use std::cmp::Ordering;
 
-/// How many times the words of keys tell apart: the first 30 bits of a word's 64.
+/// The number of times that a word can represent: the first 30 of its 64 bits.
 pub const WORD_TIMES: u64 = 1_073_741_824;
 
-/// How many senders: 7 bits.
+/// The number of senders: 7 bits.
 pub const WORD_SENDERS: u32 = 128;
 
-/// How many numbers of one sender's messages: 21 bits.
+/// The number of sequence numbers of one sender: 21 bits.
 pub const WORD_NUMBERS: u64 = 2_097_152;
 
-/// How many places: the last 6 bits.
+/// The number of places: the last 6 bits.
 pub const WORD_PLACES: u64 = 64;
 
-/// How many words the keys of one time have: the 34 bits below it.
+/// The number of words of one time: the 34 bits below it.
 pub const WORDS_OF_TIME: u64 = WORD_SENDERS as u64 * WORD_NUMBERS * WORD_PLACES;
 
-/// What orders messages: the time, then the sender, then the sender's running count.
+/// What messages are ordered by: the time, then the sender, then the sender's running count.
 ///
 /// The sender is a station's number from 1, or 0 for the analyst.
 #[derive(Clone, Copy, Debug, Default, PartialEq, Eq, PartialOrd, Ord)]
@@ -33,7 +33,7 @@ pub struct Key {
 }
 
 impl Key {
-    /// Whether it fits one word of 64 bits, as the keys of a run do.
+    /// Whether the key fits a 64-bit word, as the keys of a run do.
     #[inline(always)]
     pub fn fits_word(self) -> bool
         ensures value { IsTrue result ↔ FitsWord self }
@@ -41,7 +41,7 @@ impl Key {
         self.time < WORD_TIMES && self.sender < WORD_SENDERS && self.number < WORD_NUMBERS
     }
 
-    /// The key as one word, with a place in its last bits: words are in the order of keys.
+    /// The key as one word with a place in its last bits. Words have the order of their keys.
     #[inline(always)]
     pub fn word(self, place: u64) -> u64
         requires fit { FitsWord self }
@@ -55,7 +55,7 @@ impl Key {
     }
 }
 
-/// A job: the station of its source, its count among that source's jobs, from 0, and when it was made.
+/// A job: the station of its source, its count among that source's jobs (from 0), and when it was made.
 #[derive(Clone, Copy, Debug, Default, PartialEq, Eq, PartialOrd, Ord)]
 pub struct Job {
     pub source: u32,
@@ -66,16 +66,16 @@ pub struct Job {
 /// A parameter of a station that a decision may change.
 #[derive(Clone, Copy, Debug, Default, PartialEq, Eq, PartialOrd, Ord)]
 pub enum Param {
-    /// A source's time between jobs, a range.
+    /// The range of a source's time between jobs.
     #[default]
     Every,
-    /// A server's time of service, a range.
+    /// The range of a server's service time.
     Service,
-    /// A delay's time, a range.
+    /// The range of a delay's time.
     Hold,
-    /// How many servers serve side by side.
+    /// The number of servers that work in parallel.
     Servers,
-    /// How many jobs may wait.
+    /// The number of jobs that may wait.
     Room,
     /// The weight of one link of a router.
     Weight,
@@ -92,7 +92,7 @@ impl Param {
         Param::Weight,
     ];
 
-    /// Its word in scripts and traces, which is also its key in a model file.
+    /// Its keyword in scripts and traces, which is also its key in a model file.
     pub fn word(self) -> &'static str
         ensures value { result.now ≡ param_word self }
     {
@@ -106,7 +106,7 @@ impl Param {
         }
     }
 
-    /// How many numbers a change of it has: the two ends of a range, a link and its weight, or one number.
+    /// The number of values in a change of it: the two ends of a range, a link and its weight, or one number.
     pub fn values(self) -> u32
         ensures value { result ≡ param_values self }
     {
@@ -116,7 +116,7 @@ impl Param {
         }
     }
 
-    /// The parameter of this word, or None where the word is no parameter's.
+    /// The parameter with this keyword, or None if there is none.
     pub fn of_word(word: &[u8]) -> Option<Param>
         ensures value { result ≡ param_of_word word.now }
     {
@@ -127,7 +127,7 @@ impl Param {
     }
 }
 
-/// New values of a parameter; where it takes one value, `b` is 0.
+/// New values of a parameter; `b` is 0 if the parameter takes one value.
 #[derive(Clone, Copy, Debug, Default, PartialEq, Eq, PartialOrd, Ord)]
 pub struct Change {
     pub param: Param,
@@ -135,10 +135,10 @@ pub struct Change {
     pub b: u64,
 }
 
-/// What a message tells its receiver.
+/// What a message means to its receiver.
 #[derive(Clone, Copy, Debug, Default, PartialEq, Eq, PartialOrd, Ord)]
 pub enum Payload {
-    /// A source is to make its next job.
+    /// A source makes its next job.
     #[default]
     Tick,
     /// A job arrives.
@@ -149,9 +149,9 @@ pub enum Payload {
     Set(Change),
 }
 
-/// A message: its place in the order, the station that receives it, and what it tells.
+/// A message: its key, the station that receives it, and its payload.
 ///
-/// Messages are ordered by key; the receiver and the payload only tell equal keys apart.
+/// Messages are ordered by key; the receiver and the payload only separate equal keys.
 #[derive(Clone, Copy, Debug, Default, PartialEq, Eq, PartialOrd, Ord)]
 pub struct Msg {
     pub key: Key,

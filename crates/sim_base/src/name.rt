@@ -1,4 +1,4 @@
-//! Names of clones and stations: at most `LONGEST_NAME` bytes, held in so many with zeros behind them.
+//! Names of clones and stations: at most `LONGEST_NAME` bytes, padded with zeros.
 ghost use Rattle.std.specs.Prelude.{◌≡◌, ◌≤◌, length, take};
 ghost use Rattle.std.specs.Prelude.{MatchOption, true, false, position};
 ghost use Rattle.std.specs.List.{list_all};
@@ -9,10 +9,10 @@ ghost use Rattle.sim_base.specs.declared.name.TheConstants.{LONGEST_NAME};
 use std::marker::Model;
 use std::str;
 
-/// The most bytes of a name.
+/// The maximal length of a name, in bytes.
 pub const LONGEST_NAME: usize = 16;
 
-/// 1 to `LONGEST_NAME` bytes of `a-z`, `0-9` and `_`, the first of `a-z`.
+/// A name: 1 to `LONGEST_NAME` bytes of `a-z`, `0-9` and `_`, the first of `a-z`.
 #[derive(Clone, Copy, Debug, PartialEq, Eq)]
 pub struct Name {
     bytes: [u8; LONGEST_NAME],
@@ -45,7 +45,7 @@ fn is_lower_byte(byte: u8) -> bool
     b'a' <= byte && byte <= b'z'
 }
 
-/// Whether the byte may stand in a name: one of a to z, a digit or `_`.
+/// Whether a name may contain the byte: one of a to z, a digit or `_`.
 pub fn is_name_byte(byte: u8) -> bool
     ensures value { result ≡ is_name_byte' byte }
 {
@@ -64,7 +64,7 @@ fn are_name(text: &[u8]) -> bool
     }
 }
 
-// Whether each of the bytes may stand in a name.
+// Whether a name may contain each of the bytes.
 fn are_name_bytes(rest: &[u8]) -> bool
     ensures value { result ≡ list_all is_name_byte' rest.now }
 {
@@ -72,7 +72,7 @@ fn are_name_bytes(rest: &[u8]) -> bool
 }
 
 impl Name {
-    /// The name that the bytes are.
+    /// The name with these bytes, or None if they are no name.
     pub fn read(text: &[u8]) -> Option<Name>
         ensures value { MatchOption result (is_name text.now ≡ false)
             (λ n. (n ≡ text.now) × (is_name text.now ≡ true)) }
@@ -88,7 +88,7 @@ impl Name {
         })
     }
 
-    /// The place of the first name in the list that is this one.
+    /// The index of the first equal name in the list.
     pub fn position_in(&self, names: &[Name]) -> Option<usize>
         ensures value { result ≡ position (λ n. bytes_eq n self.now) names.now }
     {
@@ -105,7 +105,7 @@ impl Name {
         &self.bytes[..self.len]
     }
 
-    /// Its bytes, and others behind them that fill up all.
+    /// Its bytes, padded to the full length.
     #[inline(always)]
     pub fn padded_bytes(&self) -> &[u8; LONGEST_NAME]
         ensures { take (length self.now) result.now ≡ self.now }
@@ -113,7 +113,7 @@ impl Name {
         &self.bytes
     }
 
-    /// How many bytes it has.
+    /// Its length in bytes.
     #[inline(always)]
     pub fn len(&self) -> usize
         ensures value { result ≡ length self.now }

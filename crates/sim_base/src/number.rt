@@ -1,10 +1,10 @@
-//! Decimal numbers, as texts and command lines write them.
+//! Decimal numbers as texts and command lines have them.
 ghost use Rattle.std.specs.Prelude.{◌≡◌, ◌≤◌, length, true};
 ghost use Rattle.std.specs.List.{list_all};
 ghost use Rattle.std.specs.Str.Parse.{digits_value};
 ghost use Rattle.sim_base.specs.Names.{is_digit, is_leading};
 
-/// The most digits that `value` takes.
+/// The most digits that `value` accepts.
 pub const MOST_DIGITS: usize = 10;
 
 /// Whether the byte is a digit.
@@ -28,7 +28,7 @@ pub fn may_lead(byte: u8) -> bool
     b'1' <= byte && byte <= b'9'
 }
 
-/// The number that the digits write.
+/// The number that the digits represent.
 pub fn value(digits: &[u8]) -> u64
     requires all { list_all is_digit digits.now ≡ true }
     requires few { length digits.now ≤ MOST_DIGITS }

@@ -1,8 +1,8 @@
 //! Pending messages: the future event list.
 //!
-//! They stand in blocks of at most `MOST_IN_BLOCK`, each in order and all before the next. Most lists have one block,
-//! which is never looked for. In a long list an insert halves over the blocks and then within one, and moves the
-//! messages of that one at most:
+//! They are kept in blocks of at most `MOST_IN_BLOCK`. Each block is in order, and before the next one. Most lists have
+//! one block and need no search. In a long list an insert does a binary search over the blocks and then within one. It
+//! moves at most the messages of that block:
 //!
 //!     first [3 5 8 ..]   later [21 22 25 ..] [40 41 ..] ..
 ghost use Rattle.std.specs.Prelude.{◌≡◌, ◌<◌, ◌==◌, Option, List, [], ◌∷◌};
@@ -41,7 +41,7 @@ impl<S: Marks> Model for Pending<S> {
 }
 
 impl<S: Marks> Pending<S> {
-    /// Nothing is pending. It takes no memory.
+    /// No pending messages. Allocates nothing.
     pub fn new(alloc: Global) -> Pending<S>
         ensures value { result ≡ [] }
     {
@@ -51,16 +51,16 @@ impl<S: Marks> Pending<S> {
         }
     }
 
-    /// Whether nothing is pending.
+    /// Whether there are no pending messages.
     pub fn is_empty(&self) -> bool
         ensures value { result ≡ (length self.now == 0) }
     {
         self.first.is_empty()
     }
 
-    /// Adds a message, or joins the marks to those that it has where it is there already.
+    /// Adds a message. If it is already there, joins the marks to its own.
     ///
-    /// Out of memory leaves all unchanged.
+    /// If out of memory, changes nothing.
     pub fn insert(&mut self, msg: Msg, marks: S) -> Result<(), NoMemory>
         ensures ok { OnOk result (self.new ≡ insert_marked S.union msg_cmp msg marks self.old) }
         ensures err { OnErr result (self.new ≡ self.old) }
@@ -70,7 +70,7 @@ impl<S: Marks> Pending<S> {
         put(&mut self.first, &mut self.later, at, msg, marks)
     }
 
-    /// The least message with its marks, None exactly where nothing is pending.
+    /// The least message with its marks, or None if there is none.
     pub fn least(&self) -> Option<(Msg, S)>
         ensures value { result ≡ slice_get self.now 0 }
         ensures ordered { SortedMarked msg_cmp self.now }
@@ -78,21 +78,21 @@ impl<S: Marks> Pending<S> {
         self.first.first()
     }
 
-    /// The time of the least message, None exactly where nothing is pending. No message is copied.
+    /// The time of the least message, or None if there is none. Copies no message.
     pub fn least_time(&self) -> Option<u64>
         ensures value { result ≡ first_time self.now }
     {
         self.first.first_time()
     }
 
-    /// The marks of the least message, None exactly where nothing is pending. No message is copied.
+    /// The marks of the least message, or None if there is none. Copies no message.
     pub fn least_marks(&self) -> Option<S>
         ensures value { result ≡ first_marks self.now }
     {
         self.first.first_marks()
     }
 
-    /// Takes the least message out, None exactly where nothing is pending.
+    /// Removes and returns the least message, or None if there is none.
     pub fn take_least(&mut self) -> Option<(Msg, S)>
         ensures some { IfSome result (λ p. self.old ≡ p ∷ self.new) }
         ensures none { IfNone result ((self.old ≡ []) × (self.new ≡ [])) }
@@ -104,8 +104,8 @@ impl<S: Marks> Pending<S> {
         taken
     }
 
-    /// Takes the least message out, where one waits, and gives it without its marks. It answers no option, since an
-    /// option of a message is slow to move.
+    /// Removes the least message and returns it without its marks. There must be one: an option of a message would be
+    /// slow to move.
     pub fn take_message(&mut self) -> Msg
         requires some { 0 < length self.old }
         ensures value { (k : S) × (self.old ≡ (result, k) ∷ self.new) }
@@ -117,7 +117,7 @@ impl<S: Marks> Pending<S> {
         taken
     }
 
-    /// Takes the least message out if its time is before the bound. None changes nothing.
+    /// Removes and returns the least message if its time is before the bound. None changes nothing.
     pub fn take_before(&mut self, bound: u64) -> Option<(Msg, S)>
         ensures some { IfSome result (λ p. (self.old ≡ p ∷ self.new) × (p.0.key.time < bound)) }
         ensures none { IfNone result ((self.new ≡ self.old) × NothingBefore bound self.old) }
@@ -128,7 +128,7 @@ impl<S: Marks> Pending<S> {
         }
     }
 
-    /// The least message whose marks meet `by`, with what they share, None exactly where there is none.
+    /// The least message whose marks meet `by`, with the marks in common, or None if there is none.
     pub fn least_with(&self, by: S) -> Option<(Msg, S)>
         ensures value { result ≡ slice_get (cut_by S.common by self.now) 0 }
     {
@@ -143,7 +143,7 @@ impl<S: Marks> Pending<S> {
         None
     }
 
-    /// The messages whose marks meet `by`, each with what they share.
+    /// The messages whose marks meet `by`, each with the marks in common.
     pub fn cut(&self, alloc: Global, by: S) -> Result<Pending<S>, NoMemory>
         ensures value { IfOk result (λ p. p ≡ cut_by S.common by self.now) }
     {
@@ -155,7 +155,7 @@ impl<S: Marks> Pending<S> {
         Ok(Pending { first, later })
     }
 
-    /// The same messages and marks once more.
+    /// A copy of the messages and their marks.
     pub fn copy(&self, alloc: Global) -> Result<Pending<S>, NoMemory>
         ensures value { IfOk result (λ p. p ≡ self.now) }
     {
@@ -167,7 +167,7 @@ impl<S: Marks> Pending<S> {
         Ok(Pending { first, later })
     }
 
-    /// Keeps the messages whose marks meet `by`, each with what they share. It takes no memory.
+    /// Keeps the messages whose marks meet `by`, each with the marks in common. Allocates nothing.
     pub fn keep(&mut self, by: S)
         ensures value { self.new ≡ cut_by S.common by self.old }
     {

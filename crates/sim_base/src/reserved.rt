@@ -1,4 +1,4 @@
-//! Lists with reserved memory: a push within what is reserved takes no more memory.
+//! Lists with reserved memory: a push within it allocates nothing.
 ghost use Rattle.std.specs.Prelude.{◌≡◌, ◌++◌, ◌∷◌, [], ◌<◌, ◌≤◌, ◌+◌, length};
 ghost use Rattle.std.specs.Prelude.{IsTrue, OnOk, OnErr, IfOk, IsOk, IfSome, IfNone, ◌↔◌};
 
@@ -6,9 +6,9 @@ use crate::memory::NoMemory;
 use std::alloc::Global;
 use std::marker::Model;
 
-/// A list with memory reserved for so many elements at least.
+/// A list with memory reserved for a number of elements.
 ///
-/// It may grow beyond that. What is reserved stays reserved when elements are taken out.
+/// It may grow beyond that. The memory stays reserved when elements are removed.
 #[derive(Drop)]
 pub struct Reserved<T: Drop> {
     items: Vec<T>,
@@ -27,7 +27,7 @@ impl<T: Drop> Model for Reserved<T> {
 }
 
 impl<T: Drop> Reserved<T> {
-    /// Nothing, with no memory reserved.
+    /// An empty list with no memory reserved.
     pub fn new(alloc: Global) -> Reserved<T>
         ensures value { result ≡ record { items = []; reserved = 0 } }
     {
@@ -37,7 +37,7 @@ impl<T: Drop> Reserved<T> {
         }
     }
 
-    /// Nothing, with memory reserved for so many elements.
+    /// An empty list with memory reserved for `reserved` elements.
     pub fn with_capacity(alloc: Global, reserved: usize) -> Result<Reserved<T>, NoMemory>
         ensures value { IfOk result (λ r. r ≡ record { items = []; reserved = reserved }) }
     {
@@ -45,7 +45,7 @@ impl<T: Drop> Reserved<T> {
         Ok(Reserved { items, reserved })
     }
 
-    /// Adds an element at the end; out of memory leaves all unchanged.
+    /// Appends an element. If out of memory, changes nothing.
     pub fn push(&mut self, item: T) -> Result<(), NoMemory>
         ensures ok { OnOk result (
             self.new ≡ record self.old { items = self.old.items ++ item ∷ [] }) }
@@ -56,7 +56,7 @@ impl<T: Drop> Reserved<T> {
         Ok(())
     }
 
-    /// Takes the last element out.
+    /// Removes and returns the last element.
     pub fn pop(&mut self) -> Option<T>
         ensures some { IfSome result (λ x. self.old.items ≡ self.new.items ++ x ∷ []) }
         ensures none { IfNone result ((self.old.items ≡ []) × (self.new.items ≡ [])) }
@@ -65,21 +65,21 @@ impl<T: Drop> Reserved<T> {
         self.items.pop()
     }
 
-    /// How many elements it has.
+    /// The number of elements.
     pub fn len(&self) -> usize
         ensures value { result ≡ length self.now.items }
     {
         self.items.len()
     }
 
-    /// Whether it has none.
+    /// Whether it is empty.
     pub fn is_empty(&self) -> bool
         ensures value { IsTrue result ↔ (self.now.items ≡ []) }
     {
         self.items.is_empty()
     }
 
-    /// For how many elements memory is reserved.
+    /// The number of elements that memory is reserved for.
     pub fn reserved(&self) -> usize
         ensures value { result ≡ self.now.reserved }
     {
@@ -95,7 +95,7 @@ impl<T: Drop> Reserved<T> {
 }
 
 impl<T: Copy> Reserved<T> {
-    /// Adds elements at the end; out of memory leaves all unchanged.
+    /// Appends elements. If out of memory, changes nothing.
     pub fn extend(&mut self, more: &[T]) -> Result<(), NoMemory>
         ensures ok { OnOk result (
             self.new ≡ record self.old { items = self.old.items ++ more.now }) }

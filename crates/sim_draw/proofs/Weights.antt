@@ -18,11 +18,11 @@ sum-heavy (w ∷ ws) some all = let one : 1 ≤ w = all.0.heavy in omega (arith,
 -- ---- IsFirstAbove
 
 module _ (w : ℕ) (ws : List ℕ) (x : ℕ) where
-  -- where x is below the first weight, that one is the first
+  -- if x is below the first weight, that one is the first
   IsFirstAbove-here : x < w → IsFirstAbove (w ∷ ws) x 0
   IsFirstAbove-here below = record { above = omega (arith, sum_by-cons (λ (y : ℕ). y) w []); first = omega arith }
 
-  -- else it is the first behind it, for what is left of x
+  -- otherwise it is the first after it, for the rest of x
   IsFirstAbove-later : (k : ℕ) → w ≤ x → IsFirstAbove ws (x - w) k → IsFirstAbove (w ∷ ws) x (1 + k)
   IsFirstAbove-later k reached rest =
       let more : (1 + k) + 1 ≡ suc (k + 1) = omega arith in

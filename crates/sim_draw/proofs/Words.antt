@@ -1,4 +1,4 @@
--- A generator that goes on by one word.
+-- A generator that advances by one word.
 use Rattle.std.proofs.Common.{◌≡◌, ℕ, zero, suc, ◌+◌, refl, ap, add-one}
 use Rattle.rand_pcg.specs.Lcg.{Lcg, next, next_state, state_after, started, increment_of}
 use Rattle.rand_pcg.specs.Pcg.{multiplier_64}
@@ -6,7 +6,7 @@ use Rattle.sim_draw.specs.Drawing.{DrawsView, generator}
 
 -- ---- state_after
 
--- the state next after so many words is that after one word more
+-- the state next after n words is that after one more word
 state_after-next : (w m p n s : ℕ) → next_state w m p (state_after w m p n s) ≡ state_after w m p (suc n) s
 unfolding state_after
 state_after-next w m p zero s = refl

@@ -1,4 +1,4 @@
-//! Random variates: seeded draws from a range, and by weights.
+//! Random variates: seeded draws from a range, and picks by weight.
 ghost use Rattle.std.specs.Prelude.{◌≡◌, ◌+◌, ◌-◌, ◌%◌, ◌<◌, ◌≤◌, length, sum};
 ghost use Rattle.sim_draw.specs.Drawing.{DrawsView, after_draw, range_of, next_of};
 ghost use Rattle.sim_draw.specs.Drawing.{AreWeights, pick_of, index_of, after_pick_by, IsFirstAbove};
@@ -10,14 +10,14 @@ use rand_pcg::Lcg64Xsh32;
 use sim_base::limits::MOST_LINKS;
 use std::marker::Model;
 
-/// How many words of a stream may be drawn: 32 bits.
+/// The most words that may be drawn from a stream: 32 bits.
 pub const MOST_DRAWS: u64 = 4_294_967_296;
-/// How many weights a pick may have.
+/// The most weights of a pick.
 pub const MOST_WEIGHTS: usize = MOST_LINKS;
 
 /// Draws from one stream of a seed.
 ///
-/// The words are those of PCG32, as `rand_pcg` makes them. No call takes memory.
+/// The words are those of PCG32, as `rand_pcg` makes them. No call allocates.
 #[derive(Drop)]
 pub struct Draws {
     seed: u64,
@@ -38,7 +38,7 @@ impl Model for Draws {
 }
 
 impl Draws {
-    /// Nothing was drawn yet.
+    /// The stream from its start.
     pub fn new(seed: u64, stream: u64) -> Draws
         ensures { result ≡ record { seed = seed; stream = stream; count = 0 } }
     {
@@ -50,7 +50,7 @@ impl Draws {
         }
     }
 
-    /// So many words were drawn; the generator leaps there.
+    /// The stream after `drawn` words; the generator skips them.
     pub fn at(seed: u64, stream: u64, drawn: u64) -> Draws
         ensures { result ≡ record { seed = seed; stream = stream; count = drawn } }
     {
@@ -64,21 +64,21 @@ impl Draws {
         }
     }
 
-    /// How many words were drawn.
+    /// The number of words drawn.
     pub fn drawn(&self) -> u64
         ensures { result ≡ self.now.count }
     {
         self.drawn
     }
 
-    /// Draws of their own, of the same seed, stream and count.
+    /// Independent draws with the same seed, stream and count.
     pub fn copy(&self) -> Draws
         ensures { result ≡ self.now }
     {
         Draws::at(self.seed, self.stream, self.drawn)
     }
 
-    /// A number from `lo` to `hi`, by one word: `lo` and the word modulo the size of the range.
+    /// A number from `lo` to `hi`, from one word: `lo` plus the word modulo the size of the range.
     pub fn range(&mut self, lo: u64, hi: u64) -> u64
         requires ordered { lo ≤ hi }
         requires small { hi ≤ MOST_TIME }
@@ -92,9 +92,9 @@ impl Draws {
         lo + u64::from(word) % (hi - lo + 1)
     }
 
-    /// An index, by the weights: the first whose running sum exceeds one word modulo the sum.
+    /// An index, chosen by the weights: the first whose running sum exceeds one word modulo the sum.
     ///
-    /// With one weight the answer is 0 and nothing is drawn.
+    /// With one weight it returns 0 and draws nothing.
     pub fn pick(&mut self, weights: &[u32]) -> usize
         requires valid { AreWeights weights.now }
         requires few_drawn { self.old.count < MOST_DRAWS }
@@ -110,7 +110,7 @@ impl Draws {
         index_above(weights, u64::from(word) % total(weights))
     }
 
-    // One word.
+    // The next word.
     fn word(&mut self) -> u32
         requires { self.old.count < MOST_DRAWS }
         ensures value { result ≡ next_of self.old }

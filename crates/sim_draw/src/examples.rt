@@ -1,4 +1,4 @@
-//! Worked examples, computed by the checker: the definitions give the words of PCG's own program.
+//! Worked examples, computed by the checker: the words of the definitions are those of PCG's own program.
 ghost use Rattle.std.specs.Prelude.{◌≡◌};
 ghost use Rattle.sim_draw.specs.Drawing.{word, range_of};
 

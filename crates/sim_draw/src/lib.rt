@@ -1,11 +1,11 @@
 //! Seeded draws (the literature's *random variates*): the words of one stream of a seed, ranges, and picks by weight.
 //!
-//! Every station draws from a stream of its own, so what one station draws does not depend on how often another does,
-//! and two branches of a simulation see the same times until their decisions differ. A stream is known by its seed,
-//! its number and how many words were drawn, so a copy of a station goes on drawing where its original stood:
+//! Every station has a stream of its own, so the draws of one station do not depend on those of another. Two branches
+//! of a simulation have the same times until their decisions differ. A stream is known by its seed, its number and its
+//! count of drawn words. So a copy of a station continues where its original was:
 //!
 //! ```text
-//! seed 7, stream 3:   w0 w1 w2 | w3 w4 ..      drawn 3: original and copy both go on with w3
+//! seed 7, stream 3:   w0 w1 w2 | w3 w4 ..      drawn 3: original and copy both continue with w3
 //! ```
 //!
 //! An example:
@@ -16,9 +16,9 @@
 //! let link = draws.pick(&[3, 1]);         // from one word: 0 three times of four
 //! ```
 //!
-//! A word costs a multiplication and an addition; `at` and `copy` leap over what was drawn in some seventeen steps.
-//! The words are those of `rand_pcg`'s PCG32. That each call is its formula over word number `drawn` is what the
-//! promise of one trace for each branch stands on here.
+//! A word costs a multiplication and an addition; `at` and `copy` skip the drawn words in some seventeen steps. The
+//! words are those of `rand_pcg`'s PCG32. Each call is a formula over word number `drawn`; the promise of one trace for
+//! each branch rests on this.
 #![tactic(auto)]
 
 pub mod draws;

@@ -1,4 +1,4 @@
-//! What no clause says: the program's own draws are those of PCG's reference program.
+//! Not proved, only tested here: the program's own draws are those of PCG's reference program.
 use crate::draws::Draws;
 use std::test::Fail;
 

@@ -1,4 +1,4 @@
--- Bytes that a sink took, one piece after the other.
+-- The bytes that a sink took, one piece after another.
 use Rattle.std.proofs.Common.{◌≡◌, ℕ, ◌+◌, refl, sym, ap, ◌∙◌, arith, min, List, [], ◌++◌}
 use Rattle.std.proofs.Common.{append-nil, length, take, Option, Some, None}
 use Rattle.std.proofs.lemmas.List.{append_assoc, take-append-le, take_all}
@@ -7,7 +7,7 @@ use Rattle.sim_outer.specs.Bytes.{IsAppended, IsPrefixAppended}
 
 -- ---- IsAppended
 
--- where nothing is appended, all is as it was
+-- if nothing is appended, nothing changes
 pub appended_nothing : (old : Option (List ℕ)) → IsAppended old [] old
 appended_nothing None = refl
 appended_nothing (Some b) = ap Some (sym (append-nil b))
@@ -26,7 +26,7 @@ take-append-prefix n b c = grind (arith, take-append-le (min n (length b)) b c, 
 
 -- ---- IsPrefixAppended
 
--- a piece that is appended whole, and then a part of another, are a part of both and what follows them
+-- a whole piece and then a part of another are a part of both and the bytes after them
 pub part_then : (a b c : List ℕ) (old mid new : Option (List ℕ)) → IsAppended old a mid → IsPrefixAppended mid b new
     → IsPrefixAppended old (a ++ (b ++ c)) new
 part_then a b c None mid new h k = let m : mid ≡ None = h in (rw m at k)

@@ -1,10 +1,10 @@
--- Calls, one after the other.
+-- Calls, one after another.
 use Rattle.std.proofs.Common.{◌≡◌, ℕ, suc, ◌+◌, refl, sym, ap, ◌∙◌, arith, Option, Some, None}
 use Rattle.sim_outer.specs.Counts.{counts_after, AreCounted, IsCounted}
 
 -- ---- AreCounted
 
--- after no calls the count is what it was
+-- after no calls the count does not change
 pub none_counted : (old : Option ℕ) → AreCounted 0 old old
 none_counted None = refl
 none_counted (Some b) = refl

@@ -10,7 +10,7 @@ use Rattle.std.specs.Str.{bytes_eq}
 use Rattle.std.specs.declared.vec.Vec.{Vec}
 use Rattle.sim_outer.specs.MemInputsView.{named_bytes}
 
--- from a file on, that one is found, or what is found behind it
+-- from a file on, that one is found, or the result of the search after it
 pub find-drop : {Z : Type 0} (name : List ℕ) (files : List (List ℕ × Vec ℕ Z)) (i : ℕ) (f : List ℕ × Vec ℕ Z)
     → i < length files
     → f ≡ get_or files i f → find (slice_cmp nat_cmp) name (named_bytes (drop i files))

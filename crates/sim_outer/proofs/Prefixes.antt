@@ -1,4 +1,4 @@
--- The prefix of a file: what was taken, where that is all or as much as may be.
+-- The prefix of a file: the bytes that were taken, if these are all or the most possible.
 use Rattle.std.proofs.Common.{◌≡◌, ◌≤◌, ℕ, List, ◌++◌, None, Some, IfSome, []}
 use Rattle.std.proofs.Common.{ap₂, length, take, min, sym, ap, ◌∙◌, append-nil, arith}
 use Rattle.std.proofs.lemmas.List.{take_all, take_at, take_min}
@@ -9,7 +9,7 @@ use Rattle.sim_outer.specs.declared.inputs.TheConstants.{MOST_FETCHED}
 
 -- ---- prefix_of
 
--- as many bytes of a file as it has, up to as many as a fetch gives, are what a fetch gives of it
+-- a prefix of a file with all its bytes, or with as many as a fetch returns, is the result of a fetch
 pub take_prefix_of : (file : List ℕ) → take (min (length file) MOST_FETCHED) file ≡ prefix_of file
 unfolding prefix_of
 take_prefix_of file = ap (λ n. take n file) (omega arith) ∙ take_min MOST_FETCHED file

@@ -1,4 +1,4 @@
--- A prefix of a piece was written, and then more of it.
+-- A prefix of a piece was written, followed by more of it.
 use Rattle.std.proofs.Common.{ℕ, ◌+◌, ◌-◌, List, length, take, drop, sym, subst}
 use Rattle.std.proofs.KnownBytes.{Appends-trans}
 use Rattle.std.proofs.Math.Seq.{take-add}

@@ -1,4 +1,4 @@
--- The bytes that a sink took, where the contract knows them.
+-- The bytes that a sink took, if the contract knows them.
 use Rattle.std.specs.Prelude.{◌≡◌, ◌++◌, ℕ, List, take, Option, Some, None}
 
 -- the piece was appended

@@ -1,4 +1,4 @@
--- Files by their names, and what a fetch says of them where the contract knows the files' contents.
+-- Files by their names, and the result of a fetch if the contract knows the contents.
 use Rattle.std.specs.Prelude.{◌≡◌, ℕ, List, take, Option, Some, None}
 use Rattle.std.specs.FinMap as finite
 use Rattle.std.specs.Ordering.{nat_cmp}
@@ -9,11 +9,11 @@ use Rattle.sim_outer.specs.declared.inputs.TheConstants.{MOST_FETCHED}
 abbrev pub Files : Type 0
 Files = finite.FinMap (slice_cmp nat_cmp) (List ℕ)
 
--- the bytes of a file that a fetch gives: as many as it gives at most, or the whole file if it is shorter
+-- the bytes of a file that a fetch returns: as many as possible, or the whole file if it is shorter
 unfoldable pub prefix_of : List ℕ → List ℕ
 prefix_of file = take MOST_FETCHED file
 
--- these bytes are those that a fetch gives of the file of this name, which is there
+-- a fetch of this name returns these bytes, and the file exists
 abbrev pub IsFetched : Option Files → List ℕ → List ℕ → Type 0
 IsFetched None name bytes = Unit {0}
 IsFetched (Some files) name bytes = (file : List ℕ) × (finite.get files name ≡ Some file) × (bytes ≡ prefix_of file)

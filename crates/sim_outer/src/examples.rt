@@ -2,7 +2,7 @@
 ghost use Rattle.std.specs.Prelude.{◌≡◌};
 ghost use Rattle.sim_outer.specs.declared.inputs.TheConstants.{MOST_FETCHED};
 
-/// How many bytes of a file a fetch gives at most, in numbers: one more than a file may have.
+/// The most bytes of a file that a fetch returns, in numbers: one more than a file may have.
 pub fn limits_in_numbers()
     ensures fetched { MOST_FETCHED ≡ 1048577 }
 {}

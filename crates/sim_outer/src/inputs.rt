@@ -7,7 +7,7 @@ ghost use Rattle.sim_outer.specs.Files.{IsFetched, Lacks};
 use sim_base::MOST_FILE_BYTES;
 use std::alloc::{AllocError, Global};
 
-/// How many bytes of a file a fetch gives at most: one more than a file may have, which tells that it has more.
+/// The most bytes of a file that a fetch returns: one more than a file may have, so that a longer file is noticed.
 pub const MOST_FETCHED: usize = MOST_FILE_BYTES + 1;
 
 /// Why a fetch fails.
@@ -32,13 +32,13 @@ impl From<AllocError> for FetchFault {
 
 /// Files that are fetched by name.
 pub trait Inputs {
-    // the files by their names and the calls that there were, where the contract knows them, and the faults
+    // the files by their names and the number of calls, if the contract knows them, and the faults
     ghost view: { Self → InputsView };
 
     /// The first [`MOST_FETCHED`] bytes of the file of this name, or the whole file if it is shorter.
     ///
-    /// It fails only where the count of faults rises in this call, or where the contract knows the files and
-    /// none has this name.
+    /// It fails only if the count of faults rises in this call, or if the contract knows the files and none has this
+    /// name.
     fn fetch(&mut self, alloc: Global, name: &str) -> Result<Vec<u8>, FetchFault>
         ensures bytes { IfOk result (λ v. IsFetched (view self.old).files name.now v.items) }
         ensures cause { IfErr result (λ e. e ≡ FetchFault.Failed →

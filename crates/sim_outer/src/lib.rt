@@ -1,12 +1,11 @@
-//! The outside: the words of the command line, inputs that are read by name, and sinks that take bytes.
+//! Input and output: the words of the command line, inputs that are read by name, and sinks that take bytes.
 //!
-//! A program that is proved still meets files that are not there and pipes that break. What a file holds no
-//! clause can say; so faults are counted in its place. `Inputs` and `Sink` say what a caller may rely on:
-//! a fetch that fails raised the count, or the file is known not to exist; a put that fails raised the count,
-//! and a prefix of the piece was taken. Calls are counted too, where the contract knows the count, so that a
-//! caller can promise how often it fetches and puts. A piece may be put in parts (`put_part`), which end with a
-//! `put` of the rest and are one call with it, so a long text need not be held whole. The top call is written over
-//! these two traits:
+//! A proved program still meets missing files and broken pipes. The contents of a file are not proved; instead, I/O
+//! errors are counted. `Inputs` and `Sink` define the promises to a caller. If a fetch fails, it raised the count of
+//! faults, or the file is known not to exist. If a put fails, it raised the count, and took a prefix of the piece.
+//! Calls are counted too, if the contract knows the count, so that a caller can promise how often it fetches and puts.
+//! A piece may be put in parts (`put_part`), followed by a `put` of the rest; together they are one call. So a long
+//! text need not be held whole. The top call is generic over these two traits:
 //!
 //! ```text
 //!              Inputs                        Sink
@@ -24,12 +23,12 @@
 //! let written = out.bytes();
 //! ```
 //!
-//! A fetch copies the file once, at most `MOST_FETCHED` bytes: one more than a file may have tells that there are
-//! more. A put takes no memory. `MemInputs` looks its files through one by one.
+//! A fetch copies the file once, at most `MOST_FETCHED` bytes: one more than a file may have, so that a longer file is
+//! noticed. A put allocates nothing. `MemInputs` searches its files one by one.
 //!
-//! The types over real files and streams are the trusted edge, a few lines each; that they raise the count at
-//! each fault is proved. Here rests the promise that a status of the program has a cause: a file that was not
-//! read or an output that was cut off is counted as a fault, never passed over.
+//! The types over real files and streams are the trusted edge, a few lines each. It is proved that they raise the count
+//! at each fault. The promise that each status of the program has a cause rests on them. A file that was not read, or
+//! an output that was cut off, is counted as a fault and never ignored.
 #![tactic(auto)]
 
 pub mod examples;

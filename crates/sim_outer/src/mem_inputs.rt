@@ -1,4 +1,4 @@
-//! Inputs in memory, for tests: files whose fetch fails at stated calls.
+//! Inputs in memory, for tests: files whose fetch fails at given calls.
 ghost use Rattle.std.specs.Prelude.{◌≡◌, ◌≤◌, ◌⊎◌, ◌↔◌, ◌==◌, Some, None, IfOk, IfErr, Err};
 ghost use Rattle.std.specs.FinMap as finite;
 ghost use Rattle.std.specs.List.{list_any};
@@ -13,7 +13,7 @@ use sim_base::NoMemory;
 use std::alloc::Global;
 use std::marker::Model;
 
-/// Files in memory. The calls of the stated numbers fail, counted from 1.
+/// Files in memory. The calls with given numbers fail, counted from 1.
 #[derive(Drop)]
 pub struct MemInputs {
     files: Vec<(Word, Vec<u8>)>,
@@ -36,7 +36,7 @@ impl Model for MemInputs {
 }
 
 impl MemInputs {
-    /// These files, of which the first of a name counts. The calls of the numbers in `failing` fail.
+    /// These files; of two files with the same name the first counts. The calls with the numbers in `failing` fail.
     pub fn new(
         _alloc: Global,
         files: Vec<(Word, Vec<u8>)>,
@@ -69,7 +69,7 @@ impl Inputs for MemInputs {
         ensures same { Some (files_by_name self.new.files) ≡ Some (files_by_name self.old.files) }
         ensures counted { IsCounted (Some self.old.calls) (Some self.new.calls) }
 
-        // exactly what is found, and exactly when the count rises
+        // the exact result, and the exact cases in which the count rises
         ensures ok { IfOk result (λ v. next_prefix self.old name.now ≡ Some v.items) }
         ensures failed { (result ≡ Err FetchFault.Failed) ↔ (next_prefix self.old name.now ≡ None) }
         ensures after { self.new ≡ after_fetch self.old }
@@ -89,7 +89,7 @@ fn contains(numbers: &[u32], call: u64) -> bool
     numbers.iter().any(|number| u64::from(*number) == call)
 }
 
-// What a fetch gives of the first file of this name.
+// The bytes that a fetch returns of the first file of this name.
 fn prefix_by_name(
     alloc: Global,
     files: &[(Word, Vec<u8>)],

@@ -1,4 +1,4 @@
-//! Sinks in memory, for tests: they hold so many bytes, and fail at stated calls.
+//! Sinks in memory, for tests: they hold a limited number of bytes, and fail at given calls.
 ghost use Rattle.std.specs.Prelude.{◌≡◌, ◌≤◌, ◌+◌, ◌↔◌, ◌++◌, [], true, length, take, Some, OnOk, OnErr, IfOk, IsOk};
 ghost use Rattle.sim_outer.specs.Bytes.{IsAppended, IsPrefixAppended};
 ghost use Rattle.sim_outer.specs.Counts.{IsCounted, HasRisen};
@@ -11,7 +11,7 @@ use sim_base::NoMemory;
 use std::alloc::Global;
 use std::marker::Model;
 
-/// A sink in memory that takes so many bytes. The calls of the stated numbers fail, counted from 1.
+/// A sink in memory with a capacity in bytes. The calls with given numbers fail, counted from 1.
 #[derive(Drop)]
 pub struct MemSink {
     taken: Vec<u8>,
@@ -43,8 +43,8 @@ impl Model for MemSink {
 }
 
 impl MemSink {
-    /// Reserves the memory of so many bytes. Each pair of `failing` is the number of a call that fails,
-    /// and how many bytes it takes at most.
+    /// Reserves the memory of the whole capacity. Each pair of `failing` is the number of a call that fails, and the
+    /// most bytes that it takes.
     pub fn new(
         alloc: Global,
         capacity: usize,
@@ -76,7 +76,7 @@ impl MemSink {
         self.taken.as_slice()
     }
 
-    // How many more bytes the next call takes at most, if it is one that fails.
+    // The most bytes that the next call still takes, if it is one that fails.
     fn stop(&self) -> Option<usize>
         ensures value { result ≡ next_stop self.now }
     {
@@ -85,7 +85,7 @@ impl MemSink {
         stop.map(|stop| stop.saturating_sub(self.begun))
     }
 
-    // Takes what fits of a piece, up to a stop, and tells whether that is all of it.
+    // Takes the bytes of a piece that fit, up to a stop, and returns whether these are all.
     fn take_share(&mut self, piece: &[u8], stop: Option<usize>) -> bool
         ensures whole { result ≡ fits_whole stop (left_of self.old) (length piece.now) }
         ensures after { self.new ≡ with_share self.old stop piece.now }
@@ -99,7 +99,7 @@ impl MemSink {
         whole
     }
 
-    // Counts a call that ends, and a fault where it was not taken whole.
+    // Counts a finished call, and a fault if its piece was not taken whole.
     fn end_call(&mut self, whole: bool) -> Result<(), PutFailed>
         ensures whole { IsOk result ↔ (whole ≡ true) }
         ensures later { self.old.faults ≤ self.new.faults }
@@ -125,7 +125,7 @@ impl Sink for MemSink {
         ensures later { self.old.faults ≤ self.new.faults }
         ensures counted { IsCounted (Some self.old.calls) (Some self.new.calls) }
 
-        // exactly when it succeeds, what is taken, and when the count rises
+        // exactly when it succeeds, the bytes taken, and when the count rises
         ensures succeeds { IsOk result ↔ (next_is_whole self.old (length piece.now) ≡ true) }
         ensures after { self.new ≡ after_put self.old piece.now }
     {
@@ -142,7 +142,7 @@ impl Sink for MemSink {
         ensures same { OnOk result (Some self.new.calls ≡ Some self.old.calls) }
         ensures counted { OnErr result (IsCounted (Some self.old.calls) (Some self.new.calls)) }
 
-        // exactly when it succeeds, what is taken, and when the count rises
+        // exactly when it succeeds, the bytes taken, and when the count rises
         ensures succeeds { IsOk result ↔ (next_part_is_whole self.old (length part.now) ≡ true) }
         ensures after { self.new ≡ after_part self.old part.now }
     {
@@ -154,14 +154,14 @@ impl Sink for MemSink {
     }
 }
 
-// Where the call of this number stops, if it is one that fails.
+// The stop of the call with this number, if it is one that fails.
 fn stop_of(failing: &[(u32, usize)], call: u64) -> Option<usize>
     ensures value { result ≡ stop_of' failing.now call }
 {
     failing.iter().find(|f| u64::from(f.0) == call).map(|f| f.1)
 }
 
-// How many bytes of a piece of this size are taken, and whether these are all.
+// The number of bytes taken of a piece of this size, and whether these are all.
 fn share(stop: Option<usize>, size: usize, left: usize) -> (usize, bool)
     ensures count { result.0 ≡ share' stop left size }
     ensures whole { result.1 ≡ fits_whole stop left size }

@@ -1,9 +1,9 @@
-//! The sink that drops what it takes.
+//! The sink that drops everything.
 ghost use Rattle.std.specs.Prelude.{None, IsOk};
 
 use crate::sink::{PutFailed, Sink};
 
-/// Takes every piece and drops it. No clause knows the bytes.
+/// Takes every piece and drops it. Contracts do not know the bytes.
 #[derive(Clone, Copy, Debug)]
 pub struct NullSink;
 

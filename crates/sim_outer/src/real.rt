@@ -1,4 +1,4 @@
-//! The real files and streams: the trusted edge. What they give and take no clause can say.
+//! The real files and streams: the trusted edge. What they read and write is not proved.
 ghost use Rattle.std.specs.Prelude.{◌≡◌, ℕ, None, take, IfOk, IfSome, OnOk, OnErr};
 ghost use Rattle.std.specs.Io.KnownBytes.{Appends};
 ghost use Rattle.sim_outer.specs.Files.{prefix_of};
@@ -11,7 +11,7 @@ use std::marker::Model;
 use std::rt::Files;
 use std::{fs, str};
 
-/// Real files. A value is seen as its count of faults.
+/// Real files. Contracts see the count of faults.
 #[derive(Drop)]
 pub struct FileInputs<'a, R: Files> {
     rt: &'a R,
@@ -50,7 +50,7 @@ impl<'a, R: Files> Inputs for FileInputs<'a, R> {
     }
 }
 
-/// Standard output. A value is seen as its count of faults.
+/// Standard output. Contracts see the count of faults.
 #[derive(Drop)]
 pub struct OutSink<'a, R: Print> {
     rt: &'a R,
@@ -90,8 +90,7 @@ impl<'a, R: Print> Sink for OutSink<'a, R> {
     }
 }
 
-/// Standard error. It takes text alone: of a piece that is no UTF-8 it takes nothing. A value is
-/// seen as its count of faults.
+/// Standard error. It takes only text: nothing of a piece that is not UTF-8. Contracts see the count of faults.
 #[derive(Drop)]
 pub struct ErrSink<'a, R: Eprint> {
     rt: &'a R,
@@ -151,7 +150,7 @@ impl<'a, R: Eprint> Write for ErrorWriter<'a, R> {
     }
 }
 
-// The bytes that a fetch gives of a file. Each read takes at least one.
+// The bytes of a file that a fetch returns. Each read takes at least one.
 fn read_prefix<F: Read>(alloc: Global, file: &mut F) -> Result<Vec<u8>, FetchFault>
     ensures value { IfOk result (λ v. IfSome (F.remaining file.old) (λ bytes. v.items ≡ prefix_of bytes)) }
 {

@@ -1,4 +1,4 @@
-//! Sinks: what takes bytes, piece by piece.
+//! Sinks, which take bytes piece by piece.
 ghost use Rattle.std.specs.Prelude.{◌≡◌, ◌≤◌, OnOk, OnErr};
 ghost use Rattle.sim_outer.specs.Bytes.{IsAppended, IsPrefixAppended};
 ghost use Rattle.sim_outer.specs.Counts.{IsCounted, HasRisen};
@@ -8,13 +8,12 @@ ghost use Rattle.sim_outer.specs.Views.{SinkView};
 #[derive(Clone, Copy, Debug, PartialEq, Eq)]
 pub struct PutFailed;
 
-/// What takes bytes.
+/// A sink for bytes, which takes them piece by piece.
 pub trait Sink {
-    // the bytes that it took and the calls that there were, where the contract knows them, and the faults
+    // the bytes taken and the number of calls, if the contract knows them, and the faults
     ghost view: { Self → SinkView };
 
-    /// Takes a piece, or fails and has taken a prefix of it. To take nothing of a piece that is not
-    /// empty is a fault. It takes no memory.
+    /// Takes a piece, or fails after a prefix of it. Taking nothing of a nonempty piece is a fault. Allocates nothing.
     fn put(&mut self, piece: &[u8]) -> Result<(), PutFailed>
         ensures ok { OnOk result (IsAppended (view self.old).bytes piece.now (view self.new).bytes) }
         ensures part { OnErr result (IsPrefixAppended (view self.old).bytes piece.now (view self.new).bytes) }
@@ -22,8 +21,8 @@ pub trait Sink {
         ensures later { (view self.old).faults ≤ (view self.new).faults }
         ensures counted { IsCounted (view self.old).calls (view self.new).calls };
 
-    /// Takes a part of the next piece, whose rest a `put` gives, or fails and has taken a prefix of the part. All parts
-    /// and the rest are one call, and a part that fails ends it. It takes no memory.
+    /// Takes a part of the next piece, or fails after a prefix of the part; a `put` takes the rest of the piece. All
+    /// parts and the rest are one call, which ends if a part fails. Allocates nothing.
     fn put_part(&mut self, part: &[u8]) -> Result<(), PutFailed>
         ensures ok { OnOk result (IsAppended (view self.old).bytes part.now (view self.new).bytes) }
         ensures part { OnErr result (IsPrefixAppended (view self.old).bytes part.now (view self.new).bytes) }

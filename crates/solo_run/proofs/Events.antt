@@ -1,4 +1,4 @@
--- The pending messages of all stations: the least word is that of the first message, and what a change leaves.
+-- The pending messages of all stations: the least word is that of the first message, and the effect of a change.
 use Rattle.std.proofs.Common.{◌≡◌, ◌≢◌, inl, inr, ℕ, suc, ◌+◌, ◌/◌, ◌%◌, ◌<◌, ◌≤◌, refl, sym, ap, ◌∙◌}
 use Rattle.std.proofs.Common.{subst, arith, List, [], ◌∷◌, ◌++◌, length, get_or, set, replicate, Ordering, Less, Equal}
 use Rattle.std.proofs.Common.{Greater, nat_cmp, false, Option, Some, None, slice_get}
@@ -52,21 +52,21 @@ msg_cmp-by_time m z l = ap (λ o. ordering_then (ordering_then o (ordering_then 
 
 -- ---- EventListView
 
--- one view is another where their parts are
+-- two views are equal if their parts are
 pub view-same : (a b : List Msg) (m n : ℕ) → a ≡ b → m ≡ n → Path EventListView
     (record { messages = a; stations = m }) (record { messages = b; stations = n })
 view-same a b m n p q = λ i. record { messages = p i; stations = q i }
 
 -- ---- Sorted
 
--- what follows the head of a list in order comes after what comes before the head
+-- the elements after the head of a list in order come after those before the head
 sorted-after : (m : Msg) (x : Msg × Unit {0}) (xs : MarkedMessages) (z : Msg) → Sorted msg_cmp (messages_of (x ∷ xs))
     → msg_cmp m x.0 ≡ Less → In z (messages_of (x ∷ xs)) → msg_cmp m z ≡ Less
 sorted-after m x xs z s ahead (inl e) = subst (λ y. msg_cmp m y ≡ Less) (sym e) ahead
 sorted-after m x xs z s ahead (inr n) = messages_ordered.total.trans m x.0 z ahead
     (all_in (λ y. msg_cmp x.0 y ≡ Less) (messages_of xs) z s.0 n)
 
--- and where the head is not before a bound, nothing of the list is
+-- and if the head is not before a bound, nothing of the list is
 sorted-not_earlier : (bound : ℕ) (x : Msg × Unit {0}) (xs : MarkedMessages) (z : Msg)
     → Sorted msg_cmp (messages_of (x ∷ xs)) → bound ≤ x.0.key.time → In z (messages_of (x ∷ xs)) → bound ≤ z.key.time
 sorted-not_earlier bound x xs z s late (inl e) = let same = ap (λ (y : Msg). y.key.time) e in omega (arith, late, same)
@@ -215,7 +215,7 @@ module _ (ls : List MarkedMessages) (words : List ℕ) (inv : IsEventList ls wor
 
     -- a word before a bound is that of the first message of all
     module _ (bound : ℕ) (soon : bound < WORD_TIMES) (early : w / WORDS_OF_TIME < bound) where
-      -- the first message of the list of the least word comes before what another list has
+      -- the first message of the list of the least word comes before the messages of other lists
       before : (m : Msg) (p : ℕ) → FitsWord m.key → m.to ≡ suc p → p < WORD_PLACES → key_word p m.key ≡ w
           → (j : ℕ) (l : MarkedMessages) (word : ℕ) (z : Msg) → j ≢ p → j < WORD_PLACES → IsListOf j l
           → IsWordOf j l word → w ≤ word
@@ -261,7 +261,7 @@ module _ (ls : List MarkedMessages) (words : List ℕ) (inv : IsEventList ls wor
       has_first = has (get_or ls h.place []) refl (inv.lists_are h.place low)
           (subst (IsWordOf h.place (get_or ls h.place [])) h.is (inv.words_are h.place low))
 
--- ---- HasFirst: the first message of all is taken out of its list
+-- ---- HasFirst: the first message of all is taken from its list
 
 module _ (ls : List MarkedMessages) (lists_are : AreStationLists ls) (bound i : ℕ) (f : HasFirst ls bound i)
     (old : MarkedMessages) (at : old ≡ get_or ls i old) where
@@ -278,7 +278,7 @@ module _ (ls : List MarkedMessages) (lists_are : AreStationLists ls) (bound i : 
     is_old : IsListOf i ((m, k) ∷ new)
     is_old = subst (IsListOf i) (list_is ∙ taken) (lists_are i f.there)
 
-    -- and so is what is left of it
+    -- and so is the rest of it
     pub is_list_of-take : IsListOf i new
     is_list_of-take = record { sorted = is_old.sorted.1; own = is_old.own.1 }
 
@@ -294,7 +294,7 @@ module _ (ls : List MarkedMessages) (lists_are : AreStationLists ls) (bound i : 
     pub take-time : m.key.time < bound
     take-time = subst (λ (y : Msg). y.key.time < bound) message_is f.early
 
-    -- and what all have left is what is left of the one list
+    -- and the rest of all lists has the rest of the one list
     pub all_messages-take : all_messages ls ≡ m ∷ all_messages (set ls i new)
     all_messages-take = all_messages-first ls i new f.there m (ap messages_of (list_is ∙ taken)) is_old.sorted
         (λ j z other below k. subst (λ y. msg_cmp y z ≡ Less) message_is (f.before j z other below k))
@@ -307,21 +307,21 @@ slice_get-head : (l : MarkedMessages) (x : Msg × Unit {0}) → slice_get l 0 �
 slice_get-head [] x e = absurd (cc)
 slice_get-head (y ∷ ys) x e = (ys, cc)
 
--- what is not less, by the test
+-- an element that is not less, by the test
 pub is_lt-false : (r : Ordering) → is_lt r ≡ false → r ≢ Less
 is_lt-false r e is = let yes = ap is_lt is in cc
 
--- what was found, by its name
+-- the find, by its name
 pub found_is : (ls : List MarkedMessages) (n : ℕ) (found f : Option (ℕ × Msg)) → found ≡ f → IsFound ls n found
     → IsFound ls n f
 found_is ls n found f e h = subst (IsFound ls n) e h
 
--- the first message of the list at a place, whatever list is taken where there is none
+-- the first message of the list at a place is the one that was read there
 pub first_at : (ls : List MarkedMessages) (n : ℕ) → n < length ls → (l : MarkedMessages) → l ≡ get_or ls n l
     → (r f : Option (Msg × Unit {0})) → r ≡ slice_get l 0 → r ≡ f → slice_get (get_or ls n []) 0 ≡ f
 first_at ls n there l at r f is e = ap (λ k. slice_get k 0) (sym (at ∙ get_or_default ls n l [] there)) ∙ (sym is ∙ e)
 
--- one list more: what was found among the lists before stays, or the first message of the list is found
+-- one more list: the find among the lists before stays, or the first message of the list is found
 module _ (ls : List MarkedMessages) (n : ℕ) where
   -- a place among n + 1 other than n is one of the first n
   other : (j : ℕ) → j < n + 1 → j ≢ n → j < n
@@ -370,7 +370,7 @@ module _ (ls : List MarkedMessages) (n : ℕ) where
     )
 
     module _ (p : ℕ × Msg) (h : IsFound ls n (Some p)) where
-      -- it comes before what was found
+      -- it comes before the find
       pub found_before : msg_cmp x.0 p.1 ≡ Less → IsFound ls (n + 1) (Some (n, x.0))
       found_before c = (
         omega arith,
@@ -406,7 +406,7 @@ module _ (ls : List MarkedMessages) (bound : ℕ) (lists_are : AreStationLists l
       by Equal e = absurd (other (ap (λ (y : Msg). y.to) (msg_same m z e)))
       by Greater e = absurd (unless (less_if_greater messages_ordered.total m z e))
 
-  -- what is found is the first message of all, where it is before the bound
+  -- the find is the first message of all if it is before the bound
   pub found_is_first : (i : ℕ) (m : Msg) → IsFound ls (length ls) (Some (i, m)) → m.key.time < bound
       → HasFirst ls bound i
   found_is_first i m h early =
@@ -421,7 +421,7 @@ module _ (ls : List MarkedMessages) (bound : ℕ) (lists_are : AreStationLists l
         before = λ j z other below k. after (get_or ls j []) j z mine.own.0 other below refl k;
       }
     where
-      -- what another list has comes after it
+      -- the messages of another list come after it
       after : (l : MarkedMessages) (j : ℕ) (z : Msg) → m.to ≡ suc i → j ≢ i → j < length ls → get_or ls j [] ≡ l
           → In z (messages_of l) → msg_cmp m z ≡ Less
       after [] j z to other below is k = absurd k
@@ -431,7 +431,7 @@ module _ (ls : List MarkedMessages) (bound : ℕ) (lists_are : AreStationLists l
           sorted-after m x xs z theirs.sorted (ahead_of m x.0 (λ e. other (omega (arith, e, to, it)))
           (h.2 j x below (ap (λ l. slice_get l 0) is))) k
 
-  -- where it is not, no message is before the bound
+  -- if it is not, no message is before the bound
   pub found_late : (i : ℕ) (m : Msg) → IsFound ls (length ls) (Some (i, m)) → bound ≤ m.key.time
       → AllByRecursion (λ m. bound ≤ m.key.time) (all_messages ls)
   found_late i m h late = all_from (λ m. bound ≤ m.key.time) (all_messages ls) (λ z k.
@@ -445,7 +445,7 @@ module _ (ls : List MarkedMessages) (bound : ℕ) (lists_are : AreStationLists l
         | inr l ↦ omega (arith, l, late)
       ]
 
-      -- nor is what follows it
+      -- nor are those after it
       after : (l : MarkedMessages) (j : ℕ) (z : Msg) → j < length ls → get_or ls j [] ≡ l
           → In z (messages_of l) → bound ≤ z.key.time
       after [] j z below is k = absurd k
@@ -453,11 +453,11 @@ module _ (ls : List MarkedMessages) (bound : ℕ) (lists_are : AreStationLists l
           let theirs : IsListOf j (x ∷ xs) = subst (IsListOf j) is (lists_are j below) in
           sorted-not_earlier bound x xs z theirs.sorted (not_before x.0 (h.2 j x below (ap (λ l. slice_get l 0) is))) k
 
-  -- and where nothing is found, there is no message
+  -- and if nothing is found, there is no message
   pub found_none : IsFound ls (length ls) None → AllByRecursion (λ m. bound ≤ m.key.time) (all_messages ls)
   found_none none = subst (AllByRecursion (λ m. bound ≤ m.key.time)) (sym (all_messages-none ls none)) tt
 
--- what is found is taken out of its list
+-- the find is taken from its list
 module _ (ls : List MarkedMessages) (own : AreStationLists ls) (i : ℕ) (m : Msg)
     (found : IsFound ls (length ls) (Some (i, m))) (old : MarkedMessages) (at : old ≡ get_or ls i old)
     (taken : Msg) (k : Unit {0}) (new : MarkedMessages) (is : old ≡ (taken, k) ∷ new) where

@@ -1,4 +1,4 @@
--- Lists of stations as one: which messages it has, what an insertion adds to it, and which message is its first.
+-- The lists of the stations as one: its messages, the effect of an insertion, and its first message.
 use Rattle.std.proofs.Common.{◌≡◌, ◌≢◌, ◌⊎◌, inl, inr, ℕ, zero, suc, ◌<◌, refl, sym, ap, ◌∙◌, subst, arith}
 use Rattle.std.proofs.Common.{List, [], ◌∷◌, length, get_or, set, Less}
 use Rattle.std.proofs.lemmas.Bool.{cases_eq}
@@ -22,7 +22,7 @@ sorted_merged : (ls : List MarkedMessages) → Sorted msg_cmp (all_messages ls)
 sorted_merged [] = tt
 sorted_merged (l ∷ ls) = sorted_insert_all messages_ordered (messages_of l) (all_messages ls) (sorted_merged ls)
 
--- what the one list has, a list has
+-- a message of the one list is in a list
 pub all_messages-in : (ls : List MarkedMessages) (z : Msg) → In z (all_messages ls) →
     (j : ℕ) × (j < length ls) × In z (messages_of (get_or ls j []))
 all_messages-in [] z i = absurd i
@@ -31,7 +31,7 @@ all_messages-in (l ∷ ls) z i = elim (in_insert_all messages_ordered (messages_
   | inr k ↦ let h = all_messages-in ls z k in let below : h.0 < length ls = h.1 in (suc h.0, omega (arith, below), h.2)
 ]
 
--- what a list has, the one list has
+-- a message of a list is in the one list
 pub in_merged : (ls : List MarkedMessages) (j : ℕ) (z : Msg) → In z (messages_of (get_or ls j []))
     → In z (all_messages ls)
 in_merged [] j z i = absurd i
@@ -50,12 +50,12 @@ all_messages-none (l ∷ ls) none =
 -- ---- set: one of the lists changes
 
 module _ (ls : List MarkedMessages) (i : ℕ) (new : MarkedMessages) (there : i < length ls) where
-  -- what the changed list has
+  -- the messages of the changed list
   here_in : (z : Msg) → In z (messages_of new) → In z (all_messages (set ls i new))
   here_in z k = in_merged (set ls i new) i z
       (subst (λ l. In z (messages_of l)) (sym (get_or-set_same ls i new [] there)) k)
 
-  -- what another list has
+  -- the messages of another list
   there_in : (j : ℕ) (z : Msg) → j ≢ i → In z (messages_of (get_or ls j [])) → In z (all_messages (set ls i new))
   there_in j z other k = in_merged (set ls i new) j z
       (subst (λ l. In z (messages_of l)) (sym (get_or-set_other ls i j new [] other)) k)

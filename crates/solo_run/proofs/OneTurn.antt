@@ -1,4 +1,4 @@
--- What one turn of a one-thread run does.
+-- The effect of one turn of a one-thread run.
 use Rattle.std.proofs.Common.{◌≡◌, inl, inr, ℕ, zero, suc, ◌+◌, ◌*◌, ◌-◌, ◌<◌, ◌≤◌, refl}
 use Rattle.std.proofs.Common.{ap, sym, subst, ◌∙◌, List, [], ◌∷◌, ◌++◌, length, length-append, append-nil, Some, None}
 use Rattle.std.proofs.Common.{slice_get, slice_set, unwrap_or, nat_le, arith}
@@ -60,7 +60,7 @@ sum_most f n (x ∷ xs) most =
 
 -- ---- state_of
 
--- the states of the numbers, where one changes
+-- the states by number, if one changes
 state_of-set : (net : Net) (states : List StateView) (i : ℕ) (st : StateView) → i < length states → (s : ℕ)
     → state_of net (slice_set states i st) s ≡ put (state_of net states) (suc i) st s
 state_of-set net states i st there zero =
@@ -81,14 +81,14 @@ module _ (limit : ℕ) where
   beyond_here seen e es full = cond-true (nat_le limit (length (log_of receiver e.msg.to seen))) (Some e.msg.to)
       (first_beyond limit (seen ++ e ∷ []) es) (le-leb limit (length (log_of receiver e.msg.to seen)) full)
 
-  -- an entry whose log is not full before it leaves it to those behind it
+  -- if the log of an entry's station is not full, the first one beyond the limit is among the later entries
   pub beyond_later : (seen : List (Entry Msg Line)) (e : Entry Msg Line) (es : List (Entry Msg Line))
       → length (log_of receiver e.msg.to seen) < limit
       → first_beyond limit seen (e ∷ es) ≡ first_beyond limit (seen ++ e ∷ []) es
   beyond_later seen e es below = cond-false (nat_le limit (length (log_of receiver e.msg.to seen))) (Some e.msg.to)
       (first_beyond limit (seen ++ e ∷ []) es) (lt-leb limit (length (log_of receiver e.msg.to seen)) below)
 
-  -- where nothing went beyond the limit, it is for what follows to go beyond
+  -- if no entry goes beyond the limit, the first one beyond it is among the later entries
   pub beyond_append : (seen es more : List (Entry Msg Line)) → first_beyond limit seen es ≡ None
       → first_beyond limit seen (es ++ more) ≡ first_beyond limit (seen ++ es) more
   beyond_append seen [] more none = ap (λ t. first_beyond limit t more) (sym (append-nil seen))
@@ -99,7 +99,7 @@ module _ (limit : ℕ) where
         ∙ ap (λ t. first_beyond limit t more) (append_assoc seen (e ∷ []) es)
   ]
 
-  -- and one entry more does not go beyond it, where the log of its station is shorter than the limit
+  -- and one more entry does not go beyond it if the log of its station is shorter than the limit
   beyond_none : (past trace : Entries) (e : Entry Msg Line) → first_beyond limit past trace ≡ None
       → length (log_of receiver e.msg.to (past ++ trace)) < limit → first_beyond limit past (trace ++ e ∷ []) ≡ None
   beyond_none past trace e none below =
@@ -107,7 +107,7 @@ module _ (limit : ℕ) where
 
 -- ---- a turn
 
--- what a station sends is for stations
+-- the sends of a station are for stations
 sends_for : (net : Net) (now s k : ℕ) (ms : List Msg) → AreSends net now s k ms
     → AllByRecursion (IsForStation (length net.sites)) ms
 sends_for net now s k [] are = tt
@@ -137,12 +137,12 @@ module _ (net : Net) (valid : IsNet net) (past : Entries) (v : SoloView) (m : Ms
   within : m.to - 1 < length v.states
   within = slice_get_within v.states (m.to - 1) h.before h.is_there
 
-  -- and has handled what the station's log has
+  -- and has handled the messages of the station's log
   full_log : h.before.handled ≡ length (log_of receiver m.to (past ++ v.trace))
   full_log = old.log ∙ ap (λ k. length (log_of receiver k (past ++ v.trace))) (let low : 1 ≤ m.to = solo.targets.0.0 in
       omega arith)
 
-  -- the run has come to where the turn leads
+  -- the run has reached the state after the turn
   pub has_turned : next ≡ insert_all msg_cmp sends v.pending
       → HasTurned net v m (record { states = new; pending = next; trace = v.trace ++ e ∷ [] })
   has_turned is =
@@ -219,7 +219,7 @@ module _ (net : Net) (valid : IsNet net) (past : Entries) (v : SoloView) (m : Ms
   states_after i st is = subst (λ (t : Entries). IsStateAfter net t i st)
       (append_assoc past v.trace (e ∷ [])) (states_after_entry i st is)
 
-  -- what is sent is for stations
+  -- the sends are for stations
   sends_for_stations : AllByRecursion (IsForStation (length net.sites)) sends
   sends_for_stations =
       let well = handles-fitting net h.before m valid old.fits old.suits early in
@@ -227,7 +227,7 @@ module _ (net : Net) (valid : IsNet net) (past : Entries) (v : SoloView) (m : Ms
       (sends_for net m.key.time h.before.sender.station h.before.sender.next
       (handle net h.before m).sends well.sends)
 
-  -- and may be pending where there are as many lists as states
+  -- and may be pending if there are as many lists as states
   pub sends_may_be_pending : (n : ℕ) → n ≡ length v.states → AllByRecursion (IsForStation n) sends
   sends_may_be_pending n is =
       subst (λ n. AllByRecursion (IsForStation n) sends) (sym (is ∙ solo.count)) sends_for_stations

@@ -1,4 +1,4 @@
--- A message put among pairs is put among their messages.
+-- Inserting a message among pairs inserts it among their messages.
 use Rattle.std.proofs.Common.{◌≡◌, refl, ap, List, [], ◌∷◌, Ordering, Less, Equal, Greater}
 use Rattle.sim_base.specs.Order.{msg_cmp}
 use Rattle.sim_base.specs.Pending.{place_marked, insert_marked}

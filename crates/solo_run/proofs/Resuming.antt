@@ -1,4 +1,4 @@
--- A run that is resumed from the states and the pending messages of another goes on after the trace of that run.
+-- A run that is resumed from the states and the pending messages of another continues after the trace of that run.
 use Rattle.std.proofs.Common.{◌≡◌, inl, inr, refl, ap, sym, subst, ◌∙◌, List, [], length, append-nil}
 use Rattle.sim_base.specs.Order.{msg_cmp}
 use Rattle.sim_base.specs.declared.message.Msg.{Msg}
@@ -25,7 +25,7 @@ module _ (net : Net) (v : SoloView) (solo : IsSolo net v) where
   abbrev cut : SoloView
   cut = record { states = v.states; pending = v.pending; trace = [] }
 
-  -- goes on after the trace
+  -- continues after the trace
   IsSoloAfter-cut : IsSoloAfter net v.trace cut
   IsSoloAfter-cut =
       let whole = append-nil v.trace in

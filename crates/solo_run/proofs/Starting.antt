@@ -1,4 +1,4 @@
--- A run begins as its definition says.
+-- A run starts as its definition says.
 use Rattle.std.proofs.Common.{◌≡◌, inl, inr, ℕ, zero, suc, ◌+◌, refl, ap, sym, subst, ◌∙◌, List, [], ◌∷◌, ◌++◌}
 use Rattle.std.proofs.Common.{length, length-append, Option, Some, None, unwrap_or, arith}
 use Rattle.std.proofs.Math.Path.{fun_ext}
@@ -46,13 +46,13 @@ opening_states-push net n states st before is fits suits =
       ];
     }
 
--- what a station sends first is put among what is pending as if it were one of those before
+-- a station's first message becomes pending as if it were one of those before
 put_after : (net : Net) (ms q : List Msg) (o : Option Msg) → insert_all msg_cmp (and_first (simulation net) ms o) q
     ≡ with_first o (insert_all msg_cmp ms q)
 put_after net ms q None = refl
 put_after net ms q (Some m) = insert_all-push msg_cmp ms m q
 
--- and what it sends first is pending
+-- and its first message is pending
 pub first_more : (net : Net) (n : ℕ) (q p : List Msg) (first : Option Msg)
     → p ≡ insert_all msg_cmp (first_messages (simulation net) n) q → (setup net (n + 1)).first ≡ first
     → with_first first p ≡ insert_all msg_cmp (first_messages (simulation net) (n + 1)) q
@@ -87,14 +87,14 @@ module _ (net : Net) (valid : IsNet net) (list : List Planned) (states : List St
     (opened : AreOpeningStates net (length net.sites) states)
     (first : firsts ≡ insert_all msg_cmp (first_messages (simulation net) (length net.sites)) [])
     (then_all : p ≡ insert_all msg_cmp (set_messages (simulation net) 0 list) firsts) where
-  -- what is pending are the first messages and the decisions
+  -- the pending messages are the first messages and the decisions
   pending_is : p ≡ (first_world (simulation net) list).pending
   pending_is = then_all ∙ (ap (insert_all msg_cmp (set_messages (simulation net) 0 list)) first
       ∙ sym (insert_all-append (first_messages (simulation net) (length net.sites))
       (set_messages (simulation net) 0 list)
       []))
 
-  -- with the opening states and these messages, the run is where the world of the clone begins
+  -- with the opening states and these messages, the run is at the start of the clone's world
   pub config_of-start : config_of net (record { states = states; pending = p; trace = [] })
       ≡ first_world (simulation net) list
   config_of-start =
@@ -102,7 +102,7 @@ module _ (net : Net) (valid : IsNet net) (list : List Planned) (states : List St
       (fun_ext (state_of-opening net states opened))
       ∙ ap (λ q. record { at = record { states = λ s. (setup net s).state; trace = [] }; pending = q }) pending_is
 
-  -- and where the decisions are for stations, it is a run of the network with no log beyond the limit
+  -- and if the decisions are for stations, it is a run of the network with no log beyond the limit
   pub IsSolo-start : AreForStations (simulation net) list
       → IsSolo net (record { states = states; pending = p; trace = [] })
   unfolding run_to

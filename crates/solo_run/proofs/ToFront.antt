@@ -1,4 +1,4 @@
--- The turns up to a front come to the run, or go beyond the limit.
+-- The turns up to a front reach the run, or go beyond the limit.
 use Rattle.std.proofs.Common.{◌≡◌, inl, inr, ℕ, zero, suc, ◌+◌, ◌-◌, ◌*◌, ◌<◌, ◌≤◌, refl}
 use Rattle.std.proofs.Common.{ap, sym, subst, ◌∙◌, List, [], ◌∷◌, ◌++◌, length, length-append, append-nil, Some}
 use Rattle.std.proofs.Common.{unwrap_or, arith}
@@ -81,7 +81,7 @@ module _ (net : Net) (valid : IsNet net) (past : Entries) where
     from_t = all_from_zero (λ (m : Msg). m.key.time) v.pending;
   }
 
-  -- the trace is no longer than what the stations may handle, with or without a past
+  -- the trace is no longer than the stations may handle, with or without a past
   pub trace-short : (v : SoloView) → IsSoloAfter net past v → length v.trace ≤ length net.sites * net.limit
   trace-short v solo =
       let most = sum_most (λ st. st.handled) net.limit v.states (λ i st is. (solo.states i st is).within) in
@@ -92,7 +92,7 @@ module _ (net : Net) (valid : IsNet net) (past : Entries) where
 
   -- ---- run_from, GoesBeyondAfter, StopsAfter
 
-  -- turns before the front that leave nothing pending before it have come to the run
+  -- turns before the front that leave nothing pending before it have reached the run
   pub run_ends : (front : ℕ) (v w : SoloView) → IsSoloAfter net past v → IsSoloAfter net past w
       → IsReached net front v w → AllByRecursion (λ m. front ≤ m.key.time) w.pending
       → config_of net w ≡ run_from net v front

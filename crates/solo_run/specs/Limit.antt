@@ -9,7 +9,7 @@ use Rattle.run_laws.specs.World.{log_of}
 abbrev pub receiver : Msg → ℕ
 receiver m = m.to
 
--- the station of the first entry whose log has as many entries before it as it may have; `seen` is what came before
+-- the station of the first entry whose log already has as many entries as it may have; `seen` has the entries before
 abbrev pub first_beyond : ℕ → List (Entry Msg Line) → List (Entry Msg Line) → Option ℕ
 first_beyond limit seen [] = None
 first_beyond limit seen (e ∷ es) =

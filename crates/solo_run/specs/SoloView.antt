@@ -21,29 +21,29 @@ use Rattle.solo_run.specs.Limit.{receiver, first_beyond}
 abbrev pub Entries : Type 0
 Entries = List (Entry Msg Line)
 
--- what contracts see of a one-thread run: the states, the pending messages in their order, and the trace
+-- the view of a one-thread run in contracts: the states, the pending messages in their order, and the trace
 pub record SoloView : Type 0 where
   pub states : List StateView
   pub pending : List Msg
   pub trace : Entries
 
--- the view with this message once more the first of those that are pending
+-- the view with this message put back as the first pending one
 abbrev pub with_due : Msg → SoloView → SoloView
 with_due m v = record v { pending = m ∷ v.pending }
 
--- the state of each number: a number without a station has its opening state
+-- the state of station s; a number without a station has its opening state
 abbrev pub state_of : Net → List StateView → ℕ → StateView
 state_of net states zero = (setup net zero).state
 state_of net states (suc i) = unwrap_or (slice_get states i) (setup net (suc i)).state
 
--- the world that the run of a clone has come to
+-- the world that the run of a clone has reached
 abbrev pub config_of : Net → SoloView → Config (World StateView Msg Line) Msg
 config_of net v = record {
   at = record { states = state_of net v.states; trace = v.trace };
   pending = v.pending;
 }
 
--- the state of the station of number i + 1, in a run with this trace
+-- the state of station i + 1, in a run with this trace
 pub record IsStateAfter (net : Net) (trace : Entries) (i : ℕ) (st : StateView) : Type 0 where
   pub fits : FitsState st
   pub suits : SuitsNet net st
@@ -61,6 +61,6 @@ pub record IsSoloAfter (net : Net) (past : Entries) (v : SoloView) : Type 0 wher
   pub total : length (past ++ v.trace) ≡ sum_by (λ st. st.handled) v.states
   pub below : first_beyond net.limit past v.trace ≡ None
 
--- a run of a model's network from the beginning: it has no past
+-- a run of a model's network from the start, without a past
 abbrev pub IsSolo : Net → SoloView → Type 0
 IsSolo net v = IsSoloAfter net [] v

@@ -1,4 +1,4 @@
--- One turn of a one-thread run, and how it ends at the limit.
+-- One turn of a one-thread run, and its end at the limit.
 use Rattle.std.specs.Prelude.{◌≡◌, ℕ, ◌+◌, ◌*◌, ◌≤◌, ◌<◌, List, [], ◌∷◌, ◌++◌, length, Some, None, slice_get, slice_set}
 use Rattle.sim_base.specs.Order.{msg_cmp}
 use Rattle.sim_base.specs.declared.message.Msg.{Msg}
@@ -20,15 +20,15 @@ use Rattle.solo_run.specs.declared.turn.SoloFault.TheVariants.{NoMemory, Limit}
 abbrev pub step_of : Net → World StateView Msg Line → Msg → World StateView Msg Line × List Msg
 step_of net = world_step (simulation net).to (simulation net).handle
 
--- the run of a network, from what it is now, to a front
+-- the run of a network from its present state to a front
 abbrev pub run_from : Net → SoloView → ℕ → Config (World StateView Msg Line) Msg
 run_from net v front = runs.run_from (simulation net) (config_of net v) front
 
--- turns, each of a message before the front, lead from the one run to the other
+-- turns, each of a message before the front, lead from one run to the other
 abbrev pub IsReached : Net → ℕ → SoloView → SoloView → Type 0
 IsReached net front v w = Reach msg_cmp (λ m. m.key.time) (step_of net) front (config_of net v) (config_of net w)
 
--- the state at place i handles a message
+-- the state at index i handles a message
 pub record HandlesAt (net : Net) (i : ℕ) (m : Msg) (old new : List StateView) (sends : List Msg) (line : Line) :
     Type 0 where
   pub before : StateView
@@ -40,7 +40,7 @@ pub record HandlesAt (net : Net) (i : ℕ) (m : Msg) (old new : List StateView) 
   pub suits : SuitsNet net after
   pub fits : FitsState after
 
--- the station at place i has handled as many messages as it may, and no step was taken
+-- the station at index i has handled as many messages as it may, and no step was taken
 pub record IsStationFull (net : Net) (i : ℕ) (states : List StateView) (old_steps new_steps station kept : ℕ) :
     Type 0 where
   pub state : StateView
@@ -50,13 +50,13 @@ pub record IsStationFull (net : Net) (i : ℕ) (states : List StateView) (old_st
   pub keeps : kept ≡ net.limit
   pub steps : new_steps ≡ old_steps
 
--- why a step of the station at place i fails: out of memory needs no cause, and at the limit it is full
+-- why a step of the station at index i fails: out of memory may always come, and at the limit it is full
 abbrev pub StopsAt : Net → ℕ → List StateView → ℕ → ℕ → SoloFault → Type 0
 StopsAt net i states old_steps new_steps NoMemory = Unit {0}
 StopsAt net i states old_steps new_steps (Limit station kept) =
     IsStationFull net i states old_steps new_steps station kept
 
--- a message that was due is handled: the run comes to where the turn leads
+-- a due message is handled: the run reaches the state after the turn
 abbrev pub HasTurned : Net → SoloView → Msg → SoloView → Type 0
 HasTurned net v m new = config_of net new ≡ config_after msg_cmp (step_of net) (config_of net v).at m v.pending
 

@@ -1,12 +1,12 @@
 //! The pending messages of all stations: the future event list.
 //!
-//! Each station has a list of its own, so that an insert looks only among the messages to one station, and a
-//! tournament of the lists' first keys tells which list has the first message of all:
+//! Each station has a list of its own, so an insert searches only among the messages to one station. A tournament of
+//! the lists' first keys finds the list with the first message of all:
 //!
 //!     gate [3 9 ..]   desk [8 12 ..]   out []          least word: 3 gate
 //!
-//! A key is one word of 64 bits, with the place of its list as the last six, so that a step is one `min` a level and
-//! no branch. The keys of a run fit; where one does not, all lists are looked through.
+//! A key is a 64-bit word whose last six bits are the place of its list. So a step is one `min` for each level and no
+//! branch. The keys of a run fit; if one does not, all lists are searched.
 ghost use Rattle.std.specs.Prelude.{◌+◌, ◌<◌, ◌≤◌, ◌≡◌, ◌∷◌, [], length};
 ghost use Rattle.std.specs.Prelude.{IfOk, IfNone, IfSome, OnOk, OnErr};
 ghost use Rattle.std.specs.List.{AllByRecursion};
@@ -23,12 +23,12 @@ use std::marker::Model;
 use trace_cursor::Tree;
 use trace_cursor::tree::NO_WORD;
 
-/// Pending messages in their order, for so many stations.
+/// Future event list: pending messages in order, with one list for each station.
 #[derive(Drop)]
 pub struct EventList {
-    // the list at i is that of the station i + 1
+    // the list at index i is that of station i + 1
     lists: Vec<Pending<()>>,
-    // the word at i is that of the first message of the list at i
+    // the word at index i is that of the first message of list i
     words: Tree,
 }
 
@@ -44,7 +44,7 @@ impl Model for EventList {
 }
 
 impl EventList {
-    /// Nothing is pending.
+    /// An empty list.
     pub(crate) fn new(alloc: Global, stations: u32) -> Result<EventList, NoMemory>
         requires some { 1 ≤ stations }
         requires few { stations ≤ WORD_PLACES }
@@ -58,9 +58,9 @@ impl EventList {
         Ok(EventList { lists, words })
     }
 
-    /// Adds a message; one that is there already is not added again.
+    /// Adds a message, unless it is already there.
     ///
-    /// Out of memory leaves all unchanged.
+    /// If out of memory, changes nothing.
     pub(crate) fn insert(&mut self, msg: Msg) -> Result<(), NoMemory>
         requires pending { IsForStation self.old.stations msg }
         ensures ok { OnOk result (self.new ≡ record self.old { messages = insert msg_cmp msg self.old.messages }) }
@@ -73,7 +73,7 @@ impl EventList {
         Ok(())
     }
 
-    /// Takes the first message out if its time is before the bound. None changes nothing.
+    /// Removes and returns the first message if its time is before the bound. None changes nothing.
     pub(crate) fn take_before(&mut self, bound: u64) -> Option<Msg>
         requires soon { bound < WORD_TIMES }
         ensures some { IfSome result (λ m. (self.old ≡ record self.new { messages = m ∷ self.new.messages })
@@ -88,9 +88,9 @@ impl EventList {
         Some(msg)
     }
 
-    /// All messages, in their order. The event list stays as it is.
+    /// A copy of all messages, in their order.
     ///
-    /// It merges copies of the stations' lists, and looks at the first message of each list for every message.
+    /// It merges copies of the stations' lists, and compares the first messages of all lists for every message.
     pub(crate) fn messages(&self, alloc: Global) -> Result<Vec<Msg>, NoMemory>
         ensures value { IfOk result (λ all. all.items ≡ self.now.messages) }
     {
@@ -114,7 +114,7 @@ fn copy_lists(alloc: Global, lists: &Vec<Pending<()>>) -> Result<Vec<Pending<()>
     Ok(copies)
 }
 
-// The place of the list that has the first message of all, if that is before the bound.
+// The index of the list with the first message of all, if that is before the bound.
 #[inline(always)]
 fn first_before(lists: &Vec<Pending<()>>, words: &Tree, bound: u64) -> Option<usize>
     requires lists { IsEventList lists.now.items words.now }
@@ -133,7 +133,7 @@ fn first_before(lists: &Vec<Pending<()>>, words: &Tree, bound: u64) -> Option<us
     }
 }
 
-// The same by all first messages, where a key fits no word.
+// The same by comparing all first messages, if a key does not fit a word.
 fn look_through(lists: &Vec<Pending<()>>, bound: u64) -> Option<usize>
     requires lists { AreStationLists lists.now.items }
     ensures some { IfSome result (λ i. HasFirst lists.now.items bound i) }
@@ -145,7 +145,7 @@ fn look_through(lists: &Vec<Pending<()>>, bound: u64) -> Option<usize>
     }
 }
 
-// The list whose first message none of the lists' firsts comes before, with that message.
+// The list whose first message is the least of all, with that message.
 fn find_first(lists: &Vec<Pending<()>>) -> Option<(usize, Msg)>
     ensures value { IsFound lists.now.items (length lists.now.items) result }
 {
@@ -156,7 +156,7 @@ fn find_first(lists: &Vec<Pending<()>>) -> Option<(usize, Msg)>
     found
 }
 
-// What was found among the lists before place i, or the first message of the list there where that comes before it.
+// Compares the least first message of the lists before i, if any, with the first message of list i.
 fn first_found(
     lists: &Vec<Pending<()>>,
     i: usize,
@@ -179,7 +179,7 @@ fn first_found(
     }
 }
 
-// The word of the first message of the list at place i.
+// The word of the first message of list i.
 #[inline(always)]
 fn word_of(list: &Pending<()>, i: usize) -> u64
     requires few { i < WORD_PLACES }
@@ -191,7 +191,7 @@ fn word_of(list: &Pending<()>, i: usize) -> u64
     }
 }
 
-// A key as a word, with the place of its list.
+// A key as a word, with the index of its list.
 #[inline(always)]
 fn word_of_key(key: Key, i: usize) -> u64
     requires few { i < WORD_PLACES }

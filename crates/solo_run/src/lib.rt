@@ -1,7 +1,7 @@
-//! The plain simulator: one clone by itself, on one thread.
+//! The plain simulator: one clone alone, on one thread.
 //!
-//! A planner who asks for one clone gets the textbook loop of discrete-event simulation: the future event list gives
-//! its least message, the station that it is for handles it, and what that sends goes into the list.
+//! A planner who asks for one clone gets the textbook loop of discrete-event simulation. The future event list returns
+//! its least message, the message's station handles it, and the sends of the station go into the list.
 //!
 //!     pending  [3 gate tick] [8 desk set ..] ..        states  gate desk out
 //!        |  take_before(front)                            |
@@ -10,23 +10,23 @@
 //!
 //!     let solo = Solo::new(alloc, &model, lists.list(c))?;            // the decisions are messages too
 //!     let solo = solo.run_to(&model, model.horizon(), &mut steps)?;   // Err(SoloFault::Limit { .. }) at the limit
-//!     let trace = solo.trace();                                       // the log of what was handled, in order
+//!     let trace = solo.trace();                                       // the log of all handled messages, in order
 //!
-//! A run can be resumed. `state` and `due` return what a snapshot of a run keeps. `resumed` makes a run from these, and
-//! its trace begins empty. `run_on` is `run_to` for such a run: the ghost value `past` has the entries handled before,
+//! A run can be resumed. `state` and `due` return the parts of a snapshot. `resumed` makes a run from these, and its
+//! trace begins empty. `run_on` is `run_to` for such a run: the ghost value `past` has the entries handled before,
 //! which count towards the limit too.
 //!
 //!     let solo = Solo::resumed(alloc, &model, states, &due)?;         // states of the stations, pending messages
 //!     let solo = solo.run_on(&model, model.horizon(), &mut steps)?;   // its trace: the messages handled since then
 //!
 //! The future event list is a list for each station, and a tournament of their first keys. A turn costs the handling,
-//! one way up the tournament, and an insert among the messages to one station for each message that is sent; one buffer
-//! serves all turns. A run of n messages keeps n entries of trace in a `Log`: 32 bytes each where packed, as the
-//! numbers of a run within the model's limits let them be.
+//! one way up the tournament, and for each send an insert among the messages to one station. One buffer serves all
+//! turns. A run of n messages keeps n entries of trace in a `Log`, 32 bytes each if packed, as they are within the
+//! model's limits.
 //!
-//! It is the measure of all sharing: `run_to` comes to exactly the run that the definitions give for the clone
-//! (`ok`), and where a station would handle more messages than the limit, it names the station of the first such
-//! message (`stops`). What a clone costs here is what *alone* counts in a report.
+//! It is the reference for all sharing: `run_to` reaches exactly the run of the clone by the definitions (`ok`). If a
+//! station would handle more messages than the limit, it names the station of the first such message (`stops`). The
+//! cost of a clone here is its share of *alone* in a report.
 #![tactic(auto)]
 
 mod event_list;

@@ -1,4 +1,4 @@
-//! How a one-thread run begins: the opening states of the stations, and the first of the future event list.
+//! The start of a one-thread run: the opening states of the stations, and the first messages of the future event list.
 ghost use Rattle.std.specs.Prelude.{◌≡◌, ◌+◌, length, IfOk, IfSome, OnOk};
 ghost use Rattle.std.specs.List.{AllByRecursion};
 ghost use Rattle.sim_base.specs.Order.{msg_cmp};
@@ -19,7 +19,6 @@ use stations::decision::set_message;
 use stations::state::setup;
 use std::alloc::Global;
 
-// What a station sends first, if anything, becomes pending.
 fn put_first(pending: &mut EventList, first: Option<Msg>) -> Result<(), NoMemory>
     requires first { IfSome first (IsForStation pending.old.stations) }
     ensures ok { OnOk result (pending.new.messages ≡ with_first first pending.old.messages) }
@@ -31,7 +30,7 @@ fn put_first(pending: &mut EventList, first: Option<Msg>) -> Result<(), NoMemory
     Ok(())
 }
 
-/// Every station opens: the states in order, and what they send first becomes pending.
+/// Opens every station: returns the states in order, and makes their first messages pending.
 pub(crate) fn open_all(
     alloc: Global,
     model: &Model,
@@ -53,7 +52,7 @@ pub(crate) fn open_all(
     Ok(states)
 }
 
-/// The decisions of a clone become pending messages, numbered from 0.
+/// Makes the decisions of a clone pending messages, numbered from 0.
 pub(crate) fn put_decisions(pending: &mut EventList, list: &[Planned]) -> Result<(), NoMemory>
     requires stations { AllByRecursion (λ p. IsStationOf pending.old.stations p.station) list.now }
     ensures ok { (net : Net) → OnOk result

@@ -1,5 +1,5 @@
 //! The one-thread run of one clone: one event execution after another from its future event list, up to the horizon
-//! (the stop time).
+//! (stop time).
 ghost use Rattle.std.specs.Prelude.{◌≡◌, ◌+◌, ◌-◌, ◌≤◌, ◌<◌, [], length, slice_get, Some, IfOk, IfErr};
 ghost use Rattle.std.specs.List.{AllByRecursion};
 ghost use Rattle.sim_base.specs.Order.{msg_cmp};
@@ -23,7 +23,7 @@ use stations::State;
 use std::alloc::Global;
 use std::sync::ledger::Ledger;
 
-/// The run of one clone, as far as it has come: the state of each station, the pending messages and the trace.
+/// The run of one clone so far: the state of each station, the pending messages and the trace.
 #[derive(Drop)]
 pub struct Solo {
     pub(crate) states: Vec<State>,
@@ -43,9 +43,9 @@ impl std::marker::Model for Solo {
 }
 
 impl Solo {
-    /// The clone of these decisions, before anything is handled.
+    /// The run of a clone with these decisions, before anything is handled.
     ///
-    /// The decisions are for stations of the model; a change that a station does not take changes nothing.
+    /// The decisions are for stations of the model; a change that a station does not accept changes nothing.
     pub fn new(alloc: Global, model: &Model, list: &[Planned]) -> Result<Solo, NoMemory>
         requires stations { AreForStations (simulation model.now) list.now }
         ensures begins { IfOk result (λ solo. config_of model.now solo ≡ first_world (simulation model.now) list.now) }
@@ -94,10 +94,10 @@ impl Solo {
         &self.states[station as usize - 1]
     }
 
-    /// Handles every message before a front, at most the horizon: the clone's run goes on to there.
+    /// Handles every message before a front, which is at most the horizon.
     ///
-    /// Counts a step for each message handled. It stops where a station would handle more messages than the limit,
-    /// and names the station of the first such message; before it, all was handled.
+    /// Counts a step for each message handled. It stops if a station would handle more messages than the limit, and
+    /// names the station of the first such message. All messages before it were handled.
     pub fn run_to<L: Ledger>(
         self,
         model: &Model,
@@ -132,7 +132,6 @@ impl Solo {
         ensures steps { IfOk result (λ solo. steps.new + length self.trace ≡ steps.old + length solo.trace) }
         ensures stops { IfErr result (λ e. StopsAfter model.now past self front steps.old steps.new e) }
     {
-        // One buffer for what each turn sends.
         let mut out = ArrayVec::new();
         while let Some(due) = self.pending.take_before(front) {
             match self.turn(model, &due, &mut out, steps) {
@@ -143,7 +142,7 @@ impl Solo {
         Ok(self)
     }
 
-    /// What one station handled, in order.
+    /// A copy of the log of one station, in order.
     pub fn log(&self, alloc: Global, station: u32) -> Result<Vec<Entry>, NoMemory>
         ensures { IfOk result (λ log. log.items ≡ log_of receiver station self.now.trace) }
     {
@@ -157,14 +156,14 @@ impl Solo {
         Ok(log)
     }
 
-    /// The pending messages, in the order of their keys. The run stays as it is.
+    /// A copy of the pending messages, in the order of their keys.
     pub fn due(&self, alloc: Global) -> Result<Vec<Msg>, NoMemory>
         ensures value { IfOk result (λ due. due.items ≡ self.now.pending) }
     {
         self.pending.messages(alloc)
     }
 
-    /// The log of the messages that were handled, in order.
+    /// The log of all handled messages, in order.
     pub fn trace(&self) -> &Log
         ensures { result.now ≡ self.now.trace }
     {

@@ -1,5 +1,5 @@
-//! Event execution in a one-thread run, a turn: the least pending message is handled at its station, and what that
-//! sends becomes pending.
+//! Event execution in a one-thread run, called a turn: the least pending message is handled at its station, and the
+//! sends become pending.
 ghost use Rattle.std.specs.Prelude.{◌≡◌, ◌+◌, ◌-◌, ◌≤◌, ◌<◌, ℕ};
 ghost use Rattle.std.specs.Prelude.{length, IfErr, IfOk, OnOk, slice_get, Some};
 ghost use Rattle.std.specs.List.{AllByRecursion};
@@ -25,13 +25,13 @@ use std::sync::ledger::Ledger;
 /// Why a run stops.
 #[derive(Clone, Copy, Debug, PartialEq, Eq)]
 pub enum SoloFault {
-    /// Out of memory; the run is given up.
+    /// Out of memory; the run is lost.
     NoMemory,
     /// A station would handle more messages than it may: the station of the first such message, and the limit.
     Limit { station: u32, kept: u64 },
 }
 
-// Messages for stations become pending.
+// Makes messages for stations pending.
 pub(crate) fn put_all(pending: &mut EventList, sends: &[Msg]) -> Result<(), NoMemory>
     requires all { AllByRecursion (IsForStation pending.old.stations) sends.now }
     ensures ok { OnOk result (pending.new.messages ≡ insert_all msg_cmp sends.now pending.old.messages) }
@@ -43,7 +43,7 @@ pub(crate) fn put_all(pending: &mut EventList, sends: &[Msg]) -> Result<(), NoMe
     Ok(())
 }
 
-// The message's station handles it, unless it has handled as many as it may.
+// The message's station handles it, unless it has already handled as many as it may.
 fn handle_at<L: Ledger>(
     states: &mut Vec<State>,
     model: &Model,
@@ -51,22 +51,22 @@ fn handle_at<L: Ledger>(
     out: &mut ArrayVec<Msg, MOST_SENDS>,
     steps: &mut Steps<L>,
 ) -> Result<Line, SoloFault>
-    // what it asks: a message to a station of the model, and the states of its stations in their order
+    // required: a message to a station of the model, and the states of its stations in order
     requires receiver { IsForStation (length model.now.sites) msg.now }
     requires count { length states.old.items ≡ length model.now.sites }
     requires suits { (i : ℕ) (st : StateView) → slice_get states.old.items i ≡ Some st → SuitsNet model.now st }
     requires numbers { (i : ℕ) (st : StateView) → slice_get states.old.items i ≡ Some st → (st.sender.station ≡ i + 1) }
-    // a time at which a station may handle a message, and nothing in `out`
+    // a time at which a station may handle a message, and an empty `out`
     requires early { msg.now.key.time < ALL_TIMES }
     requires empty { array_vec_len out.old ≡ 0 }
-    // what it gives: the receiver's state after the message, the others as they were, the sends and the line; it counts
-    // a step
+    // result: the receiver's state after the message, the other states unchanged, the sends and the line; it counts a
+    // step
     ensures ok { IfOk result (λ line. HandlesAt model.now (msg.now.to - 1) msg.now states.old.items states.new.items
         out.new.items line) }
     ensures counted { OnOk result (steps.new ≡ steps.old + 1) }
-    // what is kept, also where it fails: the number of states
+    // invariant, also on errors: the number of states
     ensures same_count { length states.new.items ≡ length states.old.items }
-    // when it fails: out of memory, or at the limit, which the station has reached, and no step is counted then
+    // errors: out of memory, or the station has reached the limit; then no step is counted
     ensures full { IfErr result (λ e. StopsAt model.now (msg.now.to - 1) states.old.items steps.old steps.new e) }
 {
     let state = &mut states[msg.to as usize - 1];
@@ -84,9 +84,9 @@ fn handle_at<L: Ledger>(
 }
 
 impl Solo {
-    /// One turn, an event's execution: the message, which was due, is handled at its station.
+    /// Executes one event: the due message is handled at its station.
     ///
-    /// `out` is for what is sent; it is emptied first. Counts a step.
+    /// `out` is a buffer for the sends; it is emptied first. Counts a step.
     pub(crate) fn turn<L: Ledger>(
         &mut self,
         model: &Model,
@@ -98,15 +98,15 @@ impl Solo {
         requires solo { IsSoloAfter model.now past (with_due msg.now self.old) }
         requires early { msg.now.key.time < ALL_TIMES }
 
-        // The run comes to where the turn leads.
+        // the run reaches the state after the turn
         ensures turned { OnOk result (HasTurned model.now self.old msg.now self.new) }
         ensures solo { OnOk result (IsSoloAfter model.now past self.new) }
 
-        // One message was handled.
+        // one message was handled
         ensures counted { OnOk result (steps.new ≡ steps.old + 1) }
         ensures longer { OnOk result (length self.new.trace ≡ length self.old.trace + 1) }
 
-        // Why it was not.
+        // the reason if it was not
         ensures full { IfErr result (λ e. StopsAt model.now (msg.now.to - 1) self.old.states steps.old steps.new e) }
     {
         out.clear();

@@ -1,4 +1,4 @@
--- What an accepted change keeps.
+-- The invariants that an accepted change keeps.
 use Rattle.std.proofs.Common.{◌≡◌, ℕ, ◌≤◌, Bool, true, false, refl, length}
 use Rattle.std.proofs.lemmas.Bool.{and_parts, false≢true}
 use Rattle.sim_base.specs.declared.message.Change.{Change}
@@ -31,7 +31,7 @@ is_accepted-parts site c accepted =
 
 -- ---- a router: a new weight
 
--- a change names one of so many links, and a weight
+-- a change names one of `n` links, and a weight
 pub record IsWeightChange (links : ℕ) (c : Change) : Type 0 where
   pub first : 1 ≤ c.a
   pub last : c.a ≤ links
@@ -59,7 +59,7 @@ has_parameter-router (Server servers room lo hi by_class) p is has_parameter = a
 has_parameter-router (Delay lo hi) p is has_parameter = absurd (false≢true is)
 has_parameter-router Sink p is has_parameter = absurd (false≢true is)
 
--- what a router accepts is a new weight of one of its links
+-- a router accepts a new weight of one of its links
 pub is_accepted-router : (site : Site) (c : Change) → is_router site.kind ≡ true → is_accepted site c ≡ true
     → IsWeightChange (length site.links) c
 is_accepted-router site c is accepted =
@@ -88,7 +88,7 @@ has_parameter-delay lo hi Servers has_parameter = absurd (false≢true has_param
 has_parameter-delay lo hi Room has_parameter = absurd (false≢true has_parameter)
 has_parameter-delay lo hi Weight has_parameter = absurd (false≢true has_parameter)
 
--- what a source accepts is a range from 1 on
+-- a source accepts a range from 1 on
 pub is_accepted-source : (lo hi jobs class : ℕ) (site : Site) (c : Change) → site.kind ≡ Source lo hi jobs class
     → is_accepted site c ≡ true → IsRange 1 c.a c.b
 is_accepted-source lo hi jobs class site c is accepted =
@@ -96,7 +96,7 @@ is_accepted-source lo hi jobs class site c is accepted =
     let every = has_parameter-source lo hi jobs class c.param (rw is at parts.0) in
     is_range-bounds 1 c.a c.b (rw every at parts.1)
 
--- what a delay accepts is a range from 0 on
+-- a delay accepts a range from 0 on
 pub is_accepted-delay : (lo hi : ℕ) (site : Site) (c : Change) → site.kind ≡ Delay lo hi → is_accepted site c ≡ true
     → IsRange 0 c.a c.b
 is_accepted-delay lo hi site c is accepted =

@@ -1,4 +1,4 @@
--- What a delay keeps, and what it sends.
+-- The invariant of a delay, and its sends.
 use Rattle.std.proofs.Common.{◌≡◌, ℕ, ◌+◌, ◌≤◌, Bool, true, false, if◌then◌else◌, refl, arith}
 use Rattle.std.specs.List.{AllByRecursion}
 use Rattle.sim_base.specs.declared.message.Change.{Change}
@@ -35,7 +35,7 @@ module _ (net : Net) (site : Site) (now : ℕ) (links : AllByRecursion (IsLink n
 
   -- ---- delay_on
 
-  -- a delay that stays as it is fits one message more
+  -- an unchanged delay fits one more message
   delay-later : (handled : ℕ) (s : DelayState) → FitsDelay handled s → FitsDelay (handled + 1) s
   delay-later handled s f = record { range = f.range; passed = omega (arith, f.passed) }
 

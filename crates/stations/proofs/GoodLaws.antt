@@ -1,4 +1,4 @@
--- What the laws of runs ask of stations, proved of these.
+-- The requirements of the laws of runs, proved of these stations.
 use Rattle.std.proofs.Common.{◌≡◌, ℕ, zero, suc, ◌+◌, ◌<◌, ◌≤◌, ◌⊎◌, inl, inr, List}
 use Rattle.std.proofs.Common.{[], ◌∷◌, length, refl, sym, ap, ◌∙◌, subst, Some, unwrap_or, arith}
 use Rattle.std.specs.List.{AllByRecursion}
@@ -86,7 +86,7 @@ module _ (net : Net) (valid : IsNet net) where
   handles-at_no_station sender handled (Delay s) m none of = absurd of
   handles-at_no_station sender handled (Router s) m none of = absurd of
 
-  -- so a state whose kind is that of its own number does, whatever the number
+  -- so does a state whose kind is that of its own number, for every number
   handles-own : (st : StateView) (m : Msg)
       → IsOfKind (site_of net st.sender.station) (site_of net st.sender.station).kind st.kind
       → GoodKind st.handled st.kind → HandlesGoodState st.sender.station st m
@@ -106,7 +106,7 @@ module _ (net : Net) (valid : IsNet net) where
   -- ---- AreSends
 
   module _ (now s : ℕ) where
-    -- what is sent comes later
+    -- the sends come later
     sends_later : (k : ℕ) (ms : List Msg) → AreSends net now s k ms → AllByRecursion (λ z. now < z.key.time) ms
     sends_later k [] are = tt
     sends_later k (m ∷ ms) are = (are.0.later, sends_later (suc k) ms are.1)
@@ -127,7 +127,7 @@ module _ (net : Net) (valid : IsNet net) where
         let rest = among (suc k) ms z are.1 later in
         record { at = rest.at; above = omega (arith, rest.above); below = omega (arith, rest.below); is = rest.is }
 
-    -- numbers tell sends apart
+    -- numbers separate sends
     numbers_apart : (k : ℕ) (ms : List Msg) (z y : Msg) → AreSends net now s k ms → In z ms → In y ms
         → z.key.number ≡ y.key.number → z ≡ y
     numbers_apart k [] z y are i j same = absurd i
@@ -144,7 +144,7 @@ module _ (net : Net) (valid : IsNet net) where
         absurd (omega (arith, later.above, later.is.number))
     numbers_apart k (m ∷ ms) z y are (inr i) (inr j) same = numbers_apart (suc k) ms z y are.1 i j same
 
--- ---- what the laws of runs ask
+-- ---- the requirements of the laws of runs
 
 module _ (net : Net) (valid : IsNet net) where
   -- a station opens in a good state
@@ -163,7 +163,7 @@ module _ (net : Net) (valid : IsNet net) where
         ];
       }
 
-  -- good states stay good, and what is sent comes later, to another station by the lookahead later or more
+  -- good states stay good, and sends come later, and to another station later by at least the lookahead
   pub lawful-stations : HandlesLawfully (simulation net) (IsGood net)
   lawful-stations = record {
     order = record { order = messages_ordered; timed = msg-timed };
@@ -186,7 +186,7 @@ module _ (net : Net) (valid : IsNet net) where
         (handles-good net valid s st m good).sends i).is.is_station in (omega (arith, sent.low), sent.high);
   }
 
-  -- a station numbers what it sends, each number once, and the number of a decision is its place in the list
+  -- a station numbers its sends, each number once, and the number of a decision is its place in the list
   pub fresh-stations : HandlesFreshly (simulation net) (IsGood net) sender_of number_of next_number
   fresh-stations = record {
     keyed = λ x y less. msg-keyed x y less;

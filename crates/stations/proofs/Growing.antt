@@ -1,4 +1,4 @@
--- What sending adds to a sender and to what it has sent.
+-- The effect of sending on a sender and on its sends.
 use Rattle.std.proofs.Common.{◌≡◌, ◌≢◌, ℕ, suc, ◌+◌, ◌<◌, ◌≤◌, List, [], ◌∷◌, ◌++◌, length, refl, sym, ap, ◌∙◌, subst}
 use Rattle.std.proofs.Common.{append_assoc, append-nil, length-append, Option, Some, None, slice_get, arith}
 use Rattle.std.specs.List.{AllByRecursion}
@@ -27,7 +27,7 @@ module _ (net : Net) (now : ℕ) where
     pub next : b.sender.next ≡ a.sender.next + length more
     pub are : AreSends net now a.sender.station a.sender.next more
 
-  -- sends, and behind them sends with the numbers that follow
+  -- sends, followed by sends with the next numbers
   AreSends-append : (s k : ℕ) (ms ns : List Msg) → AreSends net now s k ms → AreSends net now s (k + length ms) ns
       → AreSends net now s k (ms ++ ns)
   AreSends-append s k [] ns are more = let same : k + 0 ≡ k = omega arith in
@@ -36,7 +36,7 @@ module _ (net : Net) (now : ℕ) where
       let same : k + suc (length ms) ≡ suc k + length ms = omega arith in
       (are.0, AreSends-append s (suc k) ms ns are.1 (subst (λ (i : ℕ). AreSends net now s i ns) same more))
 
-  -- what stays as it is has grown by nothing
+  -- an unchanged sender has grown by nothing
   pub grown-none : (a : Outgoing) → Grown 0 a a
   grown-none a = record {
     station = refl;
@@ -48,7 +48,7 @@ module _ (net : Net) (now : ℕ) where
     are = tt;
   }
 
-  -- what has grown by at most n has grown by at most any number from n on
+  -- growth by at most n is growth by at most any number from n on
   pub grown-more : (n m : ℕ) (a b : Outgoing) → Grown n a b → n ≤ m → Grown m a b
   grown-more n m a b g le = record {
     station = g.station;
@@ -60,11 +60,11 @@ module _ (net : Net) (now : ℕ) where
     are = g.are;
   }
 
-  -- what stays as it is has grown by at most any number
+  -- an unchanged sender has grown by at most any number
   pub grown-same : (n : ℕ) (a : Outgoing) → Grown n a a
   grown-same n a = grown-more 0 n a a (grown-none a) (omega arith)
 
-  -- what has grown by at most n, and then by at most m, has grown by at most n + m
+  -- growth by at most n, and then by at most m, is growth by at most n + m
   pub grown-trans : (n m : ℕ) (a b c : Outgoing) → Grown n a b → Grown m b c → Grown (n + m) a c
   grown-trans n m a b c g h =
       let count = length-append g.more h.more in

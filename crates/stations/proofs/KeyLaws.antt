@@ -1,4 +1,4 @@
--- How high the senders and numbers of a run's messages go: the law of numbers, at these stations.
+-- Bounds on the senders and numbers of a run's messages: the law of numbers, for these stations.
 use Rattle.std.proofs.Common.{ℕ, ◌+◌, ◌*◌, ◌<◌, ◌≤◌, inl, inr, List, min, arith}
 use Rattle.std.specs.Prelude.{◌==◌}
 use Rattle.sim_base.specs.declared.message.TheConstants.{WORD_NUMBERS}
@@ -41,7 +41,7 @@ module _ (net : Net) (valid : IsNet net) where
 
   -- ---- KeysAreSmall and LogKeysAreSmall
 
-  -- at a front where no log is beyond the limit each message of a clone's run has a small sender and number
+  -- at a front with no log beyond the limit, each message of a clone's run has a small sender and number
   pub keys-small : KeysAreSmall net
   keys-small c front m counted i = record {
     sender = elim (numbers_low (lawful-stations net valid) (stations-to_stations net valid)

@@ -1,4 +1,4 @@
--- What every kind keeps, and what it sends.
+-- The invariant of every kind, and its sends.
 use Rattle.std.proofs.Common.{◌≡◌, ℕ, ◌+◌, ◌<◌, ◌≤◌, sym, ap, subst}
 use Rattle.std.specs.List.{AllByRecursion}
 use Rattle.sim_base.specs.declared.message.Payload.{Payload}
@@ -22,7 +22,7 @@ use Rattle.stations.specs.declared.sender.TheConstants.{ALL_TIMES, MOST_SENDS}
 
 -- ---- GoodKind
 
--- a state that fits is good, whatever its kind
+-- a state that fits is good, for every kind
 pub good_kind : (handled : ℕ) (s : KindState) → FitsKind handled s → GoodKind handled s
 good_kind handled (Source s) f = f
 good_kind handled (Server s) f = f
@@ -42,7 +42,7 @@ module _ (net : Net) (site : Site) (now : ℕ) where
 module _ (net : Net) (site : Site) (now : ℕ) (links : AllByRecursion (IsLink net) site.links)
     (ahead : 1 ≤ net.lookahead)
     (a : Outgoing) (is_station : HasStation net a.sender.station) where
-  -- whatever message comes, a station of any kind keeps what it should, and sends as stations send
+  -- for every message, a station of any kind keeps its invariant, and sends as stations send
   pub kind_on-good : (k : Kind) (handled : ℕ) (p : Payload) (s : KindState) → site.kind ≡ k → IsOfKind site k s
       → GoodKind handled s → IsGoodReaction net site now handled a (kind_on net site now p s a)
   kind_on-good (kind.Source lo hi jobs class) handled p (Source s) is of f =
@@ -86,7 +86,7 @@ module _ (net : Net) (site : Site) (now : ℕ) (links : AllByRecursion (IsLink n
   kind_on-good kind.Sink handled p (Router s) is of f = absurd of
 
 module _ (now : ℕ) (early : now < ALL_TIMES) where
-  -- a good state fits, where the sums of a sink stay small
+  -- a good state fits if the sums of a sink stay small
   pub kind_on-fits : (net : Net) (site : Site) (handled : ℕ) (p : Payload) (s : KindState) (o : Outgoing)
       → FitsKind handled s → GoodKind (handled + 1) (kind_on net site now p s o).state
       → FitsKind (handled + 1) (kind_on net site now p s o).state

@@ -1,4 +1,4 @@
--- What a network promises of the stations that stand in it.
+-- The promises of a network about its stations.
 use Rattle.std.proofs.Common.{◌≡◌, ℕ, zero, suc, ◌+◌, ◌<◌, ◌≤◌, List, []}
 use Rattle.std.proofs.Common.{length, refl, sym, ap, subst, Some, unwrap_or, arith}
 use Rattle.std.proofs.lemmas.List.{nil_from_length}
@@ -93,7 +93,7 @@ handles-fitting net st m valid fits suits early =
       station = g.station;
     }
 
--- the code's steps come to the handling of the message
+-- the code's steps are the handling of the message
 pub handle-is : (net : Net) (st : StateView) (m : Msg) (site : Site) (before after : List Msg) (kind' : KindState)
     (sender' : Sender) → site_at net st.sender.station ≡ Some site → length before ≡ 0
     → kind_on net site m.key.time m.payload st.kind (outgoing st.sender before) ≡ reaction kind'

@@ -8,7 +8,7 @@ use Rattle.stations.proofs.Places.{drop-at}
 module _ (net : Net) (jobs : List JobOf) (i : ℕ) (job : JobOf) (at : slice_get jobs i ≡ Some job) where
   -- ---- least_class
 
-  -- the least class goes on behind the job at the place
+  -- the least class from a place on is that of the job there and of those after it
   pub least_class-drop : (n : ℕ) → least_class net n (drop i jobs) ≡ least_class net (min n (class_of net job))
       (drop (i + 1) jobs)
   least_class-drop n = ap (least_class net n) (drop-at jobs i job at)
@@ -20,7 +20,7 @@ module _ (net : Net) (jobs : List JobOf) (i : ℕ) (job : JobOf) (at : slice_get
   place_of_class-here n is = ap (place_of_class net n) (drop-at jobs i job at)
       ∙ ap (λ b. cond (not b) (1 + place_of_class net n (drop (i + 1) jobs)) 0) (eq-eqb (class_of net job) n is)
 
-  -- or it is behind it
+  -- or it is after it
   pub place_of_class-later : (n : ℕ) → class_of net job ≢ n
       → place_of_class net n (drop i jobs) ≡ 1 + place_of_class net n (drop (i + 1) jobs)
   place_of_class-later n is = ap (place_of_class net n) (drop-at jobs i job at)

@@ -26,7 +26,7 @@ module _ (net : Net) where
     | inr has ↦ inr (inr has)
   ]
 
-  -- where somebody waits, one who does has the least class
+  -- if a job waits, a waiting job has the least class
   least_in-reached : (jobs : List JobOf) → 1 ≤ length jobs → HasClass (least_in net jobs) jobs
   least_in-reached [] some = absurd (omega arith)
   least_in-reached (j ∷ js) some = elim (least_class-reached (class_of net j) js) [
@@ -36,7 +36,7 @@ module _ (net : Net) where
 
   -- ---- place_of_class and next_place
 
-  -- where one of the jobs has the class, the first one is in the line
+  -- if one of the jobs has the class, the first one is in the line
   place_of_class-below : (n : ℕ) (jobs : List JobOf) → HasClass n jobs → place_of_class net n jobs < length jobs
   place_of_class-below n [] has = absurd has
   place_of_class-below n (j ∷ js) has = elim (cases_Bool (eqb (class_of net j) n)) [
@@ -47,7 +47,7 @@ module _ (net : Net) where
     ]
   ]
 
-  -- where somebody waits, the next in line is one of them
+  -- if a job waits, the next in line is a waiting job
   pub next_place-below : (site : Site) (jobs : List JobOf) → 1 ≤ length jobs → next_place net site jobs < length jobs
   next_place-below site jobs some = by (serves_by_class site.kind)
     where

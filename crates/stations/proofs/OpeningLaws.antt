@@ -1,4 +1,4 @@
--- What a station opens with.
+-- The opening of a station.
 use Rattle.std.proofs.Common.{◌≡◌, ℕ, ◌<◌, Bool, true, false, nat_lt, if◌then◌else◌, slice_get}
 use Rattle.std.proofs.Common.{inl, List, [], refl, sym, ap, subst, Some, arith}
 use Rattle.std.proofs.lemmas.List.{length-map}
@@ -24,7 +24,7 @@ use Rattle.stations.proofs.Links.{are_weights}
 
 -- ---- opening_kind
 
--- what a kind opens with fits
+-- the opening state of a kind fits
 pub opening_kind-fits : (net : Net) (site : Site) (k : Kind) → IsSite net site → site.kind ≡ k
     → FitsKind 0 (opening_kind site k)
 opening_kind-fits net site (kind.Source lo hi jobs class) valid is =
@@ -107,7 +107,7 @@ setup-well net s site valid there =
       record { site = at; is_there = rw g.station here; kind = opening_kind-is_of_kind at at.kind },
     )
 
--- the code's steps come to the opening of the station
+-- the code's steps are the opening of the station
 pub setup-is : (net : Net) (s : ℕ) (site : Site) (begun : KindState) (sender' : Sender) (before after : List Msg)
     → site_at net s ≡ Some site → begun ≡ opening_kind site site.kind → before ≡ []
     → first_tick begun (outgoing (record {
@@ -140,7 +140,7 @@ first_tick-station (Delay s) o = refl
 first_tick-station (Router s) o = refl
 first_tick-station (Sink s) o = refl
 
--- what a station opens with is a message to itself, with number 0, which is used up then
+-- the first message of a station is to itself, with number 0, which is then used
 pub record IsFirst (s next : ℕ) (m : Msg) : Type 0 where
   pub to : m.to ≡ s
   pub sender : m.key.sender ≡ s

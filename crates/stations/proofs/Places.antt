@@ -7,7 +7,7 @@ use Rattle.sim_base.proofs.ListLaws.{all_at}
 
 -- ---- AllByRecursion
 
--- what holds of each element holds of the one at a place
+-- a property of each element holds of the one at a place
 pub AllByRecursion-slice_get : {X : Type 0} (P : X → Type 0) (xs : List X) (i : ℕ) (x : X) → AllByRecursion P xs
     → slice_get xs i ≡ Some x → P x
 AllByRecursion-slice_get P xs i x all is =
@@ -23,7 +23,7 @@ take-next xs i x is =
 
 -- ---- drop
 
--- what is left begins with the element at the place
+-- the rest begins with the element at the place
 pub drop-at : {X : Type 0} (xs : List X) (i : ℕ) (x : X) → slice_get xs i ≡ Some x → drop i xs ≡ x ∷ drop (i + 1) xs
 drop-at xs i x is =
     drop_more xs i x (slice_get_within xs i x is) ∙ ap (λ y. y ∷ drop (i + 1) xs) (get_or_from_slice_get xs i x x is)

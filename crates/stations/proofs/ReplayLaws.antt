@@ -1,4 +1,4 @@
--- What a log leads to, and how what a station sends is numbered.
+-- The state that a log leads to, and the numbering of a station's sends.
 use Rattle.std.proofs.Common.{◌≡◌, ℕ, zero, suc, ◌+◌, ◌*◌, ◌<◌, ◌≤◌, inl, inr, List, [], ◌∷◌}
 use Rattle.std.proofs.Common.{length, ap, ◌∙◌, subst, Some, nat_lt, Bool, true, false, if◌then◌else◌, arith}
 use Rattle.std.specs.List.{AllByRecursion}
@@ -28,7 +28,7 @@ use Rattle.stations.specs.declared.sender.TheConstants.{ALL_TIMES, MOST_SENDS}
 
 -- ---- first_tick
 
--- what a station opens with has at most one number
+-- the opening of a station has at most one number
 first_tick-next : (k : KindState) (o : Outgoing) → (first_tick k o).sender.next ≤ o.sender.next + 1
 first_tick-next (Source s) o = by (nat_lt s.sent s.jobs)
   where
@@ -59,7 +59,7 @@ module _ (net : Net) where
   pub replay-counts : ReplayCounts net
   replay-counts s log = count_from s (setup net s).state log ∙ omega arith
 
-  -- the replay of one entry more is what its message leads to from the replay
+  -- the replay of one more entry is the replay followed by its message
   pub replay-goes_on : ReplayGoesOn net
   replay-goes_on s log e = replay-push (simulation net) s (setup net s).state log e
 
@@ -85,7 +85,7 @@ module _ (net : Net) (valid : IsNet net) where
         kind = subst (λ (q : Site). IsOfKind q q.kind (replay_from net s (setup net s).state log).kind) is good.kind;
       }
 
-  -- states that fit lead to such, where the times of the log are early
+  -- states that fit lead to such states, if the times of the log are early
   fits_from : (s : ℕ) (st : StateView) (log : List (Entry Msg Line)) → FitsState st → SuitsNet net st
       → AllByRecursion (λ e. e.msg.key.time < ALL_TIMES) log → FitsState (replay_from net s st log)
   fits_from s st [] fits suits early = fits
@@ -93,7 +93,7 @@ module _ (net : Net) (valid : IsNet net) where
       let well = handles-fitting net st e.msg valid fits suits early.0 in
       fits_from s (handle net st e.msg).state es well.fits well.suits early.1
 
-  -- and it keeps what every state keeps, where the times of the log are early
+  -- and it keeps the invariant of every state, if the times of the log are early
   pub replay-fits : ReplayFits net
   replay-fits s log is_station early =
       let site = site_at-within net s is_station in

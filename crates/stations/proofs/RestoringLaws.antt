@@ -68,7 +68,7 @@ line-either n busy servers e = by (n == 0) refl e
 -- ---- FittingIsRestored
 
 module _ (net : Net) where
-  -- what a shape that fits restores
+  -- the state that a shape that fits restores
   record KindIsRestored (site : Site) (k : Kind) (handled : ℕ) (h : Shape) : Type 0 where
     pub state : KindState
     pub is : restored_kind k h ≡ Some state
@@ -216,7 +216,7 @@ module _ (net : Net) where
         handled = refl;
       }
 
--- what the code makes of a kind that was restored is the state that is restored
+-- the code's result for a restored kind is the restored state
 pub restored-by : (net : Net) (s : ℕ) (site : Site) (saved : Saved) (k : KindState) → site_at net s ≡ Some site →
     restored_kind site.kind saved.shape ≡ Some k →
     restored net s saved ≡ Some (record {

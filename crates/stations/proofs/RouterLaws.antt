@@ -1,4 +1,4 @@
--- What a router keeps, and what it sends.
+-- The invariant of a router, and its sends.
 use Rattle.std.proofs.Common.{◌≡◌, ℕ, ◌+◌, ◌-◌, ◌≤◌, List, length, Bool}
 use Rattle.std.proofs.Common.{true, false, if◌then◌else◌, refl, ◌∙◌, slice_get, slice_set, length-set, arith}
 use Rattle.std.specs.List.{AllByRecursion}
@@ -25,7 +25,7 @@ module _ (net : Net) (site : Site) (now : ℕ) (links : AllByRecursion (IsLink n
     (a : Outgoing) (is_station : HasStation net a.sender.station) where
   -- ---- router_set
 
-  -- a router that stays as it is fits one message more
+  -- an unchanged router fits one more message
   router-later : (handled : ℕ) (s : RouterState) → FitsRouter handled s → FitsRouter (handled + 1) s
   router-later handled s f = record { weights = f.weights; passed = omega (arith, f.passed) }
 

@@ -1,4 +1,4 @@
--- What a server keeps, and what it sends.
+-- The invariant of a server, and its sends.
 use Rattle.std.proofs.Common.{◌≡◌, ℕ, zero, suc, ◌+◌, ◌-◌, ◌<◌, ◌≤◌, ◌⊎◌, inl, inr, [], ◌∷◌, ◌++◌, length, Bool, true}
 use Rattle.std.proofs.Common.{false, nat_lt, if◌then◌else◌, ltb-true, refl, slice_get, Some, length-append, arith}
 use Rattle.std.specs.List.{AllByRecursion}
@@ -69,7 +69,7 @@ module _ (net : Net) (site : Site) (now : ℕ) (links : AllByRecursion (IsLink n
   -- ---- start_at and start_next
 
   module _ (a : Outgoing) (is_station : HasStation net a.sender.station) where
-    -- where nobody waits, nobody is started
+    -- if no job waits, none is started
     start_at-None : (n handled : ℕ) (s : ServerState) → length s.waiting ≡ 0 → IsBusyBut (suc n) handled s
         → Holds (IsBusyBut n handled) 1 a (reaction s a)
     start_at-None n handled s nobody b = record {
@@ -100,7 +100,7 @@ module _ (net : Net) (site : Site) (now : ℕ) (links : AllByRecursion (IsLink n
       grown = grown-later net now a is_station s.lo s.hi (Done job) (λ job. job) b.rules.service.above;
     }
 
-    -- so it is with what stands at a place, which is in the line where somebody waits
+    -- so it is with the job at a place, which is in the line if a job waits
     start_at-good : (n handled place : ℕ) (s : ServerState) → s.busy < s.servers
         → (1 ≤ length s.waiting → place < length s.waiting) → IsBusyBut (suc n) handled s
         → Holds (IsBusyBut n handled) 1 a (start_at now place (slice_get s.waiting place) s a)
@@ -147,7 +147,7 @@ module _ (net : Net) (site : Site) (now : ℕ) (links : AllByRecursion (IsLink n
 
   -- ---- start_times
 
-  -- a sender that has grown is a station where the one before is
+  -- a sender that has grown is a station if the one before is
   station_along : (n : ℕ) (a b : Outgoing) → Grown net now n a b → HasStation net a.sender.station
       → HasStation net b.sender.station
   station_along n a b g is = rw g.station is
@@ -170,7 +170,7 @@ module _ (net : Net) (site : Site) (now : ℕ) (links : AllByRecursion (IsLink n
 
     -- ---- server_job
 
-    -- where a job comes, the server fits one message more and sends at most `MOST_SENDS` messages
+    -- if a job arrives, the server fits one more message and sends at most `MOST_SENDS` messages
     server_job-good : (handled : ℕ) (job : JobOf) (s : ServerState) → FitsServer handled s
         → Holds (FitsServer (handled + 1)) MOST_SENDS a (server_job now job s a)
     server_job-good handled job s f = by (nat_lt s.busy s.servers) (nat_lt (length s.waiting) s.room) refl refl
@@ -223,7 +223,7 @@ module _ (net : Net) (site : Site) (now : ℕ) (links : AllByRecursion (IsLink n
 
     -- ---- server_done
 
-    -- where a service ends, the server fits one message more and sends at most `MOST_SENDS` messages
+    -- if a service ends, the server fits one more message and sends at most `MOST_SENDS` messages
     server_done-good : (handled : ℕ) (job : JobOf) (s : ServerState) → FitsServer handled s
         → Holds (FitsServer (handled + 1)) MOST_SENDS a (server_done net site now job s a)
     server_done-good handled job s f = by (nat_lt 0 s.busy) refl
@@ -257,7 +257,7 @@ module _ (net : Net) (site : Site) (now : ℕ) (links : AllByRecursion (IsLink n
 
     -- ---- server_set
 
-    -- where a parameter changes that a server takes, it fits one message more and sends at most `MOST_SENDS` messages
+    -- if a parameter changes as the server accepts, it fits one more message and sends at most `MOST_SENDS` messages
     server_change-good : (handled : ℕ) (p : Param) (c : Change) (s : ServerState) → c.param ≡ p
         → is_accepted site c ≡ true → FitsServer handled s
         → Holds (FitsServer (handled + 1)) MOST_SENDS a (server_change net site now p c.a c.b s a)
@@ -313,7 +313,7 @@ module _ (net : Net) (site : Site) (now : ℕ) (links : AllByRecursion (IsLink n
     server_change-good handled Weight c s is accepted f =
         record { holds = server-later handled s f; grown = grown-same net now MOST_SENDS a }
 
-    -- so it does where any change comes
+    -- so it does for every change
     server_set-good : (handled : ℕ) (c : Change) (s : ServerState) → FitsServer handled s
         → Holds (FitsServer (handled + 1)) MOST_SENDS a (server_set net site now c s a)
     server_set-good handled c s f = by (is_accepted site c) refl
@@ -327,7 +327,7 @@ module _ (net : Net) (site : Site) (now : ℕ) (links : AllByRecursion (IsLink n
 
     -- ---- server_on
 
-    -- whatever message comes, a server keeps what servers keep, and sends as stations send
+    -- for every message, a server keeps its invariant, and sends as stations send
     pub server_on-good : (handled : ℕ) (p : Payload) (s : ServerState) → FitsServer handled s
         → Holds (FitsServer (handled + 1)) MOST_SENDS a (server_on net site now p s a)
     server_on-good handled (Job j) s f = server_job-good handled j s f

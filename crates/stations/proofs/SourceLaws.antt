@@ -1,4 +1,4 @@
--- What a source keeps, and what it sends.
+-- The invariant of a source, and its sends.
 use Rattle.std.proofs.Common.{◌≡◌, ℕ, ◌+◌, ◌≤◌, Bool, true, false, nat_lt, if◌then◌else◌, refl, arith}
 use Rattle.std.specs.List.{AllByRecursion}
 use Rattle.sim_base.specs.declared.message.Job.{Job as JobOf}

@@ -1,4 +1,4 @@
--- What starting a waiting job changes.
+-- The changes when a waiting job starts.
 use Rattle.std.proofs.Common.{◌≡◌, ℕ, suc, ◌+◌, ◌-◌, ◌<◌, ◌≤◌, ap, nat_lt, Bool, true}
 use Rattle.std.proofs.Common.{false, if◌then◌else◌, refl, length, length-append, Option, Some, None, slice_get, arith}
 use Rattle.sim_base.specs.declared.message.Job.{Job as JobOf}
@@ -17,7 +17,7 @@ pub record IsOneMore (a b : Reaction ServerState) : Type 0 where
   pub lo : b.state.lo ≡ a.state.lo
   pub hi : b.state.hi ≡ a.state.hi
 
--- what stays as it is is so
+-- a reaction is at most one more than itself
 IsOneMore-same : (a : Reaction ServerState) → IsOneMore a a
 IsOneMore-same a = record { next = omega arith; draws = omega arith; sends = omega arith; lo = refl; hi = refl }
 
@@ -30,7 +30,7 @@ start_at-one now place None s o = IsOneMore-same (reaction s o)
 start_at-one now place (Some job) s o =
     record { next = omega arith; draws = omega arith; sends = simp length-append (omega arith); lo = refl; hi = refl }
 
--- so it is where a server is free or not
+-- so it is if a server is free or not
 pub start_next-one : (net : Net) (site : Site) (now : ℕ) (s : ServerState) (o : Outgoing)
     → IsOneMore (reaction s o) (start_next net site now s o)
 start_next-one net site now s o = by (nat_lt s.busy s.servers)
@@ -42,7 +42,7 @@ start_next-one net site now s o = by (nat_lt s.busy s.servers)
     by true = start_at-one now (next_place net site s.waiting) (slice_get s.waiting (next_place net site s.waiting)) s o
     by false = IsOneMore-same (reaction s o)
 
--- of so many starts the next one is made
+-- the remaining starts begin with the next one
 pub start_times-more : (net : Net) (site : Site) (now times done : ℕ) (r : Reaction ServerState) → done < times
     → start_times (times - done) net site now r ≡ start_times (times - (done + 1)) net site now
     (start_next net site now r.state r.out)

@@ -1,4 +1,4 @@
--- Delays: each job is held for a time, and nobody waits for another.
+-- Delays: each job is held for a time, independently of the others.
 use Rattle.std.specs.Prelude.{ℕ, ◌+◌, if◌then◌else◌}
 use Rattle.sim_base.specs.declared.message.Job.{Job as JobOf}
 use Rattle.sim_base.specs.declared.message.Change.{Change}
@@ -17,11 +17,11 @@ delay_job site now job s o =
     let routed = after_pick weights o in
     send_over (link_by site.links weights o) (now + range_of s.lo s.hi routed.sender.draws) job (draw routed)
 
--- the range of the times changes, for jobs that come later
+-- the range of the times changes, for later jobs
 abbrev pub delay_set : Site → Change → DelayState → DelayState
 delay_set site c s = if is_accepted site c then record s { lo = c.a; hi = c.b } else s
 
--- what a delay does at a message: a job is passed on, a change is made, and all else is nothing to it
+-- a delay handles a message: a job is passed on, a change is made, and everything else is ignored
 abbrev pub delay_on : Site → ℕ → Payload → DelayState → Outgoing → Reaction DelayState
 delay_on site now (Job j) s o = reaction (record s { passed = s.passed + 1 }) (delay_job site now j s o)
 delay_on site now (Set c) s o = reaction (delay_set site c s) o

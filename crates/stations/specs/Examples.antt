@@ -1,6 +1,6 @@
--- The worked examples, and how they write a log entry: as a line of a trace text reads. So
+-- The worked examples, and their notation for a log entry, which is like a line of a trace text. The line
 --     5 desk gate 1 job gate.0 busy=1 wait=0 done=0 lost=0
--- is `at 5 desk gate 1 (job gate 0 3) (server 1 0 0 0)`, the job having been made at 3.
+-- is `at 5 desk gate 1 (job gate 0 3) (server 1 0 0 0)`, for a job made at 3.
 use Rattle.std.specs.Prelude.{ℕ, List, None}
 use Rattle.sim_base.specs.Clones.{Clone}
 use Rattle.sim_base.specs.declared.message.Msg.{Msg}
@@ -36,7 +36,7 @@ at time receiver sender number payload line =
 abbrev pub analyst : ℕ
 analyst = 0
 
--- what a source sends itself
+-- a source's message to itself
 abbrev pub tick : Payload
 tick = Tick
 
@@ -44,7 +44,7 @@ tick = Tick
 abbrev pub job : ℕ → ℕ → ℕ → Payload
 job source count born = Job (record { source = source; count = count; born = born })
 
--- the same of the job whose service ends
+-- the same for the job whose service ends
 abbrev pub done : ℕ → ℕ → ℕ → Payload
 done source count born = Done (record { source = source; count = count; born = born })
 

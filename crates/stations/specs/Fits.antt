@@ -1,4 +1,4 @@
--- What every state of a station keeps, and when it is one of a station of the network.
+-- The invariant of every state of a station, and the states of a network's stations.
 use Rattle.std.specs.Prelude.{◌≡◌, ℕ, ◌+◌, ◌*◌, ◌≤◌, ◌⊎◌, List, length, Some}
 use Rattle.std.specs.List.{AllByRecursion}
 use Rattle.sim_base.specs.Weights.{IsWeight}
@@ -21,7 +21,7 @@ use Rattle.stations.specs.declared.kind_state.SinkState.{SinkState}
 use Rattle.stations.specs.Handling.{StateView}
 use Rattle.stations.specs.declared.sender.TheConstants.{ALL_STAYS, ALL_TIMES, MOST_SENDS}
 
--- links over which jobs may go
+-- links over which jobs may travel
 pub record AreLinks (links : List Link) : Type 0 where
   pub some : 1 ≤ length links
   pub few : length links ≤ MOST_LINKS
@@ -40,7 +40,7 @@ pub record FitsSource (handled : ℕ) (s : SourceState) : Type 0 where
   pub jobs : s.jobs ≤ MOST_JOBS
   pub sent : s.sent ≤ MOST_JOBS + handled
 
--- a server's parameters keep to the rules, and nobody waits beside a free server
+-- a server's parameters keep the rules, and no job waits while a server is free
 pub record FitsServer (handled : ℕ) (s : ServerState) : Type 0 where
   pub rules : IsServer s.servers s.room s.lo s.hi
   pub busy : s.busy ≤ MOST_SERVERS
@@ -65,7 +65,7 @@ pub record FitsSink (handled : ℕ) (s : SinkState) : Type 0 where
   pub got : s.got ≤ handled
   pub stay : s.stay ≤ ALL_STAYS + ALL_TIMES * handled
 
--- what a state of each kind keeps, after so many messages were handled
+-- the invariant of each kind's state, after `handled` messages
 abbrev pub FitsKind : ℕ → KindState → Type 0
 FitsKind handled (Source s) = FitsSource handled s
 FitsKind handled (Server s) = FitsServer handled s
@@ -73,18 +73,19 @@ FitsKind handled (Delay s) = FitsDelay handled s
 FitsKind handled (Router s) = FitsRouter handled s
 FitsKind handled (Sink s) = FitsSink handled s
 
--- what a kind keeps whatever the times of the messages are: the stays of a sink may be any
+-- the invariant of a kind for any times of messages: the stays of a sink are then unbounded
 abbrev pub GoodKind : ℕ → KindState → Type 0
 GoodKind handled (Sink s) = Unit {0}
 GoodKind handled s = FitsKind handled s
 
--- the sender is a station, and has used at most so many numbers and draws for each message and for the opening
+-- the sender is a station, and has used at most `MOST_SENDS` numbers and draws for each message
+-- and for the opening
 pub record FitsSender (handled : ℕ) (s : Sender) : Type 0 where
   pub station : 1 ≤ s.station
   pub next : s.next ≤ MOST_SENDS * (handled + 1)
   pub draws : s.draws.count ≤ MOST_SENDS * (handled + 1)
 
--- a state keeps what its sender keeps and what its kind keeps, after as many messages as it handled
+-- the invariants of the sender and of the kind, after the handled messages
 pub record FitsState (st : StateView) : Type 0 where
   pub sender : FitsSender st.handled st.sender
   pub kind : FitsKind st.handled st.kind
@@ -98,7 +99,7 @@ IsOfKind site (kind.Router turn) (Router s) = length s.weights.items ≡ length 
 IsOfKind site kind.Sink (Sink s) = Unit {0}
 IsOfKind _ _ _ = ⊥
 
--- a state is one of a station of the network
+-- the state is that of a station of the network
 pub record SuitsNet (net : Net) (st : StateView) : Type 0 where
   pub site : Site
   pub is_there : site_at net st.sender.station ≡ Some site

@@ -19,8 +19,8 @@ use Rattle.stations.specs.declared.saved.Shape.TheVariants as shape
 abbrev pub is_job_of : Net → JobOf → Bool
 is_job_of net j = is_source (site_of net j.source).kind && (nat_lt j.count MOST_JOBS && nat_lt j.born net.horizon)
 
--- whether a shape fits a station of this kind that has handled this number of messages: its parameters are in range,
--- its counts are within their bounds, and sources may have made the jobs that wait
+-- whether a shape fits a station of this kind that has handled this number of messages. Its parameters must be in range
+-- and its counts within their bounds, and sources may have made the waiting jobs
 abbrev pub fits_shape : Net → Site → ℕ → Kind → Shape → Bool
 fits_shape net site handled (kind.Source lo hi jobs class) (shape.Source low high sent) =
     is_range 1 low high && nat_le sent jobs

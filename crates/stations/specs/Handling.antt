@@ -16,13 +16,13 @@ use Rattle.stations.specs.Delays.{delay_on}
 use Rattle.stations.specs.Routers.{router_on}
 use Rattle.stations.specs.Sinks.{sink_on}
 
--- the state of a station: its sender, how many messages it has handled, and what its kind keeps
+-- the state of a station: its sender, the number of messages handled, and the state of its kind
 pub record StateView : Type 0 where
   pub sender : Sender
   pub handled : ℕ
   pub kind : KindState
 
--- what a kind does not take changes nothing and sends nothing
+-- a message that a kind does not handle changes nothing and sends nothing
 abbrev pub kind_on : Net → Site → ℕ → Payload → KindState → Outgoing → Reaction KindState
 kind_on net site now p (Source s) o = reaction_as Source (source_on site now p s o)
 kind_on net site now p (Server s) o = reaction_as Server (server_on net site now p s o)
@@ -30,7 +30,7 @@ kind_on net site now p (Delay s) o = reaction_as Delay (delay_on site now p s o)
 kind_on net site now p (Router s) o = reaction_as Router (router_on site now p s o)
 kind_on net site now p (Sink s) o = reaction (Sink (sink_on now p s)) o
 
--- the counts of a station, as its log shows them
+-- the counts of a station, as in its log
 abbrev pub line_of : KindState → Line
 line_of (Source s) = line.Source s.sent
 line_of (Server s) = line.Server s.busy (length s.waiting) s.done s.lost
@@ -38,7 +38,7 @@ line_of (Delay s) = line.Passed s.passed
 line_of (Router s) = line.Passed s.passed
 line_of (Sink s) = line.Sink s.got s.stay
 
--- what was handled, as a reaction tells it: the state with this count of messages, the sends, the counts
+-- the outcome of a handling, from a reaction: the state with this count of messages, the sends, the counts
 abbrev pub handled_as : ℕ → Reaction KindState → Outcome StateView Msg Line
 handled_as count r = record {
   state = record { sender = r.out.sender; handled = count; kind = r.state };

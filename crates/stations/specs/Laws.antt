@@ -1,4 +1,4 @@
--- Laws of these stations, in words that contracts cite: what a log leads to, and how what they send is numbered.
+-- The laws of these stations, as statements that contracts cite: the replay of a log, and the numbering of sends.
 use Rattle.std.specs.Prelude.{◌≡◌, ℕ, ◌+◌, ◌*◌, ◌<◌, ◌≤◌, List, [], ◌∷◌, ◌++◌, length}
 use Rattle.std.specs.List.{AllByRecursion}
 use Rattle.sim_base.specs.Clones.{Clone}
@@ -30,17 +30,17 @@ module _ (net : Net) where
   abbrev pub ReplaySuits : Type 0
   ReplaySuits = (s : ℕ) (log : List (Entry Msg Line)) → HasStation net s → SuitsNet net (replay net s log)
 
-  -- and it keeps what every state keeps, where the times are early
+  -- and it meets the invariant of every state, if the times are below `ALL_TIMES`
   abbrev pub ReplayFits : Type 0
   ReplayFits = (s : ℕ) (log : List (Entry Msg Line)) → HasStation net s →
       AllByRecursion (λ e. e.msg.key.time < ALL_TIMES) log → FitsState (replay net s log)
 
-  -- the replay of one entry more is what its message leads to from the replay
+  -- the replay of one more entry is the replay followed by its message
   abbrev pub ReplayGoesOn : Type 0
   ReplayGoesOn = (s : ℕ) (log : List (Entry Msg Line)) (e : Entry Msg Line) →
       replay net s (log ++ e ∷ []) ≡ (handle net (replay net s log) e.msg).state
 
-  -- a station opens with at most one message, and a message that it handles makes it send at most so many; each of them
+  -- a station opens with at most one message, and sends at most `MOST_SENDS` for each that it handles; each of them
   -- gets the next number
   pub record SendsNextNumbers : Type 0 where
     pub opens : (s : ℕ) → (setup net s).state.sender.next ≤ 1
@@ -50,22 +50,22 @@ module _ (net : Net) where
     pub sends : (s : ℕ) (st : StateView) (m : Msg) → IsGood net s st →
         AreSends net m.key.time s st.sender.next (handle net st m).sends
 
-  -- so the next number of a station is small, measured by its log
+  -- so the next number of a station is bounded by its log
   abbrev pub NumbersAreSmall : Type 0
   NumbersAreSmall = (s : ℕ) (log : List (Entry Msg Line)) →
       (replay net s log).sender.next ≤ MOST_SENDS * (length log + 1)
 
-  -- a job that is sent comes by the lookahead later or more, also where its link goes back to its own station
+  -- a sent job comes later by the lookahead or more, even over a link back to its own station
   abbrev pub JobsTakeTheLookahead : Type 0
   JobsTakeTheLookahead = (s : ℕ) (st : StateView) (m z : Msg) → IsGood net s st → In z (handle net st m).sends →
       IsJob z.payload → m.key.time + net.lookahead ≤ z.key.time
 
-  -- a message's sender is the analyst, who is 0, or a station, and its number fits a word
+  -- a message's sender is the analyst (0) or a station, and its number fits a word
   pub record HasSmallKey (k : Key) : Type 0 where
     pub sender : k.sender ≤ length net.sites
     pub number : k.number < WORD_NUMBERS
 
-  -- at a front no station's log is beyond the limit, and the list has decisions for stations alone, whose numbers fit
+  -- at a front no station's log is beyond the limit, and the decisions are all for stations, with numbers that fit
   pub record HasFewNumbers (c : Clone) (front : ℕ) : Type 0 where
     pub there : AreForStations (simulation net) c.plans
     pub short : length c.plans ≤ WORD_NUMBERS

@@ -11,7 +11,7 @@ use Rattle.stations.specs.Sending.{Outgoing, weights_of}
 use Rattle.stations.specs.Sources.{next_tick}
 use Rattle.stations.specs.Handling.{StateView}
 
--- what a kind keeps before any message came
+-- the state of a kind before any message
 abbrev pub opening_kind : Site → Kind → KindState
 opening_kind site (kind.Source lo hi jobs class) = Source (record { lo = lo; hi = hi; jobs = jobs; sent = 0 })
 opening_kind site (kind.Server servers room lo hi by_class) =
@@ -26,7 +26,7 @@ abbrev pub first_tick : KindState → Outgoing → Outgoing
 first_tick (Source s) o = next_tick 0 s o
 first_tick _ o = o
 
--- an opening with this state, and with the first message that was sent, if there is one
+-- an opening with this state, and with the first message, if there is one
 abbrev pub opening_of : KindState → Outgoing → OpeningOf StateView Msg
 opening_of first_state o = record {
   state = record { sender = o.sender; handled = 0; kind = first_state };
@@ -47,6 +47,6 @@ station_opening seed s site =
       sends = [];
     }))
 
--- the opening of the station of this number in a network
+-- the opening of the station with this number in a network
 abbrev pub setup : Net → ℕ → OpeningOf StateView Msg
 setup net s = station_opening net.seed s (site_of net s)

@@ -1,4 +1,4 @@
--- Routers: each job goes on at once, over a link that the router chooses.
+-- Routers: each job moves on at once, over a link that the router chooses.
 use Rattle.std.specs.Prelude.{ℕ, ◌+◌, ◌-◌, ◌%◌, if◌then◌else◌, length, slice_get, slice_set}
 use Rattle.sim_base.specs.declared.message.Job.{Job as JobOf}
 use Rattle.sim_base.specs.declared.message.Change.{Change}
@@ -21,7 +21,7 @@ abbrev pub router_set : Site → Change → RouterState → RouterState
 router_set site c s = if is_accepted site c then record s
     { weights = record { items = slice_set s.weights.items (c.a - 1) c.b } } else s
 
--- what a router does at a message: a job is passed on, a change is made, and all else is nothing to it
+-- a router handles a message: a job is passed on, a change is made, and everything else is ignored
 abbrev pub router_on : Site → ℕ → Payload → RouterState → Outgoing → Reaction RouterState
 router_on site now (Job j) s o = reaction (record s { passed = s.passed + 1 }) (router_job site now j s o)
 router_on site now (Set c) s o = reaction (router_set site c s) o

@@ -1,4 +1,4 @@
--- The runs of a network: the definitions of a run, at the stations' behaviour.
+-- The runs of a network: the definitions of a run, applied to its stations.
 use Rattle.std.specs.Prelude.{ℕ, List, length}
 use Rattle.sim_base.specs.Order.{msg_cmp}
 use Rattle.sim_base.specs.Clones.{Clone}
@@ -47,7 +47,7 @@ simulation net = record {
 abbrev pub trace_of : Net → Clone → List (Entry Msg Line)
 trace_of net c = runs.trace_of (simulation net) c
 
--- what a station of a clone has handled before a front
+-- the log of a station of a clone before a front
 abbrev pub log_at : Net → Clone → ℕ → ℕ → List (Entry Msg Line)
 log_at net c s front = runs.log_at (simulation net) c s front
 
@@ -59,7 +59,7 @@ replay net s log = world.replay (λ (m : Msg). m.to) (λ (r : ℕ). handle net) 
 abbrev pub state_at : Net → Clone → ℕ → ℕ → StateView
 state_at net c s front = runs.state_at (simulation net) c s front
 
--- one station's window by itself, from what it is in a clone at a front, to a bound
+-- one station's window alone, from its state in a clone at a front, to a bound
 abbrev pub window : Net → Clone → ℕ → ℕ → ℕ → Config (LocalStation StateView Msg Line) Msg
 window net c s front bound = laws.window (simulation net) c s front bound
 

@@ -1,4 +1,4 @@
--- The state of a station as plain data, and the state that such data restores.
+-- The state of a station as plain data, and the state restored from such data.
 use Rattle.std.specs.Prelude.{ℕ, Option, Some, None, option_map}
 use Rattle.net_model.specs.declared.station.Kind.{Kind}
 use Rattle.net_model.specs.declared.station.Kind.TheVariants as kind
@@ -11,7 +11,7 @@ use Rattle.stations.specs.declared.saved.Saved.{Saved}
 use Rattle.stations.specs.declared.saved.Shape.{Shape}
 use Rattle.stations.specs.declared.saved.Shape.TheVariants as shape
 
--- the shape of what a kind keeps
+-- the shape of a kind's state
 abbrev pub shape_of : KindState → Shape
 shape_of (Source s) = shape.Source s.lo s.hi s.sent
 shape_of (Server s) = shape.Server s.servers s.room s.lo s.hi s.busy s.done s.lost s.waiting
@@ -28,7 +28,7 @@ saved_of st = record {
   shape = shape_of st.kind;
 }
 
--- what a server keeps that has this shape; None if the shape is of another kind
+-- the server state with this shape; None if the shape is of another kind
 abbrev pub restored_server : Shape → Option ServerState
 restored_server (shape.Server servers room lo hi busy done lost line) = Some (record {
   servers = servers;
@@ -42,7 +42,7 @@ restored_server (shape.Server servers room lo hi busy done lost line) = Some (re
 })
 restored_server _ = None
 
--- what a station of a kind keeps if it has this shape; None if the shape is of another kind
+-- the state of a kind with this shape; None if the shape is of another kind
 abbrev pub restored_kind : Kind → Shape → Option KindState
 restored_kind (kind.Source lo hi jobs class) (shape.Source low high sent) =
     Some (Source (record { lo = low; hi = high; jobs = jobs; sent = sent }))
@@ -54,7 +54,7 @@ restored_kind (kind.Router turn) (shape.Router passed weights) =
 restored_kind kind.Sink (shape.Sink got stay) = Some (Sink (record { got = got; stay = stay }))
 restored_kind _ _ = None
 
--- the state of station s that plain data restores: its draws go on where they were
+-- the state of station s restored from plain data; its draws continue where they were
 abbrev pub restored : Net → ℕ → Saved → Option StateView
 restored net s saved = option_map (λ (k : KindState). let st : StateView = record {
   sender = record {

@@ -1,4 +1,4 @@
--- What a station sends.
+-- The messages that a station sends.
 use Rattle.std.specs.Prelude.{ℕ, ◌+◌, ◌*◌, ◌<◌, ◌≤◌, List, [], ◌∷◌, ◌++◌, map, slice_get, Option, Some, None}
 use Rattle.sim_base.specs.declared.message.Msg.{Msg}
 use Rattle.sim_base.specs.declared.message.Job.{Job as JobOf}
@@ -9,24 +9,24 @@ use Rattle.net_model.specs.declared.station.Link.{Link}
 use Rattle.stations.specs.declared.sender.Sender.{Sender}
 use Rattle.stations.specs.declared.sender.TheConstants.{ALL_COUNTS, ALL_TIMES, MOST_SENDS}
 
--- a sender, and what it has sent since a message came, in order
+-- a sender, and the messages that it has sent since a message arrived, in order
 pub record Outgoing : Type 0 where
   pub sender : Sender
   pub sends : List Msg
 
--- the same, of its parts
+-- the same, from its parts
 abbrev pub outgoing : Sender → List Msg → Outgoing
 outgoing sender sends = record { sender = sender; sends = sends }
 
--- a station that has sent so many messages for the one that came at `now` may send so many more: its list has
--- places, its numbers and draws are far from their ends, and so is the time; a message takes at most two words drawn
+-- a station that has sent `sent` messages for the one that arrived at `now` may send `more`. Its list has places, its
+-- numbers, draws and time are far from their ends. A message takes at most two drawn words
 pub record MaySend (more now : ℕ) (sender : Sender) (sent : ℕ) : Type 0 where
   pub free : sent + more ≤ MOST_SENDS
   pub next : sender.next + more ≤ ALL_COUNTS
   pub draws : sender.draws.count + 2 * more ≤ ALL_COUNTS
   pub early : now < ALL_TIMES
 
--- one message more goes out, with the sender's next number
+-- one more message is sent, with the sender's next number
 abbrev pub send : ℕ → ℕ → Payload → Outgoing → Outgoing
 send time to payload o = record {
   sender = record o.sender { next = o.sender.next + 1 };
@@ -45,7 +45,7 @@ draw o = record o { sender = record o.sender { draws = after_draw o.sender.draws
 abbrev pub send_later : ℕ → ℕ → ℕ → Payload → Outgoing → Outgoing
 send_later now lo hi payload o = send (now + range_of lo hi o.sender.draws) o.sender.station payload (draw o)
 
--- a job goes over a link
+-- a job is sent over a link
 abbrev pub send_over : Option Link → ℕ → JobOf → Outgoing → Outgoing
 send_over None time job o = o
 send_over (Some link) time job o = send (time + link.delay) link.to (Job job) o
@@ -58,7 +58,7 @@ after_pick weights o = record o { sender = record o.sender { draws = after_pick_
 abbrev pub link_by : List Link → List ℕ → Outgoing → Option Link
 link_by links weights o = slice_get links (pick_of weights o.sender.draws)
 
--- a job goes over a link that is picked by these weights
+-- a job is sent over a link that is picked by these weights
 abbrev pub route_by : List Link → List ℕ → ℕ → JobOf → Outgoing → Outgoing
 route_by links weights time job o = send_over (link_by links weights o) time job (after_pick weights o)
 
@@ -66,16 +66,16 @@ route_by links weights time job o = send_over (link_by links weights o) time job
 abbrev pub weights_of : List Link → List ℕ
 weights_of links = map (λ (l : Link). l.weight) links
 
--- a job goes over one of the links, by the weights of the model
+-- a job is sent over one of the links, by the weights of the model
 abbrev pub route : List Link → ℕ → JobOf → Outgoing → Outgoing
 route links time job o = route_by links (weights_of links) time job o
 
--- what a message leads to: the new state of the station's kind, and what went out
+-- the result of a message: the new state of the station's kind, and the sends
 pub record Reaction (S : Type 0) : Type 0 where
   pub state : S
   pub out : Outgoing
 
--- the same, of its parts
+-- the same, from its parts
 abbrev pub reaction : {S : Type 0} → S → Outgoing → Reaction S
 reaction state out = record { state = state; out = out }
 

@@ -1,17 +1,17 @@
--- What holds of the messages that a station sends.
+-- Properties of the messages that a station sends.
 use Rattle.std.specs.Prelude.{◌≡◌, ◌≢◌, ℕ, suc, ◌+◌, ◌<◌, ◌≤◌, List, [], ◌∷◌}
 use Rattle.sim_base.specs.declared.message.Msg.{Msg}
 use Rattle.sim_base.specs.declared.message.Payload.{Payload}
 use Rattle.sim_base.specs.declared.message.Payload.TheVariants.{Job}
 use Rattle.net_model.specs.Net.{Net, HasStation}
 
--- jobs alone go over links: ticks and service completions are a station's own
+-- only jobs travel over links: ticks and service completions are a station's own
 abbrev pub IsJob : Payload → Type 0
 IsJob (Job job) = Unit {0}
 IsJob _ = ⊥
 
--- a message that station s sends at `now` with the number k: it comes later, to a station that is there;
--- to another station, and over any link, also one back to its own station, by the lookahead later or more
+-- a message that station s sends at `now` with the number k: it comes later, to an existing station. To another
+-- station, and over any link, it comes later by the lookahead or more
 pub record IsSend (net : Net) (now s k : ℕ) (m : Msg) : Type 0 where
   pub sender : m.key.sender ≡ s
   pub number : m.key.number ≡ k

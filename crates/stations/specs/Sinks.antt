@@ -4,7 +4,7 @@ use Rattle.sim_base.specs.declared.message.Payload.{Payload}
 use Rattle.sim_base.specs.declared.message.Payload.TheVariants.{Job}
 use Rattle.stations.specs.declared.kind_state.SinkState.{SinkState}
 
--- a sink counts the jobs, and adds up how long each was in the network
+-- a sink counts the jobs, and adds up their times in the network
 abbrev pub sink_on : ℕ → Payload → SinkState → SinkState
 sink_on now (Job j) s = record { got = s.got + 1; stay = s.stay + (now - j.born) }
 sink_on now _ s = s

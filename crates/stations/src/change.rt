@@ -1,4 +1,4 @@
-//! Whether a station takes a change.
+//! Whether a station accepts a change.
 ghost use Rattle.std.specs.Prelude.{◌≡◌};
 ghost use Rattle.net_model.specs.Net.{HasStation, site_of};
 ghost use Rattle.net_model.specs.Sites.{as_site};
@@ -8,7 +8,7 @@ use net_model::limits::{MOST_ROOM, MOST_SERVERS, MOST_WEIGHT, is_range};
 use net_model::{Kind, Model, Station};
 use sim_base::{Change, Param};
 
-/// Why a station does not take a change.
+/// Why a station does not accept a change.
 #[derive(Clone, Copy, Debug, PartialEq, Eq)]
 pub enum ChangeFault {
     /// Its kind has no such parameter.
@@ -17,10 +17,10 @@ pub enum ChangeFault {
     OutOfRange,
 }
 
-/// Whether a station of the model takes a change.
+/// Whether a station of the model accepts a change.
 ///
-/// `WrongParameter` comes exactly where its kind does not have the parameter, `OutOfRange` exactly where
-/// it does and a value is out of range.
+/// `WrongParameter` is returned exactly if its kind does not have the parameter, `OutOfRange` exactly if it does and a
+/// value is out of range.
 pub fn accepts(model: &Model, station: u32, change: &Change) -> Result<(), ChangeFault>
     requires is_station { HasStation model.now station }
     ensures { result ≡ accepts' (site_of model.now station) change.now }

@@ -1,4 +1,4 @@
-//! The message that tells a station of a decision of the analyst.
+//! The message that carries an analyst's decision to a station.
 ghost use Rattle.std.specs.Prelude.{◌≡◌};
 ghost use Rattle.stations.specs.Runs.{set_message as set_message'};
 

@@ -1,4 +1,4 @@
-//! Delays: each job is held for a time, and nobody waits for another.
+//! Delays: each job is held for a time, independently of the others.
 ghost use Rattle.std.specs.Prelude.{◌≡◌};
 ghost use Rattle.arrayvec.specs.ArrayVec.{array_vec_len};
 ghost use Rattle.net_model.specs.Rules.{IsRange};

@@ -1,4 +1,4 @@
-//! The lesser of two due times, the time stamps of next events, and where the window of the least one ends.
+//! The lesser of two due times (time stamps of next events), and the end of the window of the least one.
 ghost use Rattle.std.specs.Prelude.{◌≡◌};
 ghost use Rattle.net_model.specs.Rules.{IsNet};
 ghost use Rattle.run_laws.specs.Fronts.{earlier as earlier', window_end as window_end'};
@@ -6,7 +6,7 @@ ghost use Rattle.stations.specs.Runs.{simulation};
 
 use net_model::Model;
 
-/// The lesser of two times, where there is one.
+/// The lesser of two times that may be missing.
 pub fn earlier(a: Option<u64>, b: Option<u64>) -> Option<u64>
     ensures value { result ≡ earlier' a b }
 {
@@ -19,7 +19,7 @@ pub fn earlier(a: Option<u64>, b: Option<u64>) -> Option<u64>
     }
 }
 
-/// Where a window ends whose least message has this time: the lookahead later, and no later than the horizon.
+/// The end of a window whose least message has this time: the lookahead later, and at most the horizon.
 pub fn window_end(model: &Model, least: Option<u64>) -> u64
     ensures value { result ≡ window_end' (simulation model.now) least }
     ensures valid { IsNet model.now }

@@ -1,7 +1,7 @@
 //! Worked examples, computed by the checker from the definitions of a run alone.
 //!
-//! The models and the traces that are expected stand in `specs/Examples/`, an entry of a log written
-//! as a line of a trace text reads. Each function's contract is a theorem; there is nothing to run.
+//! The models and the expected traces are in `specs/Examples/`, with log entries written like lines of a trace text.
+//! Each function's contract is a theorem; there is nothing to run.
 ghost use Rattle.std.specs.Prelude.{◌≡◌, [], ◌∷◌, Some, true, false, filter};
 ghost use Rattle.std.specs.List.{list_all};
 ghost use Rattle.sim_base.specs.Clones.{base};
@@ -34,12 +34,12 @@ pub fn one_job_at_a_time()
     ensures { trace_of one_desk base ≡ one_desk_trace }
 {}
 
-/// Faster service from a time on: the service that has begun then stays as it was.
+/// Faster service from a time on: a service that has already begun does not change.
 pub fn faster_branch()
     ensures { trace_of one_desk fast ≡ fast_trace }
 {}
 
-/// Several messages of a station to itself, closer than the lookahead.
+/// Several messages of a station to itself, closer together than the lookahead.
 pub fn several_self_messages()
     ensures { trace_of quick_desk base ≡ quick_desk_trace }
 {}
@@ -49,27 +49,27 @@ pub fn drawn_times()
     ensures { trace_of drawn_gate base ≡ drawn_gate_trace }
 {}
 
-/// A decision at time 0 is handled before all else, and here changes nothing.
+/// A decision at time 0 is handled before everything else, and here changes nothing.
 pub fn set_at_the_start()
     ensures { trace_of one_desk set_at_start ≡ first_set ∷ one_desk_trace }
 {}
 
-/// Three jobs arrive at one time at a server without a waiting line: two are lost.
+/// Three jobs arrive at the same time at a server without a waiting line: two are lost.
 pub fn full_waiting_room()
     ensures { trace_of (three_sources 0) base ≡ no_room_trace }
 {}
 
-/// Three jobs arrive at one time; when servers are added, those who wait are served.
+/// Three jobs arrive at the same time; when servers are added, the waiting jobs are served.
 pub fn servers_are_added()
     ensures { trace_of (three_sources 5) more_servers ≡ more_servers_trace }
 {}
 
-/// Fewer servers end no service, and a smaller room sends nobody away.
+/// Fewer servers end no service, and a smaller room turns no waiting job away.
 pub fn fewer_servers_and_less_room()
     ensures { log_at (three_sources 5) less shared_desk 20 ≡ less_log }
 {}
 
-/// A router by turn, and a delay behind it: after the last link the first comes again, and nothing is drawn.
+/// A router by turn, followed by a delay: after the last link the first is used again, and nothing is drawn.
 pub fn router_by_turn()
     ensures trace { trace_of (fan_network true) base ≡ by_turn_trace }
     ensures drawn { (state_at (fan_network true) base fan 20).sender.draws.count ≡ 0 }
@@ -81,7 +81,7 @@ pub fn router_by_weights()
     ensures drawn { (state_at (fan_network false) base fan 20).sender.draws.count ≡ 3 }
 {}
 
-/// The weight of the first link becomes less: the jobs take the second.
+/// The weight of the first link is reduced: the jobs take the second.
 pub fn weight_that_changes()
     ensures { trace_of (fan_network false) lighter ≡ lighter_trace }
 {}
@@ -96,7 +96,7 @@ pub fn priority_classes()
     ensures { trace_of (two_classes true) base ≡ by_class_trace }
 {}
 
-/// The same network with the waiting line served as the jobs came.
+/// The same network with the waiting line served in the order of arrival.
 pub fn classes_by_arrival()
     ensures { trace_of (two_classes false) base ≡ by_arrival_trace }
 {}
@@ -106,7 +106,7 @@ pub fn a_clone_that_ends()
     ensures { trace_of one_desk brief ≡ brief_trace }
 {}
 
-/// Which changes stations take, and why they refuse the others.
+/// The changes that stations accept, and the reasons for refusing the others.
 pub fn changes_that_stations_take()
     ensures server { answers one_desk desk server_changes ≡ server_answers }
     ensures delay { answers (fan_network true) 3 delay_changes ≡ delay_answers }
@@ -114,7 +114,7 @@ pub fn changes_that_stations_take()
     ensures by_turn { answers (fan_network true) 2 weight_changes ≡ turn_answers }
 {}
 
-/// Messages that a station's kind does not take change nothing but its count of messages.
+/// Messages that a station's kind does not handle change only its count of messages.
 pub fn messages_that_stations_ignore()
     ensures job_at_source { IsIgnored one_desk gate (job gate 0 3) }
     ensures tick_at_server { IsIgnored one_desk desk tick }
@@ -125,7 +125,7 @@ pub fn messages_that_stations_ignore()
     ensures set_at_sink { IsIgnored one_desk out (set Service 2 2) }
 {}
 
-/// A station by itself, window after window, comes to the logs and states of the run.
+/// A station alone, window after window, reaches the logs and states of the run.
 pub fn windows_of_one_station()
     ensures first_log { (window one_desk base desk 5 7).at.log ≡ log_at one_desk base desk 7 }
     ensures first_state { (window one_desk base desk 5 7).at.state ≡ state_at one_desk base desk 7 }
@@ -139,7 +139,7 @@ pub fn replayed_state()
     ensures replayed { replay one_desk desk (log_at one_desk fast desk 20) ≡ fast_desk }
 {}
 
-/// The desk's log has four entries: beyond a limit of three, and the gate's two are not.
+/// The desk's log has four entries and is beyond a limit of three; the gate's has two and is not.
 pub fn beyond_the_limit()
     ensures desk { IsBeyond short_logs desk 20 base }
     ensures gate { ¬ (IsBeyond short_logs gate 20 base) }
@@ -165,7 +165,7 @@ pub fn report_of_two_branches()
     ensures out_alone { handled_alone one_desk two_branches out 20 ≡ 4 }
 {}
 
-/// The states of the three stations at 10 as plain data, which restores them.
+/// The states of the three stations at 10 as plain data, and restored from it.
 pub fn states_as_plain_data()
     ensures gate { saved_of (state_at one_desk base gate 10) ≡ gate_at_10 }
     ensures desk { saved_of (state_at one_desk base desk 10) ≡ desk_at_10 }
@@ -175,7 +175,7 @@ pub fn states_as_plain_data()
     ensures out_again { restored one_desk out out_at_10 ≡ Some (state_at one_desk base out 10) }
 {}
 
-/// Plain data at the bounds of what fits a station.
+/// Plain data at the bounds that fit a station.
 pub fn data_at_the_bounds()
     ensures sources { list_all (fits_saved one_desk gate) sources_at_bounds ≡ true }
     ensures servers { list_all (fits_saved one_desk desk) servers_at_bounds ≡ true }

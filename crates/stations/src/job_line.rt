@@ -7,7 +7,7 @@ use crate::restoring::is_job;
 use net_model::Model;
 use sim_base::Job;
 
-/// The jobs of a waiting line in the order in which they came, as plain data.
+/// The jobs of a waiting line in the order of arrival, as plain data.
 #[derive(Drop)]
 pub struct JobLine {
     jobs: Vec<Job>,
@@ -23,21 +23,21 @@ impl std::marker::Model for JobLine {
 }
 
 impl JobLine {
-    /// The line that has the jobs of a vector; takes no memory.
+    /// The line with the jobs of a vector. Allocates nothing.
     pub fn of(jobs: Vec<Job>) -> JobLine
         ensures { result ≡ jobs.items }
     {
         JobLine { jobs }
     }
 
-    /// The vector of the jobs; takes no memory.
+    /// The vector of the jobs. Allocates nothing.
     pub fn into_vec(self) -> Vec<Job>
         ensures { result.items ≡ self }
     {
         self.jobs
     }
 
-    /// How many jobs the line has.
+    /// The number of jobs in the line.
     pub fn len(&self) -> usize
         ensures { result ≡ length self.now }
     {

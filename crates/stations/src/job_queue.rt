@@ -7,7 +7,7 @@ use std::alloc::Global;
 use std::collections::VecDeque;
 use std::marker::Model;
 
-/// Jobs that wait, in the order in which they came.
+/// The waiting jobs, in the order of arrival.
 #[derive(Drop)]
 pub struct JobQueue {
     jobs: VecDeque<Job>,
@@ -23,7 +23,7 @@ impl Model for JobQueue {
 }
 
 impl JobQueue {
-    /// Nobody waits.
+    /// An empty line.
     pub fn new(alloc: Global) -> JobQueue
         ensures { result ≡ [] }
     {
@@ -32,7 +32,7 @@ impl JobQueue {
         }
     }
 
-    /// How many jobs wait.
+    /// The number of waiting jobs.
     pub fn len(&self) -> usize
         ensures { result ≡ length self.now }
     {
@@ -47,7 +47,7 @@ impl JobQueue {
         self.jobs[place]
     }
 
-    /// A job goes to the end of the line. Out of memory leaves all unchanged.
+    /// Appends a job to the line. If out of memory, changes nothing.
     pub fn push(&mut self, job: Job) -> Result<(), NoMemory>
         ensures ok { OnOk result (self.new ≡ self.old ++ job ∷ []) }
         ensures err { OnErr result (self.new ≡ self.old) }
@@ -56,7 +56,7 @@ impl JobQueue {
         Ok(())
     }
 
-    /// The job at a place leaves the line, None exactly where nobody stands there.
+    /// Removes and returns the job at a place, or None if there is none.
     pub fn take(&mut self, place: usize) -> Option<Job>
         ensures value { result ≡ slice_get self.old place }
         ensures some { IfSome result (λ _. self.new ≡ remove self.old place) }
@@ -65,7 +65,7 @@ impl JobQueue {
         self.jobs.remove(place)
     }
 
-    /// A line of its own with the same jobs.
+    /// A copy of the line with the same jobs.
     pub fn copy(&self, alloc: Global) -> Result<JobQueue, NoMemory>
         ensures { IfOk result (λ q. q ≡ self.now) }
     {

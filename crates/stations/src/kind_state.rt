@@ -1,10 +1,10 @@
-//! What each kind of station (a logical process) keeps: parameters, such as a server's queue capacity, the jobs that
-//! wait, and counts, such as the jobs blocked at a full queue; a sink also sums up times in system.
+//! The state of each kind of station (a logical process). It has parameters, such as a server's queue capacity, waiting
+//! jobs, and counts, such as the jobs blocked at a full queue. A sink also sums up times in system.
 use crate::job_queue::JobQueue;
 use arrayvec::ArrayVec;
 use net_model::limits::MOST_LINKS;
 
-/// A source: the range of its times between jobs, how many jobs it makes, and how many it has sent.
+/// A source: the range of its times between jobs, the number of jobs that it makes, and of those that it has sent.
 #[derive(Clone, Copy, Debug, PartialEq, Eq)]
 pub struct SourceState {
     pub lo: u64,
@@ -26,7 +26,7 @@ pub struct ServerState {
     pub lost: u64,
 }
 
-/// A delay: the range of its times, and how many jobs it has passed on.
+/// A delay: the range of its times, and the number of jobs that it has passed on.
 #[derive(Clone, Copy, Debug, PartialEq, Eq)]
 pub struct DelayState {
     pub lo: u64,
@@ -34,21 +34,21 @@ pub struct DelayState {
     pub passed: u64,
 }
 
-/// A router: the weights of its links, and how many jobs it has passed on.
+/// A router: the weights of its links, and the number of jobs that it has passed on.
 #[derive(Drop)]
 pub struct RouterState {
     pub weights: ArrayVec<u32, MOST_LINKS>,
     pub passed: u64,
 }
 
-/// A sink: how many jobs came, and the sum of their times in the network.
+/// A sink: the number of jobs that arrived, and the sum of their times in the network.
 #[derive(Clone, Copy, Debug, PartialEq, Eq)]
 pub struct SinkState {
     pub got: u64,
     pub stay: u64,
 }
 
-/// What a station keeps beside its sender: its parameters and counts, by its kind.
+/// The state of a station except its sender: its parameters and counts, by its kind.
 #[derive(Drop)]
 pub enum KindState {
     Source(SourceState),

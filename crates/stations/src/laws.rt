@@ -1,5 +1,5 @@
-//! The laws of runs, carried to these stations: each function's contract is a law of every network that
-//! keeps the rules of a model, and there is nothing to run.
+//! The laws of runs, applied to these stations. Each function's contract is a law of every network that keeps the rules
+//! of a model, and there is nothing to run.
 ghost use Rattle.net_model.specs.Net.{Net};
 ghost use Rattle.net_model.specs.Rules.{IsNet};
 ghost use Rattle.run_laws.specs.Handlers.{HandlesLawfully, SendsToStations, HandlesFreshly};
@@ -10,8 +10,8 @@ ghost use Rattle.stations.specs.Laws.{ReplayGoesOn, SendsNextNumbers, NumbersAre
 ghost use Rattle.stations.specs.Laws.{LogKeysAreSmall, JobsTakeTheLookahead};
 ghost use Rattle.stations.specs.Runs.{simulation};
 
-/// What the laws of runs ask of stations: each keeps what its kind keeps, sends later, to another station
-/// by the lookahead later, to stations that are there, and numbers what it sends.
+/// The stations meet the requirements of the laws of runs. Each keeps the invariant of its kind, sends later, and to
+/// another station later by at least the lookahead. It sends only to existing stations, and numbers its messages.
 pub fn stations_are_lawful()
     ensures lawful { (net : Net) → IsNet net → HandlesLawfully (simulation net) (IsGood net) }
     ensures to_stations { (net : Net) → IsNet net → SendsToStations (simulation net) (IsGood net) }
@@ -30,8 +30,8 @@ pub fn states_are_replays()
     ensures equal { (net : Net) → IsNet net → EqualLogsEqualStates (simulation net) }
 {}
 
-/// What a log leads to from the opening of its station: a good state of that station, which has handled as many
-/// messages as the log has entries; one entry more is one message more.
+/// The state that a log leads to from its station's opening is a good state of that station. Its count of handled
+/// messages is the number of log entries, and each further entry adds one.
 pub fn logs_are_replayed()
     ensures good { (net : Net) → IsNet net → ReplayIsGood (simulation net) (IsGood net) }
     ensures counted { (net : Net) → ReplayCounts net }
@@ -40,21 +40,21 @@ pub fn logs_are_replayed()
     ensures goes_on { (net : Net) → ReplayGoesOn net }
 {}
 
-/// A station numbers what it sends one after the other, at most `MOST_SENDS` for each message that it handles, so its
-/// numbers stay below so many for each entry of its log, and once more.
+/// A station numbers its messages consecutively, at most `MOST_SENDS` for each message that it handles. So its numbers
+/// stay below `MOST_SENDS` times (1 + the length of its log).
 pub fn sends_are_numbered()
     ensures next { (net : Net) → IsNet net → SendsNextNumbers net }
     ensures small { (net : Net) → IsNet net → NumbersAreSmall net }
 {}
 
-/// Where no log is beyond the limit, the sender and the number of every message of a run are small, whether it was
-/// handled or is pending: with a time below the horizon a key fits into one word of 64 bits.
+/// If no log is beyond the limit, the sender and the number of every message of a run are small, handled or pending.
+/// With a time below the horizon, a key then fits a 64-bit word.
 pub fn keys_are_small()
     ensures all { (net : Net) → IsNet net → KeysAreSmall net }
     ensures logs { (net : Net) → IsNet net → LogKeysAreSmall net }
 {}
 
-/// A job takes at least the lookahead over any link, also over one that goes back to its own station.
+/// A job takes at least the lookahead over any link, even one back to its own station.
 pub fn jobs_take_the_lookahead()
     ensures later { (net : Net) → IsNet net → JobsTakeTheLookahead net }
 {}

@@ -87,7 +87,7 @@ fn is_shape_fit(model: &Model, station: &Station, handled: u64, shape: &Shape) -
 }
 
 impl Saved {
-    /// Whether the data is a state of this station of the model. Takes no memory.
+    /// Whether the data is a state of this station of the model. Allocates nothing.
     pub fn is_fit(&self, model: &Model, station: u32) -> bool
         requires is_station { HasStation model.now station }
         ensures value { result ≡ fits_saved model.now station self.now }
@@ -176,23 +176,23 @@ fn restore_kind(alloc: Global, kind: &Kind, shape: &Shape) -> Result<KindState, 
 }
 
 impl State {
-    /// The state of a station that plain data restores. Its draws go on where they were.
+    /// The state of a station, restored from plain data. Its draws continue where they were.
     ///
-    /// `Unfit` comes exactly if the data does not fit this station of the model.
+    /// `Unfit` is returned exactly if the data does not fit this station of the model.
     pub fn restore(
         alloc: Global,
         model: &Model,
         station: u32,
         saved: &Saved,
     ) -> Result<State, RestoreFault>
-        // what it asks: the number of a station of the model
+        // required: the number of a station of the model
         requires is_station { HasStation model.now station }
-        // what it gives: the state that the data restores; `Unfit` exactly if the data does not fit
+        // result: the state that the data restores; `Unfit` exactly if the data does not fit
         ensures ok { IfOk result (λ st. restored model.now station saved.now ≡ Some st) }
         ensures fit { OnOk result (fits_saved model.now station saved.now ≡ true) }
         ensures unfit { IfErr result (λ e. e ≡ RestoreFault.Unfit → fits_saved model.now station saved.now ≡ false) }
         ensures tested { IfErr result (λ e. e ≡ RestoreFault.NoMemory → fits_saved model.now station saved.now ≡ true) }
-        // what holds of the state: it is one of this station of the network, within its bounds
+        // invariant: it is a state of this station of the network, within its bounds
         ensures fits { IfOk result (λ st. FitsState st) }
         ensures suits { IfOk result (λ st. SuitsNet model.now st) }
         ensures own { IfOk result (λ st. st.sender.station ≡ station) }

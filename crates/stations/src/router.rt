@@ -1,4 +1,4 @@
-//! Routers: each job goes on at once, over a link that the router chooses.
+//! Routers: each job moves on at once, over a link that the router chooses.
 ghost use Rattle.std.specs.Prelude.{◌≡◌, length, true};
 ghost use Rattle.arrayvec.specs.ArrayVec.{array_vec_len};
 ghost use Rattle.sim_draw.specs.Drawing.{AreWeights};
@@ -17,7 +17,7 @@ use arrayvec::ArrayVec;
 use net_model::Station;
 use sim_base::{Change, Job, Msg, Payload};
 
-// The next link by turn, or one by the weights as they are now.
+// The next link by turn, or one by the present weights.
 fn pass_job(
     router: &RouterState,
     sender: &mut Sender,

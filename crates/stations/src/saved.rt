@@ -3,8 +3,8 @@ use crate::job_line::JobLine;
 use arrayvec::ArrayVec;
 use net_model::limits::MOST_LINKS;
 
-/// What a station of each kind keeps: its parameters as they are now, its counts, and the jobs that wait. The number
-/// of jobs that a source makes is the model's, which no decision changes.
+/// The state of a station of each kind: its present parameters, its counts, and the waiting jobs. The number of jobs
+/// that a source makes is the model's, which no decision changes.
 #[derive(Drop)]
 pub enum Shape {
     Source {
@@ -37,8 +37,8 @@ pub enum Shape {
     },
 }
 
-/// The state of a station as plain data: the number of its next message, how many words it has drawn, how many
-/// messages it has handled, and its shape.
+/// The state of a station as plain data: the number of its next message, the counts of drawn words and handled
+/// messages, and its shape.
 #[derive(Drop)]
 pub struct Saved {
     pub next: u64,
@@ -52,6 +52,6 @@ pub struct Saved {
 pub enum RestoreFault {
     /// Out of memory.
     NoMemory,
-    /// The data is no state of this station.
+    /// The data is not a state of this station.
     Unfit,
 }

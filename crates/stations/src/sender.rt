@@ -1,4 +1,4 @@
-//! What a station sends by, and how it sends.
+//! The sender of a station, and how it sends.
 ghost use Rattle.std.specs.Prelude.{◌≡◌, ◌<◌, ◌≤◌, ◌*◌, length, slice_get, Some};
 ghost use Rattle.arrayvec.specs.ArrayVec.{array_vec_len};
 ghost use Rattle.sim_draw.specs.Drawing.{AreWeights, pick_of, after_pick_by};
@@ -14,20 +14,20 @@ use net_model::limits::{MOST_LINKS, MOST_SERVERS};
 use sim_base::{Job, Key, Msg, Payload};
 use sim_draw::{Draws, MOST_DRAWS};
 
-/// The most messages that a station sends for one that it handles: as many as there may be servers, all of which may
-/// be added by one change and take a job that waits.
+/// The most messages that a station sends for one that it handles. It is the most servers: one change may add them all,
+/// and each takes a waiting job.
 pub const MOST_SENDS: usize = MOST_SERVERS as usize;
 
-/// How many times there are at which a station may handle a message: 31 bits, more than the greatest horizon.
+/// The number of times at which a station may handle a message: 31 bits, more than the greatest horizon.
 pub const ALL_TIMES: u64 = 2_147_483_648;
 
 /// A sink may be restored with a sum of stays below this number: 48 bits, more than the sum of any run.
 pub const ALL_STAYS: u64 = 281_474_976_710_656;
 
-/// How many numbers there are for the messages of a station, for its draws, and for each of its counts: 32 bits.
+/// The number of sequence numbers of a station, of its draws, and of values of each count: 32 bits.
 pub const ALL_COUNTS: u64 = MOST_DRAWS;
 
-/// A station's number, the count of the messages that it has sent, and its draws.
+/// A station's number, its count of sent messages, and its draws.
 #[derive(Drop)]
 pub struct Sender {
     pub station: u32,
@@ -77,7 +77,7 @@ pub(crate) fn send_to_itself(
     send_message(sender, out, now + wait, station, payload);
 }
 
-/// Sends a job over a link, which takes the link's delay from `time` on.
+/// Sends a job over a link, from `time` on; it takes the link's delay.
 pub(crate) fn send_over_link(
     sender: &mut Sender,
     out: &mut ArrayVec<Msg, MOST_SENDS>,
@@ -114,7 +114,7 @@ pub(crate) fn link_at(links: &[Link], place: usize) -> Link
     links[place]
 }
 
-/// The weights of links, as the model states them.
+/// The weights of links, as in the model.
 pub(crate) fn link_weights(links: &[Link]) -> ArrayVec<u32, MOST_LINKS>
     requires { length links.now ≤ MOST_LINKS }
     ensures { result.items ≡ weights_of links.now }
@@ -126,7 +126,7 @@ pub(crate) fn link_weights(links: &[Link]) -> ArrayVec<u32, MOST_LINKS>
     weights
 }
 
-/// Picks a link by the weights of the model; with one link nothing is drawn.
+/// Picks a link by the weights of the model; with one link it draws nothing.
 pub(crate) fn pick_by_model(sender: &mut Sender, links: &[Link]) -> Link
     requires valid { AreLinks links.now }
     requires draws { sender.old.draws.count < ALL_COUNTS }

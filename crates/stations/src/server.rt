@@ -19,7 +19,7 @@ use arrayvec::ArrayVec;
 use net_model::{Model, Station};
 use sim_base::{Change, Job, Msg, NoMemory, Param, Payload};
 
-// The least class among those who wait.
+// The least class among the waiting jobs.
 fn least_waiting(model: &Model, jobs: &JobQueue) -> u32
     requires { 1 ≤ length jobs.now }
     ensures { result ≡ least_in model.now jobs.now }
@@ -53,7 +53,7 @@ fn place_of_next(model: &Model, station: &Station, jobs: &JobQueue) -> usize
     first_of_class(model, jobs, least_waiting(model, jobs))
 }
 
-// A job is taken into service.
+// Starts the service of a job.
 fn start_job(
     server: &mut ServerState,
     sender: &mut Sender,
@@ -71,7 +71,7 @@ fn start_job(
     send_to_itself(sender, out, now, server.lo, server.hi, Payload::Done(job));
 }
 
-// Where a server is free, the next waiting job is taken into service.
+// Starts the service of the next waiting job if a server is free.
 fn start_next(
     server: &mut ServerState,
     sender: &mut Sender,
@@ -93,7 +93,7 @@ fn start_next(
     }
 }
 
-// A job comes: into service, into the waiting line, or it is lost where that is full.
+// Admits a job: into service, into the waiting line, or it is lost if the line is full.
 fn admit_job(
     server: &mut ServerState,
     sender: &mut Sender,
@@ -119,7 +119,7 @@ fn admit_job(
     Ok(())
 }
 
-// A service ends: the job goes on, and the next one is taken into service.
+// Ends a service: the job moves on, and the next one is served.
 fn end_service(
     server: &mut ServerState,
     sender: &mut Sender,
@@ -145,7 +145,7 @@ fn end_service(
     start_next(server, sender, out, model, station, now);
 }
 
-// So many times: where a server is free, the next waiting job is taken into service.
+// Starts the services of waiting jobs, at most `times` of them, while a server is free.
 fn start_many(
     server: &mut ServerState,
     sender: &mut Sender,
@@ -167,7 +167,7 @@ fn start_many(
     }
 }
 
-// Servers that are added take waiting jobs at once.
+// Servers that are added serve waiting jobs at once.
 fn set_servers(
     server: &mut ServerState,
     sender: &mut Sender,
@@ -188,7 +188,7 @@ fn set_servers(
     start_many(server, sender, out, model, station, now, free);
 }
 
-// A parameter changes, where the server takes the change.
+// Changes a parameter if the server accepts the change.
 fn set_server(
     server: &mut ServerState,
     sender: &mut Sender,
@@ -219,7 +219,7 @@ fn set_server(
     }
 }
 
-/// A server handles a message. Out of memory leaves all unchanged.
+/// A server handles a message. If out of memory, changes nothing.
 pub(crate) fn server_handles(
     server: &mut ServerState,
     sender: &mut Sender,

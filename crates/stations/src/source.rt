@@ -16,7 +16,7 @@ use arrayvec::ArrayVec;
 use net_model::Station;
 use sim_base::{Change, Job, Msg, Payload};
 
-/// Sends the next tick, where a job is left.
+/// Sends the next tick if a job is left.
 pub(crate) fn send_tick(
     source: &SourceState,
     sender: &mut Sender,

@@ -27,7 +27,7 @@ use sim_draw::Draws;
 use std::alloc::Global;
 use std::sync::ledger::Ledger;
 
-/// The state of a station: its sender, how many messages it has handled, and what its kind keeps.
+/// The state of a station: its sender, the number of messages handled, and the state of its kind.
 #[derive(Drop)]
 pub struct State {
     sender: Sender,
@@ -111,10 +111,9 @@ fn kind_line(kind: &KindState) -> Line
     }
 }
 
-/// A station handles a message: its state changes, what it sends is put into `out`, and the answer is
-/// the counts that its log shows.
+/// Handles a message: changes the state, puts the sends into `out`, and returns the counts for the log.
 ///
-/// Out of memory leaves the state and `out` unchanged. It ticks once where it answers Ok.
+/// If out of memory, the state and `out` do not change. It ticks once if it returns Ok.
 pub fn handle<L: Ledger>(
     state: &mut State,
     model: &Model,
@@ -122,28 +121,28 @@ pub fn handle<L: Ledger>(
     out: &mut ArrayVec<Msg, MOST_SENDS>,
     steps: &mut Steps<L>,
 ) -> Result<Line, NoMemory>
-    // what it asks: a station of the network, nothing in `out`, and a message to this station; the station has handled
-    // fewer messages than the greatest limit, and the time is one at which it may handle one
+    // required: a station of the network, an empty `out`, and a message to this station. The station has handled fewer
+    // messages than the greatest limit, and the time is one at which it may handle one
     requires suits { SuitsNet model.now state.old }
     requires empty { array_vec_len out.old ≡ 0 }
     requires own { msg.now.to ≡ state.old.sender.station }
     requires below { state.old.handled < MOST_LIMIT }
     requires early { msg.now.key.time < ALL_TIMES }
-    // what it gives: the state, the sends and the line of the definition; each send is later than the message, and
-    // they have the sender's next numbers
+    // result: the state, the sends and the line of the definition; each send is later than the message, and they have
+    // the sender's next numbers
     ensures ok { IfOk result (λ line. handle' model.now state.old msg.now
         ≡ record { state = state.new; sends = out.new.items; line = line }) }
     ensures sends { OnOk result (AreSends model.now msg.now.key.time state.old.sender.station state.old.sender.next
         out.new.items) }
     ensures next { OnOk result (state.new.sender.next ≡ state.old.sender.next + length out.new.items) }
-    // what is kept, also where it fails: it is a state of this station of the network, within its bounds
+    // invariant, also on errors: it is a state of this station of the network, within its bounds
     ensures suits { SuitsNet model.now state.new }
     ensures fits { FitsState state.new }
     ensures own { state.new.sender.station ≡ state.old.sender.station }
-    // what is counted: the message in the state, and a step
+    // counts: the message in the state, and a step
     ensures one_more { OnOk result (state.new.handled ≡ state.old.handled + 1) }
     ensures counted { OnOk result (steps.new ≡ steps.old + 1) }
-    // out of memory leaves the state as it was, nothing sent, and no step counted
+    // if out of memory, the state does not change, nothing is sent, and no step is counted
     ensures err { OnErr result (state.new ≡ state.old) }
     ensures nothing { OnErr result (out.new.items ≡ []) }
     ensures uncounted { OnErr result (steps.new ≡ steps.old) }
@@ -210,13 +209,13 @@ fn send_first(kind: &KindState, sender: &mut Sender, out: &mut ArrayVec<Msg, MOS
     }
 }
 
-/// A station opens: its state, and a source's first tick.
+/// Opens a station: its state, and a source's first tick.
 pub fn setup(alloc: Global, model: &Model, station: u32) -> Result<(State, Option<Msg>), NoMemory>
-    // what it asks: the number of a station of the model
+    // required: the number of a station of the model
     requires is_station { HasStation model.now station }
-    // what it gives: the state and the first tick of the definition
+    // result: the state and the first tick of the definition
     ensures opened { IfOk result (λ p. setup' model.now station ≡ record { state = p.0; first = p.1 }) }
-    // what holds of the state: it is one of this station of the network, within its bounds, and has handled nothing
+    // invariant: it is a state of this station of the network, within its bounds, and has handled nothing
     ensures suits { IfOk result (λ p. SuitsNet model.now p.0) }
     ensures fits { IfOk result (λ p. FitsState p.0) }
     ensures own { IfOk result (λ p. p.0.sender.station ≡ station) }
@@ -269,14 +268,14 @@ impl State {
         &self.kind
     }
 
-    /// How many messages the station has handled.
+    /// The number of messages that the station has handled.
     pub fn handled(&self) -> u64
         ensures { result ≡ self.now.handled }
     {
         self.handled
     }
 
-    /// A state of its own, equal to this one.
+    /// A copy of the state, equal to this one.
     pub fn copy(&self, alloc: Global) -> Result<State, NoMemory>
         ensures { IfOk result (λ s. s ≡ self.now) }
     {

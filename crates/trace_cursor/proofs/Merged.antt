@@ -1,4 +1,4 @@
--- What comes first of merged lists.
+-- The first entry of merged lists.
 use Rattle.std.proofs.Common.{◌≡◌, ◌⊎◌, ℕ, zero, suc, ◌<◌, List, [], ◌∷◌, ◌++◌}
 use Rattle.std.proofs.Common.{inl, inr, refl, ap, ◌∙◌, arith, length, get_or, set}
 use Rattle.std.specs.declared.cmp.Ordering.{Ordering}
@@ -23,7 +23,7 @@ IsNotBefore l e = (f : E) (fs : List E) → l ≡ f ∷ fs → (by_key e f ≡ L
 
 -- ---- merge
 
--- the first of the left list goes first, where the right one's does not come before it
+-- the first of the left list comes first if the right one's does not come before it
 left_first : (e : E) (es l : List E) → IsNotBefore l e → merge by_key (e ∷ es) l ≡ e ∷ merge by_key es l
 left_first e es [] h = refl
 left_first e es (f ∷ fs) h = elim (h f fs refl) [
@@ -31,7 +31,7 @@ left_first e es (f ∷ fs) h = elim (h f fs refl) [
   | inr a ↦ ap (λ r. merge_by r e f (merge by_key es (f ∷ fs)) (merge_at by_key e (merge by_key es) fs)) a
 ]
 
--- the first of the right list goes first, where the left one's comes after it
+-- the first of the right list comes first if the left one's comes after it
 right_first : (l : List E) (e : E) (es : List E) → IsAfter l e → merge by_key l (e ∷ es) ≡ e ∷ merge by_key l es
 right_first [] e es h = refl
 right_first (f ∷ fs) e es h =
@@ -53,7 +53,7 @@ first_of_merge (x ∷ xs) (y ∷ ys) z t e = elim (first_of_merge_by (by_key x y
   | inr h ↦ inr (ys, ap (λ x. x ∷ ys) h)
 ]
 
--- where both lists begin after e, their merge does
+-- if both lists begin after e, their merge does
 merge_after : (xs ys : List E) (e : E) → IsAfter xs e → IsAfter ys e → IsAfter (merge by_key xs ys) e
 merge_after xs ys e a b = λ f fs q. elim (first_of_merge xs ys f fs q) [
   | inl h ↦ a f h.0 h.1
@@ -62,7 +62,7 @@ merge_after xs ys e a b = λ f fs q. elim (first_of_merge xs ys f fs q) [
 
 -- ---- merge_onto
 
--- what goes first stays first, where no list begins before it
+-- the first element stays first if no list begins before it
 first_stays : (e : E) (es : List E) (ls : List (List E)) → ((j : ℕ) → j < length ls → IsNotBefore (get_or ls j []) e) →
     merge_onto (e ∷ es) ls ≡ e ∷ merge_onto es ls
 first_stays e es [] h = refl
@@ -70,7 +70,7 @@ first_stays e es (l ∷ ls) h =
     ap (λ all. merge_onto all ls) (left_first e es l (h 0 (omega arith)))
     ∙ first_stays e (merge by_key es l) ls (λ j there. h (suc j) (omega (arith, there)))
 
--- the first of a list goes first of all, where those before begin after it, and those behind do not begin before it
+-- the first of a list is the first of all if those before begin after it, and those after do not begin before it
 pub first_of_all : (all : List E) (i : ℕ) (ls : List (List E)) (e : E) (es : List E) → i < length ls →
     get_or ls i [] ≡ e ∷ es →
     IsAfter all e → ((j : ℕ) → j < i → IsAfter (get_or ls j []) e) →

@@ -1,4 +1,4 @@
--- The least word tells which entry is the first of all, and a cursor stays one.
+-- The least word determines the first entry of all, and a cursor's invariant is kept.
 use Rattle.std.proofs.Common.{◌≡◌, ◌⊎◌, ℕ, zero, suc, ◌%◌, ◌<◌, ◌≤◌, List, [], ◌∷◌}
 use Rattle.std.proofs.Common.{inl, inr, refl, sym, ap, ◌∙◌, subst, arith, length, get_or, set, ◌-◌}
 use Rattle.std.specs.Cmp.{IsTotalOrder}
@@ -46,7 +46,7 @@ greater_word p q e f a b l k h = elim (words-ordered p q e.msg.key f.msg.key a b
 
 -- ---- AllFitWords
 
--- where the keys of all lists fit words, those of the list at a place do
+-- if the keys of all lists fit words, those of the list at a place do
 pub fit_at : (ls : List (List E)) (i : ℕ) → AllFitWords ls → FitWords (get_or ls i [])
 fit_at [] i h = tt
 fit_at (l ∷ ls) zero h = h.0
@@ -73,11 +73,11 @@ module _ (w : ℕ) (words : List ℕ) (ls : List (List E)) (reserved most : ℕ)
   not_less : (j : ℕ) → j < length words → w ≤ word_of j (get_or ls j [])
   not_less j l = let a = h.least j l in let b = c.words_are j l in omega (arith, a, b)
 
-  -- the list that has the least word tells it
+  -- the least word determines its list
   at_place : word_of h.place (get_or ls h.place []) ≡ w
   at_place = sym (c.words_are h.place h.there) ∙ h.is
 
-  -- the least word is that of the list whose place it tells
+  -- the least word is that of the list whose place it has
   word_of-list : (l : List E) → get_or ls h.place [] ≡ l → word_of h.place l ≡ w → w % WORD_PLACES < length ls →
       word_of (w % WORD_PLACES) (get_or ls (w % WORD_PLACES) []) ≡ w
   word_of-list (x ∷ xs) is e there =
@@ -96,7 +96,7 @@ module _ (w : ℕ) (words : List ℕ) (ls : List (List E)) (reserved most : ℕ)
           let a = fit.0.time in let b = fit.0.sender in let d = fit.0.number in
           omega (arith, a, b, d, le, e)
 
-  -- it is there, where there is such a list
+  -- so is the word of the list at its place, if there is such a list
   word_of-place : w % WORD_PLACES < length ls → word_of (w % WORD_PLACES) (get_or ls (w % WORD_PLACES) []) ≡ w
   word_of-place = word_of-list (get_or ls h.place []) refl at_place
 
@@ -120,7 +120,7 @@ module _ (w : ℕ) (words : List ℕ) (ls : List (List E)) (reserved most : ℕ)
       (omega (arith, lj, place, length-words))
       (omega (arith, word, le, wf, behind, lj, place, length-words)))
 
-  -- where that list has nothing left, the word is the greatest
+  -- if that list has nothing left, the word is the greatest
   greatest_of : (l : List E) → get_or ls h.place [] ≡ l → word_of h.place l ≡ w → get_or ls (w % WORD_PLACES) [] ≡ []
       → w ≡ NO_WORD
   greatest_of [] is e none = sym e
@@ -143,15 +143,15 @@ module _ (w : ℕ) (words : List ℕ) (ls : List (List E)) (reserved most : ℕ)
       let q : get_or ls j [] ≡ [] = subst (λ i. get_or ls i [] ≡ []) same none in
       let x : ⊥ = cc in absurd x
 
-  -- no list has an entry left where the list that the least word tells has none
+  -- no list has an entry left if the list of the least word has none
   pub merge_all-none : get_or ls (w % WORD_PLACES) [] ≡ [] → merge_all ls ≡ []
   merge_all-none none = none_of_all ls (λ j lj. nothing_at j (get_or ls j []) lj refl none)
 
-  -- nor where there is no such list
+  -- nor if there is no such list
   pub merge_all-past : length ls ≤ w % WORD_PLACES → merge_all ls ≡ []
   merge_all-past past = merge_all-none (get_or_past ls (w % WORD_PLACES) [] past)
 
-  -- where an entry is left, the least word tells a list
+  -- if an entry is left, the least word has the place of a list
   pub least-there : 1 ≤ length (merge_all ls) → w % WORD_PLACES < length ls
   least-there some = elim (cases_lt (w % WORD_PLACES) (length ls)) [
     | inl l ↦ l
@@ -162,14 +162,14 @@ module _ (w : ℕ) (words : List ℕ) (ls : List (List E)) (reserved most : ℕ)
   pub least-some : 1 ≤ length (merge_all ls) → 1 ≤ length (get_or ls (w % WORD_PLACES) [])
   least-some some = by (get_or ls (w % WORD_PLACES) []) refl
     where
-      -- by what that list has
+      -- by the entries of that list
       by : (l : List E) → get_or ls (w % WORD_PLACES) [] ≡ l → 1 ≤ length l
       by [] e = let n = ap length (merge_all-none e) in absurd (omega (arith, n, some))
       by (x ∷ xs) e = omega arith
 
 -- ---- IsCursor
 
--- where a list's entries are taken, and its word set
+-- after a list's entries are replaced, and its word set
 pub cursor_set : (ls : List (List E)) (words : List ℕ) (reserved most i : ℕ) (l : List E) →
     IsCursor ls words reserved most →
     i < length ls → FitWords l → IsCursor (set ls i l) (set words i (word_of i l)) reserved most

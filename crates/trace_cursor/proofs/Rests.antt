@@ -23,11 +23,11 @@ module _ {S M N : Type 0} {sim : Simulation S M N} {Good : ℕ → S → Type 0}
   abbrev by_key : Entry M N → Entry M N → Ordering
   by_key = entry_order sim.time sender number
 
-  -- what comes at the time or later
+  -- the entries at the time or later
   abbrev is_late : Entry M N → Bool
   is_late e = not (nat_lt (sim.time e.msg) t)
 
-  -- what a log has from the time on rises by key
+  -- the entries of a log from the time on rise by key
   rest_rises : (s : ℕ) → Sorted by_key (log_from sim c t s)
   rest_rises s = sorted_filter by_key is_late (log_at sim c s sim.horizon)
       (log_rises law stations fresh c sim.horizon there s)

@@ -1,4 +1,4 @@
--- What a step of a cursor gives and leaves, by what the next walk gave; and what an added list leaves.
+-- The results of a cursor's step, from those of the next walk; and of adding a list.
 use Rattle.std.proofs.Common.{◌≡◌, ℕ, ◌+◌, ◌%◌, ◌<◌, ◌≤◌, List, [], ◌∷◌, ◌++◌}
 use Rattle.std.proofs.Common.{refl, sym, ap, ◌∙◌, subst, arith, length, get_or, set, Option, Some, None}
 use Rattle.std.specs.Prelude.{IfSome, IfNone}
@@ -18,22 +18,22 @@ use Rattle.trace_cursor.proofs.Popping.{fit_at, merge_all-first, merge_all-none,
 abbrev cursor_view : List E → ℕ → ℕ → CursorView
 cursor_view left logs most = record { left = left; logs = logs; most = most }
 
--- what contracts see of these lists, and of so many places
+-- the view of these lists, with this number of places
 abbrev view_of : List (List E) → ℕ → CursorView
 view_of ls most = record { left = merge_all ls; logs = length ls; most = most }
 
--- one view is another where their parts are
+-- two views are equal if their parts are
 cursor_view-same : (a b : List E) (m n p q : ℕ) → a ≡ b → m ≡ n → p ≡ q → cursor_view a m p ≡ cursor_view b n q
 cursor_view-same a b m n p q x y z =
     ap (λ l. cursor_view l m p) x ∙ (ap (λ k. cursor_view b k p) y ∙ ap (λ k. cursor_view b n k) z)
 
--- ---- a step, by what the next walk gave
+-- ---- a step, by the result of the next walk
 
 module _ (ls : List (List E)) (words : List ℕ) (reserved most : ℕ) (c : IsCursor ls words reserved most)
     (w : ℕ) (h : IsLeastWord w words)
     (there : w % WORD_PLACES < length ls) (old new : List E) (at : old ≡ get_or ls (w % WORD_PLACES) old) (r : Option E)
     (some : IfSome r (λ e. old ≡ e ∷ new)) (none : IfNone r ((old ≡ []) × (new ≡ []))) where
-  -- the place that the least word tells
+  -- the place in the least word
   abbrev i : ℕ
   i = w % WORD_PLACES
 
@@ -62,7 +62,7 @@ module _ (ls : List (List E)) (words : List ℕ) (reserved most : ℕ) (c : IsCu
   some_of (Some e) some = merge_all-first w words ls reserved most c h e new there (at_first ∙ some)
   some_of None some = tt
 
-  -- an entry that is given is the first of what was left, and the others are left then
+  -- a returned entry is the first that was left, and the others are left then
   pub view-some : (v : CursorView) → view_of ls most ≡ v
       → IfSome r (λ e. v ≡ cursor_view (e ∷ merge_all (set ls i new)) (length (set ls i new)) most)
   view-some v is = by r (some_of r some)
@@ -74,7 +74,7 @@ module _ (ls : List (List E)) (words : List ℕ) (reserved most : ℕ) (c : IsCu
           (length (set ls i new)) most most k (sym (length-set ls i new)) refl
       by None k = tt
 
-  -- or none, where nothing is left, and then the cursor is as it was
+  -- or none, if nothing is left, and then the cursor does not change
   pub view-none : (v : CursorView) → view_of ls most ≡ v → IfNone r ((v.left ≡ []) × (view_of (set ls i new) most ≡ v))
   view-none v is = by r none
     where
@@ -106,7 +106,7 @@ module _ (ls : List (List E)) (words : List ℕ) (reserved most : ℕ) (c : IsCu
       let n = least-some w words ls reserved most c h some_left in
       omega (arith, e, n)
 
-  -- what it has left fits words
+  -- its rest fits words
   pub next-fits : (old new here : List E) (e : E) → old ≡ get_or ls (w % WORD_PLACES) old → old ≡ e ∷ new
       → here ≡ get_or (set ls (w % WORD_PLACES) new) (w % WORD_PLACES) here → FitWords here
   next-fits old new here e at taken is_here =
@@ -116,7 +116,7 @@ module _ (ls : List (List E)) (words : List ℕ) (reserved most : ℕ) (c : IsCu
 
 -- ---- view_of
 
--- what is left where a list was added
+-- the rest after a list was added
 pub view_of-add : (ls new : List (List E)) (most : ℕ) (l : List E) (v : CursorView) → view_of ls most ≡ v
     → new ≡ ls ++ l ∷ [] →
     view_of new most ≡ record { left = merge by_key v.left l; logs = v.logs + 1; most = v.most }

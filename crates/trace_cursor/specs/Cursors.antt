@@ -1,4 +1,4 @@
--- Cursors: what contracts see of them, and how they are stored.
+-- Cursors: their view in contracts, and their storage.
 use Rattle.std.specs.Prelude.{◌≡◌, ℕ, ◌<◌, ◌≤◌, List, [], length, get_or}
 use Rattle.sim_base.specs.declared.entry.Entry.{Entry}
 use Rattle.sim_base.specs.declared.entry.Line.{Line}
@@ -6,19 +6,20 @@ use Rattle.sim_base.specs.declared.message.Msg.{Msg}
 use Rattle.sim_base.specs.declared.message.TheConstants.{WORD_PLACES}
 use Rattle.trace_cursor.specs.Words.{word_of, AllFitWords}
 
--- what contracts see of a cursor
+-- the view of a cursor in contracts
 pub record CursorView : Type 0 where
-  -- the entries that are left, in the order of their keys
+  -- the remaining entries, in the order of their keys
   pub left : List (Entry Msg Line)
-  -- how many logs were added, and how many may be at most
+  -- the number of logs added, and the most that may be added
   pub logs : ℕ
   pub most : ℕ
 
--- the words are those of the lists, and no word for the places that no list has
+-- the words are those of the lists, and NO_WORD for places without a list
 abbrev pub AreWordsOf : List ℕ → List (List (Entry Msg Line)) → Type 0
 AreWordsOf words ls = (j : ℕ) → j < length words → get_or words j 0 ≡ word_of j (get_or ls j [])
 
--- the lists that are left, the words of their keys, for how many lists memory is reserved, and how many may be added
+-- the remaining lists, the words of their keys, the number of lists that memory is reserved for, and the most that may
+-- be added
 pub record IsCursor (ls : List (List (Entry Msg Line))) (words : List ℕ) (reserved most : ℕ) : Type 0 where
   pub few : length words ≤ WORD_PLACES
   pub within : length ls ≤ most

@@ -10,11 +10,11 @@ use Rattle.run_laws.specs.Merges.{entry_order, merge_of_lists}
 use Rattle.run_laws.specs.SharedTexts.{entries_from, log_from}
 
 module _ {S M N : Type 0} (sim : Simulation S M N) (sender number : M → ℕ) where
-  -- what the logs of the stations 1 to n have from a time on, merged
+  -- the entries of the logs of stations 1 to n from a time on, merged
   abbrev pub merge_of_rests : Clone → ℕ → ℕ → List (Entry M N)
   merge_of_rests c t n = merge_of_lists sim sender number (log_from sim c t) n
 
-  -- for all stations it is what the trace has from there on
+  -- for all stations it is the trace from then on
   abbrev pub RestIsMerge : Type 0
   RestIsMerge = (c : Clone) (t : ℕ) → AreForStations sim c.plans →
       merge_of_rests c t sim.stations ≡ entries_from sim t (trace_of sim c)

@@ -1,4 +1,4 @@
--- The words of lists: the key of what is first, with the place of the list.
+-- The words of lists: the key of the first entry, with the place of the list.
 use Rattle.std.specs.Prelude.{ℕ, List, [], ◌∷◌}
 use Rattle.std.specs.List.{AllByRecursion}
 pub use Rattle.sim_base.specs.Entries.{by_key}
@@ -10,17 +10,17 @@ use Rattle.run_laws.specs.Merges.{merge}
 use Rattle.log_chain.specs.Packing.{FitWords}
 use Rattle.trace_cursor.specs.declared.tree.TheConstants.{NO_WORD}
 
--- the word of the first entry that is left, and no word where none is
+-- the word of the first remaining entry, or NO_WORD if there is none
 abbrev pub word_of : ℕ → List (Entry Msg Line) → ℕ
 word_of place [] = NO_WORD
 word_of place (e ∷ es) = key_word place e.msg.key
 
--- lists merged onto one, one after the other
+-- lists merged onto one, one after another
 abbrev pub merge_onto : List (Entry Msg Line) → List (List (Entry Msg Line)) → List (Entry Msg Line)
 merge_onto all [] = all
 merge_onto all (l ∷ ls) = merge_onto (merge by_key all l) ls
 
--- lists merged, one after the other
+-- lists merged, one after another
 abbrev pub merge_all : List (List (Entry Msg Line)) → List (Entry Msg Line)
 merge_all ls = merge_onto [] ls
 

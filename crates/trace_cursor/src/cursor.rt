@@ -13,14 +13,14 @@ use sim_base::{Entry, NoMemory};
 use std::alloc::Global;
 use std::marker::Model;
 
-/// Several logs as one list, in the order of keys.
+/// Merge of several logs, in the order of keys.
 ///
-/// Contracts see the entries that are left, how many logs were added, and how many may be at most.
+/// Contracts see the remaining entries, the number of logs added, and the most logs that may be added.
 #[derive(Drop)]
 pub struct Cursor<'a> {
     walks: Vec<Walk<'a>>,
-    // for each place a log may have, the key of its next entry as a word; the places are a power of two, so that each
-    // way to the top is as long
+    // for each place of a log, the key of its next entry as a word. The number of places is a power of two, so all
+    // paths to the top have the same length
     tree: Tree,
     most: usize,
 }
@@ -38,7 +38,7 @@ impl<'a> Model for Cursor<'a> {
 }
 
 impl<'a> Cursor<'a> {
-    /// No logs; so many may be added. It takes all the memory here that a cursor ever takes.
+    /// A cursor without logs; `most` may be added. It allocates all its memory here.
     pub fn new(alloc: Global, most: usize) -> Result<Cursor<'a>, NoMemory>
         requires some { 1 ≤ most }
         requires few { most ≤ WORD_PLACES }
@@ -49,7 +49,7 @@ impl<'a> Cursor<'a> {
         Ok(Cursor { walks, tree, most })
     }
 
-    /// Leaves all logs.
+    /// Removes all logs.
     pub fn clear(&mut self)
         ensures value { self.new ≡ record { left = []; logs = 0; most = self.old.most } }
     {
@@ -57,7 +57,7 @@ impl<'a> Cursor<'a> {
         self.tree.clear();
     }
 
-    /// Adds what a walk has left. Where two keys are equal, what was added first goes first.
+    /// Adds the rest of a walk. If two keys are equal, the entry of the walk that was added first comes first.
     pub fn add(&mut self, walk: Walk<'a>)
         requires free { self.old.logs < self.old.most }
         requires fit { FitWords walk }
@@ -75,7 +75,7 @@ impl<'a> Cursor<'a> {
         self.tree.set(place, word);
     }
 
-    /// The next entry, None exactly at the end.
+    /// The next entry, or None at the end.
     pub fn next(&mut self) -> Option<Entry>
         ensures some { IfSome result (λ e. self.old ≡ record self.new { left = e ∷ self.new.left }) }
         ensures none { IfNone result ((self.old.left ≡ []) × (self.new ≡ self.old)) }
@@ -90,7 +90,7 @@ impl<'a> Cursor<'a> {
         entry
     }
 
-    /// The next entry of a cursor that is not at its end, as its log stores it.
+    /// The next entry, as its log stores it. The cursor must not be at its end.
     #[inline(always)]
     pub fn take(&mut self) -> StoredEntry<'a>
         requires some { 1 ≤ length self.old.left }

@@ -1,7 +1,8 @@
 //! The merge of a clone's logs, entry by entry.
 //!
-//! A log is what one station has handled, in order. The trace of a clone is the logs of all its stations as one list in
-//! the order of keys: by time, sender and number. A [`Cursor`] gives it entry by entry, with no list of entries:
+//! A log has the messages that one station has handled, in order. The trace of a clone is the merge of the logs of all
+//! its stations, in the order of keys: by time, sender and number. A [`Cursor`] returns it entry by entry, and makes no
+//! list of entries:
 //!
 //! ```text
 //! gate   1  4  4  9 ..  \
@@ -10,7 +11,7 @@
 //! ```
 //!
 //! ```text
-//! let mut cursor = Cursor::new(alloc, 3)?;          // all the memory that it ever takes
+//! let mut cursor = Cursor::new(alloc, 3)?;          // allocates all its memory
 //! cursor.clear();
 //! cursor.add(gate.walk_from_time(t));               // station after station
 //! cursor.add(desk.walk_from_time(t));
@@ -18,13 +19,13 @@
 //! while let Some(entry) = cursor.next() { .. }      // the trace from time t on
 //! ```
 //!
-//! The least of the next keys is found by a tournament ([`Tree`]): a key is one word of 64 bits, with the place of its
-//! log as the last six, so a step is one `min` a level and no branch, and the least word tells which log is next. The
-//! keys of every run within the model's limits fit, and those of every log whose entries are all packed. A log with
-//! nothing left has the greatest word, and is never next.
+//! A tournament ([`Tree`]) finds the least of the next keys. A key is a 64-bit word whose last six bits are the place
+//! of its log. So a step is one `min` for each level and no branch, and the least word has the place of the next log.
+//! The keys of every run within the model's limits fit, and so do those of logs whose entries are all packed. A log at
+//! its end has the greatest word, and is never next.
 //!
-//! Contracts see a cursor as the list of the entries that it will give, and its laws say that for a clone's logs this
-//! is the clone's trace: the promise that a text has each entry of its clone once and in order rests on it.
+//! Contracts see a cursor as the list of its remaining entries, and its laws say that for a clone's logs this is the
+//! clone's trace. The promise that a text has each entry of its clone once and in order rests on it.
 #![tactic(auto)]
 
 pub mod cursor;

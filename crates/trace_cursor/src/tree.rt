@@ -10,13 +10,13 @@ use std::marker::Model;
 /// The most words of a tournament.
 pub const MOST_WORDS: usize = 1_048_576;
 
-/// The greatest word, which is that of a list with nothing left.
+/// The greatest word, which represents an exhausted list.
 pub const NO_WORD: u64 = u64::MAX;
 
-/// Words, and the least of them at hand: a change costs one `min` a level.
+/// Tournament: an array of words with their minimum; a change costs one `min` for each level.
 #[derive(Drop)]
 pub struct Tree {
-    // node i has the lesser word of the nodes 2 * i and 2 * i + 1; the nodes from `count` on are the words
+    // node i has the lesser word of nodes 2 * i and 2 * i + 1; nodes from `count` on are the words
     nodes: Vec<u64>,
     count: usize,
 }
@@ -33,7 +33,7 @@ impl Model for Tree {
 }
 
 impl Tree {
-    /// So many words, each the greatest.
+    /// `count` words, each the greatest.
     pub fn new(alloc: Global, count: usize) -> Result<Tree, NoMemory>
         requires some { 1 ≤ count }
         requires few { count ≤ MOST_WORDS }
@@ -50,7 +50,7 @@ impl Tree {
         self.nodes.fill(NO_WORD);
     }
 
-    /// Puts a word in the place of another.
+    /// Replaces a word.
     #[inline(always)]
     pub fn set(&mut self, i: usize, word: u64)
         requires there { i < length self.old }
@@ -66,7 +66,7 @@ impl Tree {
         }
     }
 
-    /// Puts a word in the place of another, as `set` does, and does nothing where it is there already.
+    /// Replaces a word, as `set` does, but does nothing if it does not change.
     #[inline(always)]
     pub fn update(&mut self, i: usize, word: u64)
         requires there { i < length self.old }
@@ -86,7 +86,7 @@ impl Tree {
     }
 }
 
-// The other node below the same one.
+// The other node under the same parent.
 fn sibling(node: usize) -> usize
     requires below { 1 < node }
     requires small { node < 2 * MOST_WORDS }

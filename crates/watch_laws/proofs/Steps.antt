@@ -76,7 +76,7 @@ module _ {S M N : Type 0} (sim : Simulation S M N) where
   branches_at-take front bs (w ∷ ws) (suc i) x h =
       branches_at-take front (with_branch bs (branch_by sim front bs w)) ws i x h
 
-  -- a trigger makes its branch of what the triggers before it leave
+  -- a trigger makes its branch from the branches after the triggers before it
   pub outcomes-at : (front : ℕ) (bs : List Branch) (ws : List (Trigger N)) (i : ℕ) (w : Trigger N) →
       slice_get ws i ≡ Some w →
       option_at (outcomes sim front bs ws) i ≡ branch_by sim front (branches_at sim front bs (take i ws)) w

@@ -21,8 +21,8 @@ pub record Branch : Type 0 where
 abbrev pub initial_branch : Clone → Branch
 initial_branch c = record { clone = c; start = 0 }
 
--- a trigger: the clone and the station that it watches, the condition on the station's counts, and the branch that it
--- makes: its name, and its change at a target station
+-- a trigger: the clone and the station that it watches, and the condition on the station's counts. The branch that it
+-- makes has a new name, and a change at a target station
 pub record Trigger (N : Type 0) : Type 0 where
   pub who : List ℕ
   pub station : ℕ
@@ -54,8 +54,8 @@ abbrev pub TargetsAreStations : {N : Type 0} → ℕ → List (Trigger N) → Ty
 TargetsAreStations n ws = AllByRecursion (λ w. IsStationOf n w.target) ws
 
 module _ {S M N : Type 0} (sim : Simulation S M N) where
-  -- the branch that a trigger makes of a clone when it is due at t: the decisions of the clone, then the change, later
-  -- by the lookahead; triggers watch the branch from the time of that change
+  -- the branch that a trigger makes of a clone when it is due at t. It has the decisions of the clone, then the change,
+  -- later by the lookahead. Triggers watch it from the time of that change
   abbrev pub branch_of : Trigger N → Clone → ℕ → Branch
   branch_of w c t = record {
     clone = with_plan (fork_of c w.new)
@@ -77,7 +77,7 @@ module _ {S M N : Type 0} (sim : Simulation S M N) where
   branch_from front w None = None
   branch_from front w (Some b) = branch_if_due w b.clone (due_time front w b)
 
-  -- the branch that a trigger makes, when these branches are there
+  -- the branch that a trigger makes, given these branches
   abbrev pub branch_by : ℕ → List Branch → Trigger N → Option Branch
   branch_by front bs w = branch_from front w (branch_named w.who bs)
 

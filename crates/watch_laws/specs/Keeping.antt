@@ -8,7 +8,7 @@ use Rattle.run_laws.specs.Simulation.{Simulation}
 use Rattle.watch_laws.specs.Branches.{Branch, Trigger, initial_branch, present, outcomes, branches_at}
 use Rattle.watch_laws.specs.Orders.{IsPlaceOrder, in_order}
 
--- a branch is the clone at this place, or there is neither a branch nor a place
+-- the branch is the clone at this place, or there is neither a branch nor a place
 abbrev pub IsPlaced : List Clone → Option Branch → Option ℕ → Type 0
 IsPlaced cs None None = ⊤
 IsPlaced cs None (Some k) = ⊥
@@ -37,7 +37,7 @@ module _ {S M N : Type 0} (sim : Simulation S M N) where
   abbrev pub outcome_at : ℕ → List Clone → List (Trigger N) → ℕ → Option Branch
   outcome_at front ls ws i = option_at (outcomes sim front (map initial_branch ls) ws) i
 
-  -- the clones are exactly those of the script, then the branches that the logs before the front bring
+  -- the clones are exactly those of the script, then the branches that follow from the logs before a front
   abbrev pub HoldsBranches : ℕ → List Clone → List (Trigger N) → List Clone → List (Option ℕ) → Type 0
   HoldsBranches front ls ws cs places = HoldsOutcomes (outcome_at front ls ws) ls ws cs places
 
@@ -49,7 +49,7 @@ module _ {S M N : Type 0} (sim : Simulation S M N) where
       in_order cs (trigger_order (length ls) places)
       ≡ map (λ (b : Branch). b.clone) (branches_at sim front (map initial_branch ls) ws)
 
-  -- a pass goes through the triggers in their order, after the world has gone on from a front to a bound
+  -- a pass goes through the triggers in their order, after the world has advanced from a front to a bound
   module _ (front bound : ℕ) (ls : List Clone) (ws : List (Trigger N)) where
     -- the outcome of the trigger at place j after a pass has gone through the first i triggers
     abbrev pub outcome_after : ℕ → ℕ → Option Branch

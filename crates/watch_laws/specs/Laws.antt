@@ -1,4 +1,4 @@
--- What is proved of due times and of branches, in words that contracts cite.
+-- The laws of due times and of branches, as statements that contracts cite.
 use Rattle.std.specs.Prelude.{◌≡◌, ℕ, ◌+◌, ◌<◌, ◌≤◌, ◌⊎◌, List, [], ◌∷◌, ◌++◌, Bool, Option, Some, None, length, map}
 use Rattle.std.specs.Prelude.{nat_lt, slice_get, take}
 use Rattle.std.specs.List.{AllByRecursion, filter}
@@ -49,7 +49,7 @@ module _ {S M N : Type 0} (sim : Simulation S M N) where
       due_in sim.time condition start (log_at sim c s front)
       ≡ time_before front (due_in sim.time condition start (log_at sim c s bound))
 
-  -- a due time that a window brings is at most the lookahead before the window's end
+  -- a due time in a window is at most the lookahead before the window's end
   abbrev pub DueIsNotLate : Type 0
   DueIsNotLate = (condition : N → Bool) (cs : List Clone) (c : Clone) (s start front bound t : ℕ) →
       AreForStations sim c.plans → In c cs → IsWindow sim cs front bound →
@@ -62,13 +62,13 @@ module _ {S M N : Type 0} (sim : Simulation S M N) where
     pub new_names : HaveNewNames names ws
     pub targets : TargetsAreStations sim.stations ws
 
-  -- a branch that the logs before a front bring is a branch at every later front
+  -- a branch that follows from the logs before a front is a branch at every later front
   abbrev pub BranchesStay : Type 0
   BranchesStay = (names : List (List ℕ)) (bs : List Branch) (ws : List (Trigger N)) (front bound : ℕ) →
       AreValidTriggers names bs ws → front ≤ bound → (x : Branch) → In x (branches_at sim front bs ws) →
       In x (branches_at sim bound bs ws)
 
-  -- a branch that a window brings has its change at the window's end or later
+  -- a branch that is new in a window has its change at the window's end or later
   abbrev pub BranchIsNotLate : Type 0
   BranchIsNotLate = (names : List (List ℕ)) (bs : List Branch) (ws : List (Trigger N)) (cs : List Clone)
       (front bound : ℕ) →
@@ -81,12 +81,12 @@ module _ {S M N : Type 0} (sim : Simulation S M N) where
   MadeBranchHasNoEnd = (front : ℕ) (bs : List Branch) (w : Trigger N) (b : Branch) →
       branch_by sim front bs w ≡ Some b → b.clone.end ≡ None
 
-  -- triggers leave the branches that are there, and append theirs in the order of the triggers
+  -- triggers keep the existing branches, and append theirs in the order of the triggers
   abbrev pub BranchesAreAppended : Type 0
   BranchesAreAppended = (front : ℕ) (bs : List Branch) (ws : List (Trigger N)) →
       branches_at sim front bs ws ≡ bs ++ present (outcomes sim front bs ws)
 
-  -- a trigger makes its branch of what the triggers before it leave
+  -- a trigger makes its branch from the branches after the triggers before it
   abbrev pub OutcomeIsOfEarlier : Type 0
   OutcomeIsOfEarlier = (front : ℕ) (bs : List Branch) (ws : List (Trigger N)) (i : ℕ) (w : Trigger N) →
       slice_get ws i ≡ Some w →

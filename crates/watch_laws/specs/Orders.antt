@@ -1,4 +1,4 @@
--- Clones in another order than that in which they were made.
+-- Clones in an order other than the one in which they were made.
 use Rattle.std.specs.Prelude.{◌≡◌, ℕ, List, Bool, map, length, IsPermutation}
 use Rattle.std.specs.List.{range_with_len}
 use Rattle.sim_base.specs.Clones.{Clone, clone_at}

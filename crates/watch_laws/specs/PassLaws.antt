@@ -1,4 +1,4 @@
--- What is proved of a pass through the triggers at a window's end, in words that contracts cite.
+-- The laws of a pass through the triggers at a window's end, as statements that contracts cite.
 use Rattle.std.specs.Prelude.{◌≡◌, ◌⊎◌, ℕ, ◌+◌, ◌<◌, ◌≤◌, List, Option, Some, None, length, map, slice_get, slice_set}
 use Rattle.std.specs.Prelude.{take}
 use Rattle.sim_base.specs.Clones.{Clone, clone_at, clones_with_fork, clones_with_plan, place_of}
@@ -31,7 +31,7 @@ module _ {S M N : Type 0} (sim : Simulation S M N) where
       (places : List (Option ℕ)) →
       HoldsAfter sim front bound ls ws (length ws) cs places → HoldsBranches sim bound ls ws cs places
 
-  -- a pass from a front to a bound that has come to the trigger w at place i: the window had these clones, and the
+  -- a pass from a front to a bound that has reached the trigger w at place i. The window had these clones, and the
   -- clones and places hold the branches so far
   pub record IsInPass (window_clones : List Clone) (front bound : ℕ) (ls : List Clone) (ws : List (Trigger N)) (i : ℕ)
       (w : Trigger N) (cs : List Clone) (places : List (Option ℕ)) : Type 0 where
@@ -42,7 +42,7 @@ module _ {S M N : Type 0} (sim : Simulation S M N) where
     pub trigger : slice_get ws i ≡ Some w
     pub so_far : HoldsAfter sim front bound ls ws i cs places
 
-  -- the branch that the trigger w at place i watches, after the triggers before it, if it is there
+  -- the branch that the trigger w at place i watches, after the triggers before it, if it exists
   abbrev pub source_at : ℕ → List Clone → List (Trigger N) → ℕ → Trigger N → Option Branch
   source_at bound ls ws i w = branch_named w.who (branches_at sim bound (map initial_branch ls) (take i ws))
 
@@ -81,9 +81,9 @@ module _ {S M N : Type 0} (sim : Simulation S M N) where
     pub not_late : (b : Branch) (t : ℕ) → Fires bound ls ws i w places b t → bound ≤ t + sim.lookahead
     -- and is for a station
     pub is_station : IsStation sim w.target
-    -- that fork has room, since the clones are fewer than the script's clones and the triggers together
+    -- the fork has room, since the clones are fewer than the script's clones plus the triggers
     pub room : option_at places i ≡ None → length cs < length ls + length places
-    -- and its name is no clone's
+    -- and no clone has its name
     pub unused : option_at places i ≡ None → place_of w.new cs ≡ None
 
   -- each step of a pass holds the branches

@@ -1,6 +1,6 @@
 //! The laws of triggers and of their branches: each function's contract is a law, and there is nothing to run.
 //!
-//! `specs/Orders.antt`, `Keeping`, `Laws` and `PassLaws` have the laws in words. What they ask of a simulation is in
+//! `specs/Orders.antt`, `Keeping`, `Laws` and `PassLaws` state the laws. Their requirements on a simulation are in
 //! `run_laws::laws`.
 ghost use Rattle.watch_laws.specs.Orders.{FiguresIgnoreOrder, OrderIsPermutation};
 ghost use Rattle.watch_laws.specs.Keeping.{ClonesInTriggerOrder};

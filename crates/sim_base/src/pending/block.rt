@@ -15,15 +15,14 @@ use std::alloc::Global;
 use std::collections::VecDeque;
 use std::marker::Model;
 
-/// How many messages are looked through one by one before halving begins.
+/// Ranges up to this length are searched one by one, longer ones by halving.
 const MOST_ONE_BY_ONE: usize = 8;
 
-/// Messages with their marks, one after another in a ring, so that the first is taken out without a shift.
+/// Messages with their marks in a ring buffer, so that removing the first shifts nothing.
 #[derive(Drop)]
 pub(crate) struct Block<S: Marks> {
     items: VecDeque<(Msg, S)>,
-    // the first message's, kept here so that looking for a block reads no memory of its messages; of a block with
-    // no message it means nothing
+    // time of the first message, so that searching for a block reads none of its messages; unused if the block is empty
     time: u64,
 }
 
@@ -36,7 +35,7 @@ impl<S: Marks> Model for Block<S> {
 }
 
 impl<S: Marks> Block<S> {
-    /// A block with no message, which takes no memory.
+    /// An empty block, which allocates nothing.
     pub(crate) fn new(alloc: Global) -> Block<S>
         ensures value { result ≡ [] }
     {
@@ -54,14 +53,14 @@ impl<S: Marks> Block<S> {
         Block { items, time }
     }
 
-    /// How many messages there are.
+    /// The number of messages.
     pub(crate) fn len(&self) -> usize
         ensures value { result ≡ length self.now }
     {
         self.items.len()
     }
 
-    /// Whether there is no message.
+    /// Whether the block is empty.
     pub(crate) fn is_empty(&self) -> bool
         ensures value { result ≡ (length self.now == 0) }
     {
@@ -100,7 +99,7 @@ impl<S: Marks> Block<S> {
     pub(crate) fn starts_after(&self, msg: &Msg) -> bool
         ensures value { StartsAfter msg_cmp msg.now self.now result }
     {
-        // times differ mostly, and then the message itself is not read
+        // times usually differ, and then the message itself is not read
         if msg.key.time != self.time {
             return msg.key.time < self.time;
         }
@@ -110,7 +109,7 @@ impl<S: Marks> Block<S> {
         }
     }
 
-    /// Takes the first message out.
+    /// Removes and returns the first message.
     pub(crate) fn take_first(&mut self) -> Option<(Msg, S)>
         ensures value { result ≡ slice_get self.old 0 }
         ensures rest { self.new ≡ drop 1 self.old }
@@ -120,7 +119,7 @@ impl<S: Marks> Block<S> {
         taken
     }
 
-    /// Takes the first message out, and leaves its marks.
+    /// Removes the first message and returns it without its marks.
     pub(crate) fn take_message(&mut self) -> Msg
         requires some { 0 < length self.old }
         ensures value { (k : S) × (slice_get self.old 0 ≡ Some (result, k)) }
@@ -132,7 +131,7 @@ impl<S: Marks> Block<S> {
         taken
     }
 
-    /// How many messages come before this one.
+    /// The number of messages that come before this one.
     fn place(&self, msg: &Msg) -> usize
         ensures value { IsPlaceOf msg_cmp msg.now self.now result }
     {
@@ -149,7 +148,7 @@ impl<S: Marks> Block<S> {
         low
     }
 
-    /// Whether this message stands at the place.
+    /// Whether this message is at the place.
     fn has_at(&self, place: usize, msg: &Msg) -> bool
         ensures value { result ≡ is_there msg_cmp msg.now (slice_get self.now place) }
     {
@@ -159,7 +158,7 @@ impl<S: Marks> Block<S> {
         is_same(msg, &self.items[place].0)
     }
 
-    /// Adds a message, or joins the marks to those that it has where it is there already.
+    /// Adds a message. If it is already there, joins the marks to its own.
     pub(crate) fn insert(&mut self, msg: Msg, marks: S) -> Result<(), NoMemory>
         requires sorted { SortedMarked msg_cmp self.old }
         ensures ok { OnOk result (self.new ≡ insert_marked S.union msg_cmp msg marks self.old) }
@@ -178,7 +177,7 @@ impl<S: Marks> Block<S> {
         Ok(())
     }
 
-    /// Gives the messages from this place on to a block of their own. Out of memory leaves all unchanged.
+    /// Moves the messages from this place on into a block of their own. If out of memory, changes nothing.
     pub(crate) fn split_off(&mut self, place: usize) -> Result<Block<S>, NoMemory>
         requires within { place ≤ length self.old }
         ensures rest { OnOk result (self.new ≡ take place self.old) }
@@ -191,7 +190,7 @@ impl<S: Marks> Block<S> {
         }
     }
 
-    /// The first message whose marks meet `by`, with what they share.
+    /// The first message whose marks meet `by`, with the marks in common.
     pub(crate) fn first_with(&self, by: S) -> Option<(Msg, S)>
         ensures value { result ≡ slice_get (cut_by S.common by self.now) 0 }
     {
@@ -203,7 +202,7 @@ impl<S: Marks> Block<S> {
         None
     }
 
-    /// A block of the messages whose marks meet `by`, each with what they share.
+    /// A block of the messages whose marks meet `by`, each with the marks in common.
     pub(crate) fn cut(&self, alloc: Global, by: S) -> Result<Block<S>, NoMemory>
         ensures value { IfOk result (λ b. b ≡ cut_by S.common by self.now) }
     {
@@ -227,11 +226,11 @@ impl<S: Marks> Block<S> {
         Ok(Block::of(VecDeque::from_vec(items)))
     }
 
-    /// Keeps the messages whose marks meet `by`, each with what they share. It takes no memory.
+    /// Keeps the messages whose marks meet `by`, each with the marks in common. Allocates nothing.
     pub(crate) fn keep(&mut self, by: S)
         ensures value { self.new ≡ cut_by S.common by self.old }
     {
-        // each message is taken out first, and put in again as the last if it stays
+        // rotates once through the ring: takes the first message out, and appends it again if it stays
         for _ in 0..self.items.len() {
             let Some(item) = self.items.pop_front() else {
                 unreachable!()
@@ -258,7 +257,7 @@ impl<S: Marks> Block<S> {
     }
 }
 
-/// The time of the first message, and 0 where there is none.
+/// The time of the first message, or 0 if there is none.
 fn time_of_first<S: Marks>(items: &VecDeque<(Msg, S)>) -> u64
     ensures value { StartsAt result items.now.items }
 {
@@ -268,7 +267,7 @@ fn time_of_first<S: Marks>(items: &VecDeque<(Msg, S)>) -> u64
     }
 }
 
-// Whether a message comes after another. Times differ mostly, and then nothing else is looked at.
+// Whether a message comes after another. Times usually differ, and then nothing else is compared.
 fn comes_after(msg: &Msg, other: &Msg) -> bool
     ensures value { result ≡ is_gt (msg_cmp msg.now other.now) }
 {
@@ -278,14 +277,14 @@ fn comes_after(msg: &Msg, other: &Msg) -> bool
     compare(msg, other).is_gt()
 }
 
-// Whether two messages are the same one.
+// Whether two messages are the same.
 fn is_same(msg: &Msg, other: &Msg) -> bool
     ensures value { result ≡ is_eq (msg_cmp msg.now other.now) }
 {
     msg.key.time == other.key.time && compare(msg, other).is_eq()
 }
 
-/// At which of the places from `low` on and before `high` to look next: new messages are mostly late.
+/// The next place to compare, from `low` on and before `high`. New messages are usually late.
 fn next_look(low: usize, high: usize) -> usize
     requires some { low < high }
     ensures from { low ≤ result }

@@ -1,4 +1,4 @@
-//! The blocks of pending messages: a first one, which is empty only where nothing is pending, and later ones.
+//! The blocks of pending messages: a first one, which is empty only if no message is pending, and later ones.
 ghost use Rattle.std.specs.Prelude.{◌≡◌, ◌<◌, ◌≤◌, [], ◌∷◌, ◌++◌, length, OnOk, OnErr, IfOk};
 ghost use Rattle.sim_base.specs.Pending.{insert_marked, spread_marks, cut_by};
 ghost use Rattle.sim_base.specs.Order.{msg_cmp};
@@ -11,13 +11,13 @@ use crate::memory::NoMemory;
 use crate::message::Msg;
 use std::collections::VecDeque;
 
-/// The most messages of a block.
+/// The most messages in a block.
 pub const MOST_IN_BLOCK: usize = 64;
 
-/// How many messages of a full block its first half has.
+/// The number of messages in the first half of a full block.
 pub const HALF: usize = MOST_IN_BLOCK / 2;
 
-/// To which block a message goes: 0 for the first, and 1 more than the place of a later one.
+/// The block that a message belongs to: 0 for the first, and 1 + the index of a later one.
 pub(crate) fn block_of<S: Marks>(later: &VecDeque<Block<S>>, msg: &Msg) -> usize
     ensures value { IsBlockOf msg_cmp msg.now later.now.items result }
 {
@@ -34,7 +34,7 @@ pub(crate) fn block_of<S: Marks>(later: &VecDeque<Block<S>>, msg: &Msg) -> usize
     low
 }
 
-/// How many messages the block has.
+/// The number of messages in the block.
 fn len_at<S: Marks>(first: &Block<S>, later: &VecDeque<Block<S>>, at: usize) -> usize
     requires within { at ≤ length later.now.items }
     ensures value { result ≡ length (block_at first.now later.now.items at) }
@@ -46,7 +46,7 @@ fn len_at<S: Marks>(first: &Block<S>, later: &VecDeque<Block<S>>, at: usize) -> 
     }
 }
 
-/// Cuts a full block in two halves.
+/// Splits a full block into two halves.
 fn halve<S: Marks>(
     first: &mut Block<S>,
     later: &mut VecDeque<Block<S>>,
@@ -69,9 +69,9 @@ fn halve<S: Marks>(
     Ok(())
 }
 
-/// Halves the block to which a message goes if it is full, and answers to which block the message goes then.
+/// Halves the block of a message if it is full, and returns the block of the message after that.
 ///
-/// Out of memory leaves all messages where they are.
+/// If out of memory, changes nothing.
 pub(crate) fn halve_if_full<S: Marks>(
     first: &mut Block<S>,
     later: &mut VecDeque<Block<S>>,
@@ -96,7 +96,7 @@ pub(crate) fn halve_if_full<S: Marks>(
     }
 }
 
-/// Puts a message into the block to which it goes. Out of memory leaves all unchanged.
+/// Inserts a message into its block. If out of memory, changes nothing.
 pub(crate) fn put<S: Marks>(
     first: &mut Block<S>,
     later: &mut VecDeque<Block<S>>,
@@ -119,7 +119,7 @@ pub(crate) fn put<S: Marks>(
     }
 }
 
-/// The next block, if there is one, in place of a first block with no message.
+/// Replaces an empty first block by the next one, if there is one.
 pub(crate) fn next_block<S: Marks>(first: &mut Block<S>, later: &mut VecDeque<Block<S>>)
     requires empty { first.old ≡ [] }
     requires later { AreFilled later.old.items }
@@ -131,7 +131,7 @@ pub(crate) fn next_block<S: Marks>(first: &mut Block<S>, later: &mut VecDeque<Bl
     }
 }
 
-/// Adds a block at the end, unless it has no message.
+/// Appends a block unless it is empty.
 pub(crate) fn add_block<S: Marks>(
     first: &mut Block<S>,
     later: &mut VecDeque<Block<S>>,
@@ -154,13 +154,13 @@ pub(crate) fn add_block<S: Marks>(
     Ok(())
 }
 
-/// Keeps of each later block what meets `by`, and no block without a message.
+/// Keeps of each later block the messages that meet `by`, and drops empty blocks.
 pub(crate) fn keep_later<S: Marks>(later: &mut VecDeque<Block<S>>, by: S)
     requires filled { AreFilled later.old.items }
     ensures value { of_blocks later.new.items ≡ cut_by S.common by (of_blocks later.old.items) }
     ensures filled { AreFilled later.new.items }
 {
-    // each block is taken out first, and put in again as the last if a message stays
+    // rotates once through the ring: takes the first block out, and appends it again if a message stays
     for _ in 0..later.len() {
         let Some(mut block) = later.pop_front() else {
             unreachable!()
@@ -175,7 +175,7 @@ pub(crate) fn keep_later<S: Marks>(later: &mut VecDeque<Block<S>>, by: S)
     }
 }
 
-/// Joins `more` to the marks of each message of later blocks whose marks meet `by`.
+/// Joins `more` to the marks of each message of the later blocks whose marks meet `by`.
 pub(crate) fn spread_later<S: Marks>(later: &mut VecDeque<Block<S>>, by: S, more: S)
     requires filled { AreFilled later.old.items }
     ensures value { of_blocks later.new.items ≡ spread_marks S.union S.common by more (of_blocks later.old.items) }

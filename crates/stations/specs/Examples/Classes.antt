@@ -1,4 +1,4 @@
--- Two sources of different classes before one desk: who waits is served by class, or as he came.
+-- Two sources of different classes before one desk: waiting jobs are served by class, or in the order of arrival.
 use Rattle.std.specs.Prelude.{ℕ, List, [], ◌∷◌, ◌++◌, codes, Bool}
 use Rattle.sim_base.specs.declared.message.Msg.{Msg}
 use Rattle.sim_base.specs.declared.entry.Entry.{Entry}
@@ -12,7 +12,7 @@ use Rattle.stations.specs.Examples.{at, tick, job, done, source, server, sink}
 abbrev pub low : ℕ
 low = 1
 
--- and of the source of class 1, whose jobs go first where the desk serves by class
+-- and of the source of class 1, whose jobs are served first if the desk serves by class
 abbrev pub high : ℕ
 high = 2
 
@@ -53,7 +53,7 @@ until_ten =
     ∷ at 8 desk desk 0 (done high 0 2) (server 1 2 1 0)
     ∷ at 10 out desk 1 (job high 0 2) (sink 1 8) ∷ []
 
--- by class, those of class 1 are served before the one that came before them, and in the order in which they came
+-- by class, the jobs of class 1 are served before the earlier one, in the order of arrival
 abbrev pub by_class_trace : List (Entry Msg Line)
 by_class_trace =
     until_ten
@@ -62,7 +62,7 @@ by_class_trace =
     ∷ at 16 desk desk 4 (done high 2 6) (server 1 0 3 0)
     ∷ at 18 out desk 5 (job high 2 6) (sink 3 30) ∷ []
 
--- not by class, the job that came first is served first
+-- not by class, the job that arrived first is served first
 abbrev pub by_arrival_trace : List (Entry Msg Line)
 by_arrival_trace =
     until_ten

@@ -1,4 +1,4 @@
--- Three sources whose jobs reach one desk at the same time: they come in the order of their senders.
+-- Three sources whose jobs reach one desk at the same time: they arrive in the order of their senders.
 use Rattle.std.specs.Prelude.{ℕ, List, [], ◌∷◌, codes, false}
 use Rattle.sim_base.specs.Clones.{Clone}
 use Rattle.sim_base.specs.declared.message.Msg.{Msg}
@@ -30,7 +30,7 @@ desk = 4
 abbrev pub out : ℕ
 out = 5
 
--- one job of each source, at 3; one server, which serves for 4, with so much room
+-- one job of each source, at 3; one server, which serves for 4, with this room
 abbrev pub three_sources : ℕ → Net
 three_sources room = record {
   format = 1;
@@ -46,7 +46,7 @@ three_sources room = record {
       ∷ record { name = codes "out"; kind = Sink; stream = 5; links = [] } ∷ [];
 }
 
--- without room, who comes to a busy desk is lost
+-- without room, a job that arrives at a busy desk is lost
 abbrev pub no_room_trace : List (Entry Msg Line)
 no_room_trace =
     at 3 s1 s1 0 tick (source 1)
@@ -58,11 +58,11 @@ no_room_trace =
     ∷ at 9 desk desk 0 (done s1 0 3) (server 0 0 1 2)
     ∷ at 11 out desk 1 (job s1 0 3) (sink 1 8) ∷ []
 
--- with three servers from 6 on, those who wait are served at once
+-- with three servers from 6 on, the waiting jobs are served at once
 abbrev pub more_servers : Clone
 more_servers = clone (codes "base") (set_at 6 desk Servers 3 0 ∷ [])
 
--- the two who wait at 5 are in service from 6 on, and done at 10
+-- the two jobs that wait at 5 are in service from 6 on, and done at 10
 abbrev pub more_servers_trace : List (Entry Msg Line)
 more_servers_trace =
     at 3 s1 s1 0 tick (source 1)
@@ -83,7 +83,7 @@ more_servers_trace =
 abbrev pub less : Clone
 less = clone (codes "base") (set_at 0 desk Servers 2 0 ∷ set_at 6 desk Servers 1 0 ∷ set_at 6 desk Room 0 0 ∷ [])
 
--- no service ends sooner, the first done starts nobody, and the one who waits stays, and is served after the second
+-- no service ends sooner. The first completion starts no job; the waiting job stays, and is served after the second
 abbrev pub less_log : List (Entry Msg Line)
 less_log =
     at 0 desk analyst 0 (set Servers 2 0) (server 0 0 0 0)

@@ -1,4 +1,4 @@
--- A source `gate`, a server `desk` and a sink `out`, one after the other.
+-- A source `gate`, a server `desk` and a sink `out`, in a row.
 use Rattle.std.specs.Prelude.{ℕ, List, [], ◌∷◌, codes, false, Some}
 use Rattle.sim_base.specs.Clones.{Clone, base}
 use Rattle.sim_base.specs.declared.message.Msg.{Msg}
@@ -41,11 +41,11 @@ one_desk_trace =
     ∷ at 13 desk desk 2 (done gate 1 6) (server 0 0 2 0)
     ∷ at 15 out desk 3 (job gate 1 6) (sink 2 17) ∷ []
 
--- from 8 on the desk serves for 2; the service that has begun stays
+-- from 8 on the desk serves for 2; the present service does not change
 abbrev pub fast : Clone
 fast = clone (codes "fast") (set_at 8 desk Service 2 2 ∷ [])
 
--- so the second job, which is taken into service at 9, is done at 11
+-- so the second job, whose service starts at 9, is done at 11
 abbrev pub fast_trace : List (Entry Msg Line)
 fast_trace =
     at 3 gate gate 0 tick (source 1)
@@ -58,7 +58,7 @@ fast_trace =
     ∷ at 11 desk desk 2 (done gate 1 6) (server 0 0 2 0)
     ∷ at 13 out desk 3 (job gate 1 6) (sink 2 15) ∷ []
 
--- a set at time 0 comes before all else
+-- a set at time 0 comes before everything else
 abbrev pub set_at_start : Clone
 set_at_start = clone (codes "base") (set_at 0 desk Service 4 4 ∷ [])
 
@@ -82,7 +82,7 @@ brief_trace =
 abbrev pub two_branches : List Clone
 two_branches = base ∷ fast ∷ []
 
--- the same stations with all times short against the lookahead: several messages to itself in a window
+-- the same stations with times shorter than the lookahead: several messages to itself in a window
 abbrev pub quick_desk : Net
 quick_desk = record {
   format = 1;

@@ -66,7 +66,7 @@ by_turn_trace =
     ++ at 13 slow fan 2 (job gate 2 9) (passed 2)
     ∷ at 16 out slow 1 (job gate 2 9) (sink 3 19) ∷ []
 
--- by weights it goes straight on, for its draw of 4 is not below the first weight
+-- by weights it goes straight on, since its draw of 4 is not below the first weight
 abbrev pub by_weights_trace : List (Entry Msg Line)
 by_weights_trace = two_jobs ++ at 14 out fan 2 (job gate 2 9) (sink 3 17) ∷ []
 

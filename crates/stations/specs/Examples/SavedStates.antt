@@ -1,4 +1,4 @@
--- States of stations as plain data, data that is just within the bounds, and data that breaks one of them.
+-- States of stations as plain data, data just within the bounds, and data that breaks one bound.
 use Rattle.std.specs.Prelude.{ℕ, List, [], ◌∷◌}
 use Rattle.sim_base.specs.declared.message.Job.{Job as JobOf}
 use Rattle.stations.specs.declared.saved.Saved.{Saved}
@@ -13,7 +13,7 @@ saved next drawn handled shape = record { next = next; drawn = drawn; handled = 
 abbrev pub router : ℕ → List ℕ → Shape
 router passed weights = Router passed (record { items = weights })
 
--- source, count and time of birth of a job that waits
+-- source, count and time of birth of a waiting job
 abbrev pub waiting : ℕ → ℕ → ℕ → JobOf
 waiting source count born = record { source = source; count = count; born = born }
 
@@ -35,8 +35,8 @@ sources_at_bounds =
     saved 262160 262160 16384 (Source 1 1000000 2)
     ∷ saved 16 16 0 (Source 1 1 2) ∷ []
 
--- a handled count above the limit; more than 16 numbers or draws for each message and the opening; ranges that begin at
--- 0, go down, or end too late; more jobs sent than the model has; the shape of another kind
+-- a handled count above the limit. More than 16 numbers or draws for each message and the opening. Ranges that begin at
+-- 0, go down, or end too late. More jobs sent than the model has. The shape of another kind
 abbrev pub unfit_sources : List Saved
 unfit_sources =
     saved 0 0 16385 (Source 3 3 0)
@@ -50,15 +50,15 @@ unfit_sources =
 
 -- ---- its desk
 
--- all parameters and counts at their bounds, also where a job waits
+-- all parameters and counts at their bounds, also with a waiting job
 abbrev pub servers_at_bounds : List Saved
 servers_at_bounds =
     saved 0 0 3 (Server 16 4096 1 1000000 16 3 3 (waiting 1 999999 19 ∷ []))
     ∷ saved 0 0 0 (Server 1 0 1 1 0 0 0 []) ∷ []
 
--- no server and 17; too much room; ranges that begin at 0 and go down; 17 busy; a job that waits while a server is
--- free; more done or lost than handled; jobs made by a server and by no station; a count and a time of birth that are
--- too large; the shape of another kind
+-- no server and 17. Too much room. Ranges that begin at 0 and go down. 17 busy. A waiting job with a server free. More
+-- done or lost than handled. Jobs made by a server and by no station. A count and a time of birth that are too large.
+-- The shape of another kind
 abbrev pub unfit_servers : List Saved
 unfit_servers =
     saved 0 0 3 (Server 0 5 4 4 0 0 0 [])
@@ -91,7 +91,7 @@ unfit_sinks =
 abbrev pub routers_at_bounds : List Saved
 routers_at_bounds = saved 0 0 3 (router 3 (1 ∷ 1000 ∷ [])) ∷ []
 
--- a weight too few and one too many; weights of 0 and above the most; more passed than handled; another kind's shape
+-- a weight too few and one too many; weights of 0 and above MOST_WEIGHT; more passed than handled; another kind's shape
 abbrev pub unfit_routers : List Saved
 unfit_routers =
     saved 0 0 3 (router 0 (4 ∷ []))

@@ -1,5 +1,5 @@
--- A source, a server and a delay with several links each, of unequal weights: each draws the word for its link first,
--- and then the one for its time.
+-- A source, a server and a delay with several links each, of unequal weights. Each draws the word for its link first,
+-- and then the word for its time.
 use Rattle.std.specs.Prelude.{ℕ, List, [], ◌∷◌, codes, false}
 use Rattle.sim_base.specs.declared.message.Msg.{Msg}
 use Rattle.sim_base.specs.declared.entry.Entry.{Entry}

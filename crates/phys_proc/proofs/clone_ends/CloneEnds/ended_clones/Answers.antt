@@ -5,7 +5,7 @@ use Rattle.clone_sets.proofs.SetLaws.{has-empty}
 use Rattle.phys_proc.specs.Ends.{has_ended, AreEndsOfClones}
 use Rattle.phys_proc.proofs.clone_ends.CloneEnds.ended_clones.Goals as goal
 
--- what is read of the ends is a number that a clone may have
+-- the number read from the ends is a valid clone number
 below : (es : List (ℕ × ℕ)) (i : ℕ) (d : ℕ × ℕ) → AreEndsOfClones es → i < length es → d ≡ get_or es i d
     → d.0 < MOST_CLONES
 below [] i d f l e = absurd (omega arith)

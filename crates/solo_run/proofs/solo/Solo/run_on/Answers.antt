@@ -48,7 +48,7 @@ loop-due-preserved g c =
       steps = omega (arith, inv.steps, same, c.in-Ok.ensures.counted, c.in-Ok.ensures.longer);
     }
 
--- ---- where the run ends
+-- ---- the end of the run
 
 pub returns-in-Err-clause-stops : goal.returns-in-Err-clause-stops
 returns-in-Err-clause-stops g c =

@@ -3,7 +3,7 @@ use Rattle.log_chain.specs.Stored.{entry_in}
 use Rattle.trace_cursor.proofs.Stepping.{cursor-next, view-some, next-there, next-some, next-fits}
 use Rattle.trace_cursor.proofs.cursor.Cursor.take.Goals as goal
 
--- ---- what the calls ask for
+-- ---- the requirements of the calls
 
 pub index_mut-requires : goal.index_mut-requires
 index_mut-requires c =
