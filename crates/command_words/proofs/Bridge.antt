@@ -55,12 +55,12 @@ more_than_four w c x y z u t more =
     lt-leb (length (x ∷ y ∷ z ∷ u ∷ t ∷ more)) 4 (omega arith) in
     rw long_list refl
 
--- nothing that follows makes them fewer
+-- they stay too many, whatever follows
 abbrev StaysMany : List Text → Text → Text → Text → Text → Text → Type 0
 StaysMany rest x y z u t = (due : Option OptionName) (o : OptionValues) (more : List Text)
     → option_and_then up_to_four (read rest due (many o x y z u t more)) ≡ None
 
--- the value of an option is no positional less
+-- with the value of an option
 many_value : (name : OptionName) (v : Text) (rest : List Text) (o : OptionValues) (x y z u t : Text) (more : List Text)
     → StaysMany rest x y z u t
     → option_and_then up_to_four (option_and_then (read rest None) (with_value name v (many o x y z u t more))) ≡ None
@@ -75,7 +75,7 @@ many_value name v rest o x y z u t more again = by (o name) refl
     by (Some w) e = ap (λ g. option_and_then up_to_four (option_and_then (read rest None) g))
         (with_value-twice name v w o (x ∷ y ∷ z ∷ u ∷ t ∷ more) e)
 
--- nor is a word with a dash
+-- with a word with a dash
 many_dashed : (d : DashedWord) (rest : List Text) (o : OptionValues) (x y z u t : Text) (more : List Text)
     → StaysMany rest x y z u t
     → option_and_then up_to_four (after_dashed d rest (read rest) (many o x y z u t more)) ≡ None
@@ -85,7 +85,7 @@ many_dashed (bare_option name) rest o x y z u t more again = again (Some name) o
 many_dashed (option_with_value name v) rest o x y z u t more again = many_value name v rest o x y z u t more again
 many_dashed unknown rest o x y z u t more again = refl
 
--- nor any word where nothing is due
+-- with any word, if no option waits for its value
 many_free : (b : Bool) (word : Text) (rest : List Text) (o : OptionValues) (x y z u t : Text) (more : List Text)
     → StaysMany rest x y z u t
     → option_and_then up_to_four (cond b (after_dashed (dashed_word word) rest (read rest) (many o x y z u t more))
@@ -93,7 +93,7 @@ many_free : (b : Bool) (word : Text) (rest : List Text) (o : OptionValues) (x y 
 many_free true word rest o x y z u t more again = many_dashed (dashed_word word) rest o x y z u t more again
 many_free false word rest o x y z u t more again = again None o (more ++ (word ∷ []))
 
--- nor any word where a value is due
+-- with any word, if an option waits for its value
 many_due : (b : Bool) (name : OptionName) (word : Text) (rest : List Text) (o : OptionValues) (x y z u t : Text)
     (more : List Text) → StaysMany rest x y z u t
     → option_and_then up_to_four (cond b None
@@ -101,7 +101,7 @@ many_due : (b : Bool) (name : OptionName) (word : Text) (rest : List Text) (o : 
 many_due true name word rest o x y z u t more again = refl
 many_due false name word rest o x y z u t more again = many_value name word rest o x y z u t more again
 
--- so they stay too many, whatever the words
+-- they stay too many, with any words
 too_many : (words : List Text) (x y z u t : Text) → StaysMany words x y z u t
 too_many [] x y z u t None o more = more_than_four (o workers) (o clone) x y z u t more
 too_many [] x y z u t (Some name) o more = refl
@@ -112,14 +112,14 @@ too_many (word ∷ rest) x y z u t (Some name) o more =
 
 -- ---- the end of the words
 
--- what is pending is settled
+-- the pending use is settled
 at_last : (rows : List Row) (p : Option (Text × List Text)) (waiting : Waiting) (position : ℕ) (ended : Bool)
     → values_from (walk_between rows p waiting position ended) []
     ≡ unless_fault (pending_fault rows p) (Some (values_in (rows_with rows p)))
 unfolding walk_fault
 at_last rows p waiting position ended = refl
 
--- what the rows tell is at most four positionals
+-- the rows have at most four positionals
 up_to_four-at : (o : OptionValues) (s : Stage) → up_to_four (values_at o s) ≡ Some (values_at o s)
 up_to_four-at o none = refl
 up_to_four-at o (one a) = refl
@@ -127,7 +127,7 @@ up_to_four-at o (two a b) = refl
 up_to_four-at o (three a b d) = refl
 up_to_four-at o (four a b c d) = refl
 
--- and no word more leaves it so
+-- the same with no more words
 up_to_four-end : (o : OptionValues) (s : Stage)
     → up_to_four (with_positionals [] (values_at o s)) ≡ Some (values_at o s)
 up_to_four-end o none = refl
@@ -136,7 +136,7 @@ up_to_four-end o (two a b) = refl
 up_to_four-end o (three a b d) = refl
 up_to_four-end o (four a b c d) = refl
 
--- clap finds what its rows tell
+-- clap finds the values of its rows
 values_from-end : (rows : List Row) (p : Option (Text × List Text)) (waiting : Waiting) (ended : Bool)
     (o : OptionValues) (s : Stage) → pending_fault rows p ≡ [] → HaveValues (rows_with rows p) o s
     → values_from (walk_between rows p waiting (place s) ended) [] ≡ Some (values_at o s)
@@ -145,9 +145,9 @@ values_from-end rows p waiting ended o s clear st =
     ∙ ap (λ k. unless_fault k (Some (values_in (rows_with rows p)))) clear
     ∙ ap (λ (v : GivenView). Some v) (values_in-have (rows_with rows p) o s st)
 
--- ---- behind `--`
+-- ---- after `--`
 
--- in these words, each of which is a positional, clap finds what the rules read
+-- clap finds in these words, each a positional, what the rules read
 abbrev Behind : List Text → Type 0
 Behind words = (rows : List Row) (p : Option (Text × List Text)) (waiting : Waiting) (o : OptionValues) (s : Stage)
     → pending_fault rows p ≡ [] → HaveValues (rows_with rows p) o s
@@ -170,7 +170,7 @@ behind_at k s t word rest follows again rows p waiting o clear st =
     (no_fault-place k word (rows_with rows p) (free_place word k s t (rows_with rows p) o follows st))
     (place_pending k word (rows_with rows p) o s t follows st)
 
--- so it is of all, and a fifth is refused
+-- the same for all words; a fifth is refused
 behind : (words : List Text) → Behind words
 behind [] rows p waiting o s clear st =
     values_from-end rows p waiting true o s clear st ∙ sym (up_to_four-end o s)
@@ -187,7 +187,7 @@ behind (word ∷ rest) rows p waiting o (four a b c d) clear st =
     (fault_of_fifth_behind word rows p waiting)
     ∙ sym (more_than_four (o workers) (o clone) a b c d word rest)
 
--- ---- where what is pending has a fault, clap refuses the words, whatever follows
+-- ---- if the pending use has a fault, clap refuses the words, whatever follows
 
 -- at the end of the words
 doomed_end : (rows : List Row) (p : Option (Text × List Text)) (waiting : Waiting) (position : ℕ) (ended : Bool)
@@ -197,7 +197,7 @@ doomed_end rows p waiting position ended k ks fault =
     at_last rows p waiting position ended
     ∙ ap (λ x. unless_fault x (Some (values_in (rows_with rows p)))) fault
 
--- behind `--`
+-- after `--`
 doomed_behind : (rest : List Text) (rows : List Row) (p : Option (Text × List Text)) (waiting : Waiting) (s : Stage)
     (k : ErrorKind) (ks : Kinds) → pending_fault rows p ≡ k ∷ ks
     → values_from (walk_between rows p waiting (place s) true) rest ≡ None
@@ -257,7 +257,7 @@ doomed_plain word rest rows p (four a b c d) k ks is fault =
     values_from-refused (walk_between rows p idle 5 false) word rest kind.UnknownArgument []
     (fault_of_fifth word rows p is)
 
--- so at any words
+-- at any words
 doomed : (words : List Text) → AllByRecursion IsUtf8 words → (rows : List Row) (p : Option (Text × List Text))
     (s : Stage) (k : ErrorKind) (ks : Kinds) → pending_fault rows p ≡ k ∷ ks
     → values_from (walk_between rows p idle (place s) false) words ≡ None
@@ -268,37 +268,37 @@ doomed (word ∷ rest) u rows p s k ks fault = ⊎_elim
     (λ (no : is_dashed word ≡ false). doomed_plain word rest rows p s k ks (IsPlain-of_undashed word no) fault)
     (cases_Bool (is_dashed word))
 
--- ---- where nothing is due, and where the value of an option is due
+-- ---- with an option that waits for its value, and without one
 
--- where nothing is due, clap finds in these words what the rules read
+-- if no option waits for its value, clap finds in these words what the rules read
 abbrev Free : List Text → Type 0
 Free words = (rows : List Row) (p : Option (Text × List Text)) (o : OptionValues) (s : Stage)
     → pending_fault rows p ≡ [] → HaveValues (rows_with rows p) o s
     → values_from (walk_between rows p idle (place s) false) words
     ≡ option_and_then up_to_four (read words None (values_at o s))
 
--- and so where the value of an option is due
+-- the same if an option waits for its value
 abbrev Due : List Text → Type 0
 Due words = (name : OptionName) (rows : List Row) (o : OptionValues) (s : Stage) → HaveValues rows o s
     → values_from (walk_between rows (Some (option_text name, [])) (option (option_text name)) (place s) false) words
     ≡ option_and_then up_to_four (read words (Some name) (values_at o s))
 
--- an option without a row is not there twice
+-- an option without a row is not repeated
 no_repeat : (id : Text) (rows : List Row) → has_row id rows ≡ false → repeated id rows ≡ []
 no_repeat id rows h = rw h refl
 
--- one with a row is
+-- an option with a row is
 repeat : (id : Text) (rows : List Row) → has_row id rows ≡ true → repeated id rows ≡ kind.ArgumentConflict ∷ []
 repeat id rows h = rw h refl
 
--- what the rules read behind a first value of an option
+-- what the rules read after the first value of an option
 read_new : (name : OptionName) (v : Text) (rest : List Text) (o : OptionValues) (s : Stage) → o name ≡ None
     → option_and_then up_to_four (read rest None (values_at (with_option name v o) s))
     ≡ option_and_then up_to_four (option_and_then (read rest None) (with_value name v (values_at o s)))
 read_new name v rest o s e = ap (λ g. option_and_then up_to_four (option_and_then (read rest None) g))
     (sym (with_value-new name v o (listed s) e))
 
--- a second one is refused
+-- a second value is refused
 read_twice : (name : OptionName) (v w : Text) (rest : List Text) (o : OptionValues) (s : Stage) → o name ≡ Some w
     → None ≡ option_and_then up_to_four (option_and_then (read rest None) (with_value name v (values_at o s)))
 read_twice name v w rest o s e = ap (λ g. option_and_then up_to_four (option_and_then (read rest None) g))
@@ -334,7 +334,7 @@ value_step name v rest free rows p o s clear st = by (o name) refl
         (repeat (option_text name) (rows_with rows p) (is_given (rows_with rows p) o s name w st e)))
         ∙ read_twice name v w rest o s e
 
--- a word with a dash, where nothing is due
+-- a word with a dash, if no option waits for its value
 free_dashed : (d : DashedWord) (word : Text) (rest : List Text) → Free rest → Due rest → Says d word → (rows : List Row)
     (p : Option (Text × List Text)) (o : OptionValues) (s : Stage) → pending_fault rows p ≡ []
     → HaveValues (rows_with rows p) o s
@@ -360,7 +360,7 @@ free_dashed unknown word rest free due refuses rows p o s clear st =
     values_from-refused (walk_between rows p idle (place s) false) word rest kind.UnknownArgument []
     (refuses rows p idle (place s))
 
--- a positional at this place, where nothing is due
+-- a positional at this place, if no option waits for its value
 free_at : (k : Place) (s t : Stage) (word : Text) (rest : List Text) → Follows word k s t → Free rest → IsPlain word
     → (rows : List Row) (p : Option (Text × List Text)) (o : OptionValues) → pending_fault rows p ≡ []
     → HaveValues (rows_with rows p) o s
@@ -376,7 +376,7 @@ free_at k s t word rest follows free is rows p o clear st =
     (no_fault-place k word (rows_with rows p) (free_place word k s t (rows_with rows p) o follows st))
     (place_pending k word (rows_with rows p) o s t follows st)
 
--- a word without a dash, where nothing is due: a positional
+-- a word without a dash, if no option waits for its value: a positional
 free_plain : (word : Text) (rest : List Text) → Free rest → IsPlain word → (rows : List Row)
     (p : Option (Text × List Text)) (o : OptionValues) (s : Stage) → pending_fault rows p ≡ []
     → HaveValues (rows_with rows p) o s
@@ -395,7 +395,7 @@ free_plain word rest free is rows p o (four a b c d) clear st =
     (fault_of_fifth word rows p is)
     ∙ sym (too_many rest a b c d word None o [])
 
--- any word, where nothing is due
+-- any word, if no option waits for its value
 free_step : (word : Text) (rest : List Text) → IsUtf8 word → Free rest → Due rest → Free (word ∷ rest)
 free_step word rest u free due rows p o s clear st =
     let dash : Option GivenView = after_dashed (dashed_word word) rest (read rest) (values_at o s) in
@@ -408,7 +408,7 @@ free_step word rest u free due rows p o s clear st =
     ∙ ap (λ (t : Bool). option_and_then up_to_four (cond t dash text)) (sym no))
     (cases_Bool (is_dashed word))
 
--- a word without a dash, where a value is due: the value
+-- a word without a dash, if an option waits for its value: the value
 due_plain : (name : OptionName) (word : Text) (rest : List Text) → AllByRecursion IsUtf8 rest → Free rest
     → IsPlain word → (rows : List Row) (o : OptionValues) (s : Stage) → HaveValues rows o s
     → values_from (walk_between rows (Some (option_text name, [])) (option (option_text name)) (place s) false)
@@ -438,7 +438,7 @@ due_plain name word rest us free is rows o s st = by (o name) refl
         (fault-twice name word rows (is_given rows o s name w st e))
         ∙ read_twice name word w rest o s e
 
--- any word, where a value is due
+-- any word, if an option waits for its value
 due_step : (word : Text) (rest : List Text) → IsUtf8 word → AllByRecursion IsUtf8 rest → Free rest
     → Due (word ∷ rest)
 due_step word rest u us free name rows o s st =
@@ -452,7 +452,7 @@ due_step word rest u us free name rows o s st =
     ∙ ap (λ (t : Bool). option_and_then up_to_four (cond t None text)) (sym no))
     (cases_Bool (is_dashed word))
 
--- no word more
+-- the end of the words
 free_end : Free []
 free_end rows p o s clear st = values_from-end rows p idle false o s clear st ∙ sym (up_to_four-at o s)
 
@@ -461,7 +461,7 @@ due_end : Due []
 due_end name rows o s st = doomed_end rows (Some (option_text name, [])) (option (option_text name)) (place s) false
     kind.InvalidValue [] (fault-missing name rows)
 
--- so at any words
+-- at any words
 steps : (words : List Text) → AllByRecursion IsUtf8 words → Free words × Due words
 steps [] u = (free_end, due_end)
 steps (word ∷ rest) u = (
@@ -471,12 +471,12 @@ steps (word ∷ rest) u = (
 
 -- ---- the whole parse
 
--- no kind at the end is none more
+-- adding no kinds changes nothing
 or_else-nil : (a : Kinds) → or_else a [] ≡ a
 or_else-nil [] = refl
 or_else-nil (k ∷ ks) = refl
 
--- only the walk and what is pending at its end may fail
+-- only the walk and the pending use at its end may fail
 walk_and_end : (walk below last defaults check : Kinds) → below ≡ [] → defaults ≡ [] → check ≡ []
     → or_else walk (or_else below (or_else last (or_else defaults check))) ≡ or_else walk last
 walk_and_end walk below last defaults check b d k =
@@ -497,13 +497,13 @@ none_checked rows false = refl
 abbrev HasNoDefault : Rule → Type 0
 HasNoDefault a = a.defaults ≡ []
 
--- such an argument has no default that fails
+-- such an argument has no default value that fails
 no_default_fault : (rows : List Row) (a : Rule) → HasNoDefault a → default_fault rows a ≡ []
 no_default_fault rows a h =
     cond-true (has_row a.id rows || is_empty a.defaults) [] _
     (or_right (has_row a.id rows) (is_empty a.defaults) (ap (λ (d : List Text). is_empty d) h))
 
--- nor have several
+-- the same for several arguments
 no_defaults_fault : (rules : List Rule) (rows : List Row) → AllByRecursion HasNoDefault rules
     → defaults_fault rows rules ≡ []
 unfolding defaults_fault
@@ -521,7 +521,7 @@ no_default : (rows : List Row) (a : Rule) → HasNoDefault a → with_default ro
 no_default rows a h = same_either_way (has_row a.id rows) rows (default_rows a.id (reading_by a) a.defaults rows)
     (ap (λ (d : List Text). default_rows a.id (reading_by a) d rows) h)
 
--- nor do several
+-- the same for several arguments
 no_defaults : (rules : List Rule) (rows : List Row) → AllByRecursion HasNoDefault rules
     → fold with_default rows rules ≡ rows
 no_defaults [] rows h = refl

@@ -1,4 +1,4 @@
--- The rows of what clap has found, from use to use.
+-- The rows that clap has found, from one use to the next.
 use Rattle.std.proofs.Common.{◌≡◌, ◌∙◌, ◌||◌, ℕ, true, false, cond, List, [], ◌∷◌, ◌++◌, refl, sym, ap, subst}
 use Rattle.std.proofs.Common.{codes, find}
 use Rattle.std.proofs.Common.{Option, Some, None, is_some, bytes_eq, slice_get, option_and_then, append-nil}
@@ -14,7 +14,7 @@ use Rattle.command_words.proofs.ClapSteps.{Place, first, mode, next_positional, 
 use Rattle.command_words.proofs.ClapSteps.{third}
 use Rattle.command_words.proofs.ClapSteps.{rows_with, rows_with-option, rows_with-place, used}
 
--- ---- a use of what was not used yet is a row more
+-- ---- the first use of an option or a positional adds a row
 
 -- the row of a first use
 abbrev new : Text → Text → Row
@@ -35,14 +35,14 @@ added id v rows h =
     ap (λ x. with_values id AsWritten CommandLine (v ∷ []) x) gone
     ∙ unmatched id (more_values CommandLine (v ∷ [])) (new id v ∷ []) rows h
 
--- it is not the row of another
+-- the row is not that of another name
 find-other : (id other v : Text) (rows : List Row) → bytes_eq id other ≡ false
     → find (λ r. bytes_eq r.id other) (rows ++ (new id v ∷ [])) ≡ find (λ r. bytes_eq r.id other) rows
 find-other id other v [] h = rw h refl
 find-other id other v (r ∷ rs) h =
     ap (λ x. cond (bytes_eq r.id other) (Some r) x) (find-other id other v rs h)
 
--- it is the row of its own
+-- the row is found by its name
 find-same : (id v : Text) (rows : List Row) → bytes_eq id id ≡ true → has_row id rows ≡ false
     → find (λ r. bytes_eq r.id id) (rows ++ (new id v ∷ [])) ≡ Some (new id v)
 find-same id v [] same h = rw same refl
@@ -50,26 +50,26 @@ find-same id v (r ∷ rs) same h =
     let parts = or_parts (bytes_eq r.id id) (has_row id rs) h in
     rw (parts.0) (find-same id v rs same parts.1)
 
--- others have a row as before
+-- other names have a row as before
 has_row-other : (id other v : Text) (rows : List Row) → bytes_eq id other ≡ false
     → has_row other (rows ++ (new id v ∷ [])) ≡ has_row other rows
 has_row-other id other v [] h = rw h refl
 has_row-other id other v (r ∷ rs) h = ap (λ x. bytes_eq r.id other || x) (has_row-other id other v rs h)
 
--- its own is there
+-- the new name has a row
 has_row-same : (id v : Text) (rows : List Row) → bytes_eq id id ≡ true
     → has_row id (rows ++ (new id v ∷ [])) ≡ true
 has_row-same id v [] same = rw same refl
 has_row-same id v (r ∷ rs) same = or_right (bytes_eq r.id id) _ (has_row-same id v rs same)
 
--- ---- what the rows tell of an option or a positional
+-- ---- the rows of an option or a positional
 
--- the value that the rows have for it, and that there is no row without one
+-- the value that the rows have for a name, and that there is no row without one
 pub record Tells (rows : List Row) (id : Text) (value : Option Text) : Type 0 where
   pub first_value : first_of id rows ≡ value
   pub there : has_row id rows ≡ is_some value
 
--- a first use changes nothing for the others
+-- a first use changes nothing for other names
 tells-other : (id other v : Text) (rows : List Row) (value : Option Text) → has_row id rows ≡ false
     → bytes_eq id other ≡ false → Tells rows other value → Tells (used id v rows) other value
 tells-other id other v rows value none differs t =
@@ -80,7 +80,7 @@ tells-other id other v rows value none differs t =
     } in
     subst (λ x. Tells x other value) (sym (added id v rows none)) after
 
--- it gives its own the value
+-- the name has the value afterwards
 tells-same : (id v : Text) (rows : List Row) → bytes_eq id id ≡ true → Tells rows id None
     → Tells (used id v rows) id (Some v)
 tells-same id v rows same t =
@@ -90,7 +90,7 @@ tells-same id v rows same t =
     } in
     subst (λ x. Tells x id (Some v)) (sym (added id v rows t.there)) after
 
--- ---- what they tell of all
+-- ---- the rows of all options and positionals
 
 -- the positionals so far
 pub data Stage : Type 0 where
@@ -123,25 +123,25 @@ index_of first = 1
 index_of second = 2
 index_of third = 3
 
--- what stands at a place, if anything does
+-- the positional at a place, if any
 abbrev pub at_place : Place → Stage → Option Text
 at_place k s = slice_get (listed s) (index_of k)
 
--- the value of each option, if it is given
+-- the value of each option, if it has one
 abbrev pub OptionValues : Type 0
 OptionValues = OptionName → Option Text
 
--- none is given
+-- no option has a value
 abbrev pub no_options : OptionValues
 no_options name = None
 
--- the same, with a value of one of them
+-- the same with a value of one option
 abbrev pub with_option : OptionName → Text → OptionValues → OptionValues
 with_option workers v o workers = Some v
 with_option clone v o clone = Some v
 with_option given v o name = o name
 
--- these as the values of a command line
+-- these values as those of a command line
 abbrev pub values_at : OptionValues → Stage → GivenView
 values_at o s = record { workers = o workers; clone = o clone; positionals = listed s }
 
@@ -150,7 +150,7 @@ pub record HaveValues (rows : List Row) (o : OptionValues) (s : Stage) : Type 0 
   pub options : (name : OptionName) → Tells rows (option_text name) (o name)
   pub places : (k : Place) → Tells rows (positional_name k) (at_place k s)
 
--- no rows tell of nothing
+-- without rows there are no values
 pub at_start : HaveValues [] no_options none
 at_start = record { options = λ name. of_option name; places = λ k. of_place k }
   where
@@ -172,7 +172,7 @@ positionals_of-stage (two a b) = refl
 positionals_of-stage (three a b c) = refl
 positionals_of-stage (four a b c d) = refl
 
--- what the rows have is what they tell
+-- the values of the rows
 pub values_in-have : (rows : List Row) (o : OptionValues) (s : Stage) → HaveValues rows o s
     → values_in rows ≡ values_at o s
 values_in-have rows o s h = rw (
@@ -196,7 +196,7 @@ option_or_place clone first = refl
 option_or_place clone second = refl
 option_or_place clone third = refl
 
--- nor an option that of a positional
+-- no option has the name of a positional
 place_or_option : (k : Place) (name : OptionName) → bytes_eq (positional_name k) (option_text name) ≡ false
 place_or_option mode workers = refl
 place_or_option mode clone = refl
@@ -207,12 +207,12 @@ place_or_option second clone = refl
 place_or_option third workers = refl
 place_or_option third clone = refl
 
--- an option that is not given has no row
+-- an option without a value has no row
 pub not_given : (rows : List Row) (o : OptionValues) (s : Stage) (name : OptionName) → HaveValues rows o s
     → o name ≡ None → has_row (option_text name) rows ≡ false
 not_given rows o s name h unused = (h.options name).there ∙ ap is_some unused
 
--- one that is given has
+-- an option with a value has one
 pub is_given : (rows : List Row) (o : OptionValues) (s : Stage) (name : OptionName) (w : Text) → HaveValues rows o s
     → o name ≡ Some w → has_row (option_text name) rows ≡ true
 is_given rows o s name w h some = (h.options name).there ∙ ap is_some some
@@ -259,7 +259,7 @@ pub with_value-new : (name : OptionName) (v : Text) (o : OptionValues) (words : 
 with_value-new workers v o words h = rw h refl
 with_value-new clone v o words h = rw h refl
 
--- a second one
+-- a second value
 pub with_value-twice : (name : OptionName) (v w : Text) (o : OptionValues) (words : List Text) → o name ≡ Some w
     → with_value name v (record { workers = o workers; clone = o clone; positionals = words }) ≡ None
 with_value-twice workers v w o words h = rw h refl
@@ -267,28 +267,28 @@ with_value-twice clone v w o words h = rw h refl
 
 -- ---- a use of a positional
 
--- a positional more, at this place: the positionals before it, and with it
+-- one more positional, at this place: the positionals before it, and with it
 pub data Follows (v : Text) : Place → Stage → Stage → Type 0 where
   at_mode : Follows v mode none (one v)
   at_first : (a : Text) → Follows v first (one a) (two a v)
   at_second : (a b : Text) → Follows v second (two a b) (three a b v)
   at_third : (a b c : Text) → Follows v third (three a b c) (four a b c v)
 
--- nothing stood there
+-- the place was empty
 not_there : (v : Text) (k : Place) (s t : Stage) → Follows v k s t → at_place k s ≡ None
 not_there v _ _ _ at_mode = refl
 not_there v _ _ _ (at_first a) = refl
 not_there v _ _ _ (at_second a b) = refl
 not_there v _ _ _ (at_third a b c) = refl
 
--- the number behind it is that of the next place
+-- the next number is that of the next place
 pub next_place : (v : Text) (k : Place) (s t : Stage) → Follows v k s t → next_positional k ≡ place t
 next_place v _ _ _ at_mode = refl
 next_place v _ _ _ (at_first a) = refl
 next_place v _ _ _ (at_second a b) = refl
 next_place v _ _ _ (at_third a b c) = refl
 
--- there is no row for it
+-- the place has no row
 pub free_place : (v : Text) (k : Place) (s t : Stage) (rows : List Row) (o : OptionValues) → Follows v k s t
     → HaveValues rows o s → has_row (positional_name k) rows ≡ false
 free_place v k s t rows o follows h = (h.places k).there ∙ ap is_some (not_there v k s t follows)
@@ -334,7 +334,7 @@ pub place_pending : (k : Place) (v : Text) (rows : List Row) (o : OptionValues) 
 place_pending k v rows o s t follows h = subst (λ r. HaveValues r o t)
     (sym (rows_with-place k v rows)) (place_used k v rows o s t follows h)
 
--- ---- what is pending
+-- ---- the pending use
 
 -- a first use of an option has no fault
 pub no_fault-option : (name : OptionName) (v : Text) (rows : List Row) → has_row (option_text name) rows ≡ false
@@ -342,7 +342,7 @@ pub no_fault-option : (name : OptionName) (v : Text) (rows : List Row) → has_r
 no_fault-option workers v rows h = rw h refl
 no_fault-option clone v rows h = rw h refl
 
--- a second one has
+-- a second use has one
 pub fault-twice : (name : OptionName) (v : Text) (rows : List Row) → has_row (option_text name) rows ≡ true
     → pending_fault rows (Some (option_text name, v ∷ [])) ≡ kind.ArgumentConflict ∷ []
 fault-twice workers v rows h = rw h refl

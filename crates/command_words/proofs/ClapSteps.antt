@@ -1,4 +1,4 @@
--- One word of a command line, as clap's walk takes it.
+-- One word of a command line in clap's walk.
 use Rattle.std.proofs.Common.{◌≡◌, ◌∙◌, ◌&&◌, ℕ, Bool, true, false, cond, List, [], ◌∷◌, ◌++◌, refl, ap}
 use Rattle.std.proofs.Common.{codes, fold}
 use Rattle.std.proofs.Common.{Option, Some, None, bytes_eq, slice_get, chars}
@@ -39,21 +39,21 @@ walk_between rows pending waiting position ended = record {
   stopped = None;
 }
 
--- what it holds after the words
+-- what the walk holds after the words
 abbrev pub end_of : Walk → List Text → Held
 end_of w words = (fold (walked shape.rules []) w words).held
 
--- what clap finds, from where its walk stands
+-- what clap finds from this point of its walk
 abbrev pub values_from : Walk → List Text → Option GivenView
 values_from w words =
     unless_fault (or_else (walk_fault shape [] w words) (settle_fault shape.rules false (end_of w words)))
     (Some (values_in (settled shape.rules (end_of w words)).rows))
 
--- the fault of what is pending
+-- the fault of the pending use
 abbrev pub pending_fault : List Row → Option (Text × List Text) → Kinds
 pending_fault rows pending = settle_fault shape.rules false (walk_holds rows pending)
 
--- the rows with what is pending
+-- the rows with the pending use
 abbrev pub rows_with : List Row → Option (Text × List Text) → List Row
 rows_with rows pending = settled_rows shape.rules pending rows
 
@@ -82,7 +82,7 @@ values_from-taken w v word rest none walks =
     values_from-cons w word rest ∙ ap (λ k. unless_fault k (values_from (walked shape.rules [] w word) rest)) none
     ∙ ap (λ x. values_from x rest) walks
 
--- a word that it refuses
+-- a word that clap refuses
 pub values_from-refused : (w : Walk) (word : Text) (rest : List Text) (k : ErrorKind) (ks : Kinds)
     → turn_fault shape [] w word ≡ k ∷ ks → values_from w (word ∷ rest) ≡ None
 values_from-refused w word rest k ks some =
@@ -90,7 +90,7 @@ values_from-refused w word rest k ks some =
 
 -- ---- `--`
 
--- it has no fault of its own
+-- the word itself has no fault
 pub fault_at_end : (rows : List Row) (p : Option (Text × List Text)) (waiting : Waiting) (position : ℕ)
     → turn_fault shape [] (walk_between rows p waiting position false) (codes "--") ≡ []
 fault_at_end rows p idle position = refl
@@ -108,7 +108,7 @@ walk_at_end rows p positional position = refl
 
 -- ---- `--NAME`
 
--- what was pending before may fail
+-- the earlier pending use may fail
 pub fault_of_name : (name : OptionName) (rows : List Row) (p : Option (Text × List Text)) (waiting : Waiting)
     (position : ℕ) → turn_fault shape [] (walk_between rows p waiting position false) (option_word name)
     ≡ or_else (pending_fault rows p) []
@@ -133,7 +133,7 @@ walk_of_name clone rows p position = refl
 abbrev pub repeated : Text → List Row → Kinds
 repeated id rows = cond (has_row id rows && true) (kind.ArgumentConflict ∷ []) []
 
--- what was pending may fail, or the option has a value already
+-- the earlier pending use may fail, or the option has a value already
 pub fault_of_value : (name : OptionName) (v : Text) (rows : List Row) (p : Option (Text × List Text))
     (waiting : Waiting) (position : ℕ)
     → turn_fault shape [] (walk_between rows p waiting position false) (option_word name ++ (61 ∷ v))
@@ -155,20 +155,20 @@ walk_of_value clone v rows p position = refl
 
 -- ---- a word that is no flag
 
--- clap takes the word for no flag
+-- clap does not take the word for a flag
 pub record IsPlain (word : Text) : Type 0 where
   pub no_end : bytes_eq word (codes "--") ≡ false
   pub no_long : long_of word ≡ None
   pub no_short : short_of word ≡ None
 
--- as the value that an option waits for
+-- the word as the value that an option waits for
 pub fault_of_next : (name : OptionName) (word : Text) (rows : List Row) (position : ℕ) → IsPlain word
     → turn_fault shape []
     (walk_between rows (Some (option_text name, [])) (option (option_text name)) position false) word ≡ []
 fault_of_next workers word rows position plain = rw (plain.no_end, plain.no_long, plain.no_short) refl
 fault_of_next clone word rows position plain = rw (plain.no_end, plain.no_long, plain.no_short) refl
 
--- it is pending with the option
+-- the word is pending with the option
 pub walk_of_next : (name : OptionName) (word : Text) (rows : List Row) (position : ℕ) → IsPlain word
     → walked shape.rules []
     (walk_between rows (Some (option_text name, [])) (option (option_text name)) position false) word
@@ -177,7 +177,7 @@ unfolding walked
 walk_of_next workers word rows position plain = rw (plain.no_end, plain.no_long, plain.no_short) refl
 walk_of_next clone word rows position plain = rw (plain.no_end, plain.no_long, plain.no_short) refl
 
--- as a positional: the first to the fourth
+-- the word as a positional: the first to the fourth
 pub data Place : Type 0 where
   mode : Place
   first : Place
@@ -210,13 +210,13 @@ not_several : (id : Text) (p : Option (Text × List Text))
     → (option_map_or (λ q. bytes_eq q.0 id) p false && false) ≡ false
 not_several id p = and_right (option_map_or (λ q. bytes_eq q.0 id) p false) false refl
 
--- settled, an option's use is a use of it
+-- a settled use of an option is a use of it
 pub rows_with-option : (name : OptionName) (v : Text) (rows : List Row)
     → rows_with rows (Some (option_text name, v ∷ [])) ≡ used (option_text name) v rows
 rows_with-option workers v rows = refl
 rows_with-option clone v rows = refl
 
--- and so is a positional's
+-- the same for a positional
 pub rows_with-place : (k : Place) (v : Text) (rows : List Row)
     → rows_with rows (Some (positional_name k, v ∷ [])) ≡ used (positional_name k) v rows
 rows_with-place mode v rows = refl
@@ -224,7 +224,7 @@ rows_with-place first v rows = refl
 rows_with-place second v rows = refl
 rows_with-place third v rows = refl
 
--- what was pending before may fail
+-- the earlier pending use may fail
 pub fault_of_plain : (k : Place) (word : Text) (rows : List Row) (p : Option (Text × List Text)) → IsPlain word
     → turn_fault shape [] (walk_between rows p idle (positional_number k) false) word ≡ pending_fault rows p
 fault_of_plain mode word rows p plain =
@@ -250,14 +250,14 @@ walk_of_plain second word rows p plain =
 walk_of_plain third word rows p plain =
     rw (plain.no_end, plain.no_long, plain.no_short, not_several (codes "third") p) refl
 
--- there is no fifth
+-- there is no fifth positional
 pub fault_of_fifth : (word : Text) (rows : List Row) (p : Option (Text × List Text)) → IsPlain word
     → turn_fault shape [] (walk_between rows p idle 5 false) word ≡ kind.UnknownArgument ∷ []
 fault_of_fifth word rows p plain = rw (plain.no_end, plain.no_long, plain.no_short) refl
 
--- ---- behind `--`
+-- ---- after `--`
 
--- what was pending before may fail
+-- the earlier pending use may fail
 pub fault_behind : (k : Place) (word : Text) (rows : List Row) (p : Option (Text × List Text)) (waiting : Waiting)
     → turn_fault shape [] (walk_between rows p waiting (positional_number k) true) word ≡ pending_fault rows p
 fault_behind mode word rows p waiting = rw (not_several (codes "mode") p) refl
@@ -275,14 +275,14 @@ walk_behind first word rows p waiting = rw (not_several (codes "first") p) refl
 walk_behind second word rows p waiting = rw (not_several (codes "second") p) refl
 walk_behind third word rows p waiting = rw (not_several (codes "third") p) refl
 
--- there is no fifth
+-- there is no fifth positional
 pub fault_of_fifth_behind : (word : Text) (rows : List Row) (p : Option (Text × List Text)) (waiting : Waiting)
     → turn_fault shape [] (walk_between rows p waiting 5 true) word ≡ kind.UnknownArgument ∷ []
 fault_of_fifth_behind word rows p waiting = refl
 
--- ---- a flag that there is not
+-- ---- a flag that does not exist
 
--- clap refuses the word wherever an option may stand
+-- clap refuses the word at any place for an option
 abbrev pub IsRefused : Text → Type 0
 IsRefused word = (rows : List Row) (p : Option (Text × List Text)) (waiting : Waiting) (position : ℕ)
     → turn_fault shape [] (walk_between rows p waiting position false) word ≡ kind.UnknownArgument ∷ []
@@ -305,7 +305,7 @@ no_bundle : (x c : ℕ) (text : Text) (h : Held) → h.skip ≡ 0 → slice_get 
 unfolding flags_fault
 no_bundle x c text h none begins = rw (none, begins) refl
 
--- so a word after one dash is refused
+-- a word after one dash is refused
 short_word_fault : (x c : ℕ) (text : Text) (h : Held) → h.skip ≡ 0 → (x == 45) ≡ false
     → slice_get (chars (x ∷ text)) 0 ≡ Some c
     → other_fault shape None (45 ∷ x ∷ text) h ≡ kind.UnknownArgument ∷ []
@@ -315,7 +315,7 @@ short_word_fault x c text h none no_dash begins =
     let flags : short_of (45 ∷ x ∷ text) ≡ Some (x ∷ text) = rw no_dash refl in
     rw (no_end, no_long, flags) (no_bundle x c text h none begins)
 
--- a first fault is the fault
+-- the first fault is reported
 refused_by : (a b : Kinds) (k : ErrorKind) → a ≡ k ∷ [] → or_else a b ≡ k ∷ []
 refused_by a b k e = ap (λ x. or_else x b) e
 

@@ -1,4 +1,4 @@
--- What is asked, by the values that clap finds.
+-- The request of the values that clap finds.
 use Rattle.std.proofs.Common.{◌≡◌, ◌∙◌, ℕ, List, [], ◌∷◌, refl, ap, Option, Some, None, option_map}
 use Rattle.std.proofs.Common.{option_and_then}
 use Rattle.command_words.specs.declared.given.Given.{Given}
@@ -22,23 +22,23 @@ form_of_few w c (x ∷ y ∷ z ∷ u ∷ []) = refl
 form_of_few w c (x ∷ y ∷ z ∷ u ∷ t ∷ more) =
     ap (λ (v : Option GivenView). option_and_then form_of v) (more_than_four w c x y z u t more)
 
--- also where a rule is broken
+-- the same if a rule is broken
 form_by_few : (v : Option GivenView)
     → option_and_then form_of (option_and_then up_to_four v) ≡ option_and_then form_of v
 form_by_few None = refl
 form_by_few (Some v) = form_of_few v.workers v.clone v.positionals
 
 -- ---- form_given
--- what the values that were read ask for
+-- the request of the values that were read
 abbrev pub form_given : Option Given → Option RequestView
 form_given given = option_and_then (λ g. form_of (given_view g)) given
 
--- it is what their values ask for
+-- it is the request of their values
 by_values : (given : Option Given) → form_given given ≡ option_and_then form_of (option_map given_view given)
 by_values None = refl
 by_values (Some g) = refl
 
--- so what clap finds asks for what the words ask for
+-- the request of what clap finds is that of the words
 pub form_found : (words : List (List ℕ)) (given : Option Given)
     → option_map given_view given ≡ option_and_then up_to_four (values words) → form_given given ≡ form words
 form_found words given same =

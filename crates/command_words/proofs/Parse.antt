@@ -1,4 +1,4 @@
--- What the parse of the command comes to.
+-- The result of parsing the command.
 use Rattle.std.proofs.Common.{◌≡◌, inl, inr, ℕ, Bool, true, false, List, [], ◌∷◌}
 use Rattle.std.proofs.Common.{map, refl, Some, None, option_map, codes, slice_get, cond, Option}
 use Rattle.std.specs.Prelude.{find, option_and_then}
@@ -19,19 +19,19 @@ use Rattle.command_words.specs.Values.{GivenView, positionals_of}
 
 -- ---- is_simple, is_simple_and_free
 
--- clap says of the command what it finds in all words
+-- clap finds its values in all words
 pub is_simple-cloner_app : is_simple cloner_app ≡ true
 unfolding clap_on_literals
 is_simple-cloner_app = refl
 
--- and when it refuses them
+-- and refuses words that have a fault
 pub is_simple_and_free-cloner_app : is_simple_and_free cloner_app ≡ true
 unfolding clap_on_literals
 is_simple_and_free-cloner_app = refl
 
 -- ---- HasKind
 
--- clap refuses words only where they have a fault, or out of memory
+-- clap refuses words only if they have a fault, or if out of memory
 pub HasKind-refused : (kinds : Kinds) (e : Error) (g : Option GivenView) → HasKind kinds e
     → (kind_of e ≡ OutOfMemory → ⊥) → None ≡ unless_fault kinds g
 HasKind-refused [] e g (inl memory) other = absurd (other memory)
@@ -40,7 +40,7 @@ HasKind-refused (k ∷ ks) e g h other = refl
 
 -- ---- first_of
 
--- a first value behind a reference
+-- a first value after a reference
 first_text : (xs : List (Bor (List ℕ))) → slice_get (texts xs) 0 ≡ option_map (λ s. s.now) (slice_get xs 0)
 first_text [] = refl
 first_text (x ∷ xs) = refl
@@ -62,19 +62,19 @@ first_in (e ∷ es) id = one (bytes_eq e.0.now id) (first_in es id)
     one true again = first_text e.1.vals.items
     one false again = again
 
--- the value that clap gives is that of the row
+-- clap's value is that of the row
 first_is : (f : Found) (id : List ℕ) → first_of id (rows_of f) ≡ first_value f id
 first_is f id = first_in f.entries.items id
 
 -- ---- clap_values
 
--- where clap refuses the words, it finds no values
+-- if clap refuses the words, it finds no values
 pub refused_words : (words : List (List ℕ)) (e : Error) → HasKind (fault_of cloner_app words) e
     → (kind_of e ≡ OutOfMemory → ⊥) → None ≡ clap_values words
 unfolding clap_values
 refused_words words e h other = HasKind-refused (fault_of cloner_app words) e _ h other
 
--- where it takes them, it finds what it gives
+-- if it takes them, it finds the values that it returns
 pub read_words : (words : List (List ℕ)) (m : ArgMatches) → fault_of cloner_app words ≡ []
     → rows_of (found_of m) ≡ matches_of cloner_app words
     → Some (record {

@@ -1,4 +1,4 @@
--- What is asked of a study that is made of a number.
+-- The request of a study that is generated from a number.
 use Rattle.std.proofs.Common.{◌≡◌, ◌&&◌, ℕ, Bool, true, false, cond, List, [], ◌∷◌, codes, refl, subst, IfSome}
 use Rattle.std.proofs.Common.{Option, Some, None, bytes_eq, option_map, option_and_then}
 use Rattle.command_words.specs.declared.request.TheConstants.{MOST_STUDY}
@@ -12,32 +12,32 @@ use Rattle.command_words.specs.Requests.{study_of, watch_by, watch_form, workers
 use Rattle.command_words.specs.Rules.{values}
 use Rattle.command_words.specs.Values.{GivenView}
 
--- of a made study the report is written
+-- a study that is generated from a number writes the report
 abbrev IsReportIfMade : AssignmentView → Type 0
 IsReportIfMade (Study (Number n) mode) = mode ≡ Report
 IsReportIfMade (Study (FileNames model script) mode) = Unit {0}
 IsReportIfMade (Live model script) = Unit {0}
 IsReportIfMade (Watch model script watches) = Unit {0}
 
--- of what may be asked, likewise
+-- the same for a request, if any
 abbrev AreReportsIfMade : Option RequestView → Type 0
 AreReportsIfMade request = IfSome request (λ r. IsReportIfMade r.assignment)
 
--- ---- what each form gives
+-- ---- the result of each form
 
--- a choice of two, where both are so
+-- a choice between two requests with this property
 cond-reports : (b : Bool) (x y : Option RequestView) → AreReportsIfMade x → AreReportsIfMade y
     → AreReportsIfMade (cond b x y)
 cond-reports true x y h k = h
 cond-reports false x y h k = k
 
--- what may be there, where it is so of each
+-- an optional request with this property
 map-reports : {A : Type 0} (f : A → RequestView) (x : Option A) → ((a : A) → IsReportIfMade (f a).assignment)
     → AreReportsIfMade (option_map f x)
 map-reports f None each = tt
 map-reports f (Some a) each = each a
 
--- where both names of files are there
+-- if both file names are there
 named-reports : (first second : List ℕ) (x : Option RequestView) → AreReportsIfMade x
     → AreReportsIfMade (if_named first second x)
 named-reports first second x h = cond-reports (is_text first && is_text second) x None h tt
@@ -66,12 +66,12 @@ made-reports (Some n) workers = map-reports (study_of (Number n) Report) workers
 
 -- ---- all forms
 
--- of one positional more
+-- one more positional
 one-reports : (mode number : List ℕ) (v : GivenView) → AreReportsIfMade (form_of_one mode number v)
 one-reports mode number v = cond-reports (bytes_eq mode (codes "gen")) _ None
     (made-reports (number_to MOST_STUDY number) (workers_alone v.workers v.clone)) tt
 
--- of two
+-- two more positionals
 two-reports : (mode first second : List ℕ) (v : GivenView) → AreReportsIfMade (form_of_two mode first second v)
 two-reports mode first second v =
     cond-reports (bytes_eq mode (codes "run")) _ _ (study-reports Run first second v)
@@ -87,7 +87,7 @@ watch-reports model script watches v =
     cond-reports (is_text watches) _ None (named-reports model script _
     (map-reports (watch_by model script watches) (workers_alone v.workers v.clone) (λ n. tt))) tt
 
--- of three
+-- three more positionals
 three-reports : (mode first second third : List ℕ) (v : GivenView)
     → AreReportsIfMade (form_of_three mode first second third v)
 three-reports mode first second third v =

@@ -1,4 +1,4 @@
--- What a word is by the rules, and what clap takes it for.
+-- The kind of a word by the rules, and by clap.
 use Rattle.std.proofs.Common.{◌≡◌, ◌⊎◌, inl, inr, ◌∙◌, ◌==◌, ℕ, ◌<◌, ◌≤◌, Bool, true, false, cond, List, []}
 use Rattle.std.proofs.Common.{◌∷◌, ◌++◌}
 use Rattle.std.proofs.Common.{length, get_or, drop, codes, refl, sym, ap, ap₂, ⊎_elim, nat_eq, eqb-true}
@@ -27,7 +27,7 @@ one_byte_long : (t : Bool) → option_and_then long_of_rest (option_and_then (st
 one_byte_long true = refl
 one_byte_long false = refl
 
--- nor anything behind a dash
+-- nor a short flag after a dash
 one_byte_short : (t : Bool) → option_and_then short_of_rest (cond t (Some []) None) ≡ None
 one_byte_short true = refl
 one_byte_short false = refl
@@ -37,7 +37,7 @@ one_byte_end : (t : Bool) → (t && false) ≡ false
 one_byte_end true = refl
 one_byte_end false = refl
 
--- clap takes such words for no flag
+-- clap does not take such words for a flag
 pub IsPlain-of_undashed : (word : Text) → is_dashed word ≡ false → IsPlain word
 IsPlain-of_undashed [] h = record { no_end = refl; no_long = refl; no_short = refl }
 IsPlain-of_undashed (b ∷ []) h = record {
@@ -53,7 +53,7 @@ IsPlain-of_undashed (b ∷ c ∷ rest) h = record { no_end = rw h refl; no_long 
 abbrev is_equals : ℕ → Bool
 is_equals x = x == 61
 
--- a word with this name is the name, or goes on with `=`
+-- a word with this name is the name, or continues with `=`
 names : (text name : Text) → long_name text ≡ name → (text ≡ name) ⊎ (text ≡ name ++ (61 ∷ after_first is_equals text))
 names text name e = ⊎_elim
     (λ (lt : position_or_len is_equals text < length text). inr (split_at_first is_equals text 0 lt
@@ -69,13 +69,13 @@ starts : (name : OptionName) (word v : Text) → word ≡ option_word name ++ (6
 starts workers word v e = (starts_is Decides-eqb word (codes "--workers=") _ refl).1 v e
 starts clone word v e = (starts_is Decides-eqb word (codes "--clone=") _ refl).1 v e
 
--- what begins with `--NAME=` is `--NAME=V`
+-- a word that begins with `--NAME=` is `--NAME=V`
 starts_back : (name : OptionName) (word : Text) → starts_with nat_eq word (option_word name ++ (61 ∷ [])) ≡ true
     → word ≡ option_word name ++ (61 ∷ drop (length (option_word name ++ (61 ∷ []))) word)
 starts_back workers word e = (starts_is Decides-eqb word (codes "--workers=") _ refl).0 e
 starts_back clone word e = (starts_is Decides-eqb word (codes "--clone=") _ refl).0 e
 
--- ---- what a word with a dash says
+-- ---- the kind of a word with a dash
 
 -- a word that is neither has another name
 other_name : (name : OptionName) (text : Text) → bytes_eq (45 ∷ 45 ∷ text) (option_word name) ≡ false
@@ -105,7 +105,7 @@ record IsOther (word : Text) : Type 0 where
   no_name : (name : OptionName) → bytes_eq word (option_word name) ≡ false
   no_value : (name : OptionName) → starts_with nat_eq word (option_word name ++ (61 ∷ [])) ≡ false
 
--- then clap refuses it
+-- clap refuses such a word
 refused : (word : Text) → IsUtf8 word → is_dashed word ≡ true → IsOther word → IsRefused word
 refused [] u h o = absurd cc
 refused (b ∷ []) u h o = absurd cc
@@ -134,7 +134,7 @@ refused (b ∷ c ∷ text) u h o = dashes b c text (eqb-true b 45 h) u o
     dashes b c text e u o = subst (λ x. IsRefused (x ∷ c ∷ text)) (sym e)
         (second c text (is_dash c) (subst (λ x. IsUtf8 (x ∷ c ∷ text)) e u) (subst (λ x. IsOther (x ∷ c ∷ text)) e o))
 
--- what clap makes of it
+-- clap's reading of the word
 abbrev pub Says : DashedWord → Text → Type 0
 Says ending word = word ≡ codes "--"
 Says (bare_option name) word = word ≡ option_word name
@@ -146,7 +146,7 @@ each_option : (P : OptionName → Type 0) → P workers → P clone → (name : 
 each_option P w c workers = w
 each_option P w c clone = c
 
--- what the rules say of a word that may name an option is what clap makes of it
+-- a word that may name an option has the same kind by the rules and by clap
 Says-option_or : (name : OptionName) (word : Text) (other : DashedWord)
     → (bytes_eq word (option_word name) ≡ false → starts_with nat_eq word (option_word name ++ (61 ∷ [])) ≡ false
     → Says other word) → Says (option_or name word other) word
@@ -164,7 +164,7 @@ Says-option_or name word other next = at_name (bytes_eq word (option_word name))
     at_name true a = (bytes_eq-Decides word (option_word name)).0 a
     at_name false a = at_value (starts_with nat_eq word (option_word name ++ (61 ∷ []))) a refl
 
--- what the rules say of a word with a dash is what clap makes of it
+-- a word with a dash has the same kind by the rules and by clap
 pub Says-dashed_word : (word : Text) → IsUtf8 word → is_dashed word ≡ true → Says (dashed_word word) word
 Says-dashed_word word u h = at_end (bytes_eq word (codes "--")) refl
   where

@@ -1,5 +1,5 @@
--- The command that clap reads the words by: two options and up to four positionals, without help and without
--- abbreviated names. An option more is one rule more, and so is a positional.
+-- The `clap` command that reads the words: two options and up to four positionals, without help and abbreviated names.
+-- Each option or positional is one rule.
 use Rattle.std.specs.Prelude.{ℕ, true, codes, List, Some}
 use Rattle.clap.specs.Words.{App, Rule, new_app, new_rule, with_rule}
 use Rattle.clap.specs.Simple.{on_top}
@@ -9,7 +9,7 @@ use Rattle.clap.specs.declared.builder.ArgAction.TheVariants.{Set}
 abbrev pub option : List ℕ → Rule
 option name = record (new_rule name) { long = Some name; action = Some Set }
 
--- a value without a name, which is known by its place
+-- a value without a name, identified by its place
 abbrev pub positional : List ℕ → Rule
 positional name = new_rule name
 

@@ -1,4 +1,4 @@
--- What the library `clap` finds in the words, by its own meaning, and that these are the values of the rules.
+-- What `clap` finds in the words, by its own semantics: these are the values of the rules.
 use Rattle.std.specs.Prelude.{◌≡◌, ℕ, true, codes, nat_le, if◌then◌else◌, List, [], ◌∷◌, length, Option, Some, None}
 use Rattle.std.specs.Prelude.{option_and_then}
 use Rattle.std.specs.List.{list_all}
@@ -17,12 +17,12 @@ values_in rows = record {
       (first_of (codes "second") rows) (first_of (codes "third") rows);
 }
 
--- what was found, None where there is a fault
+-- what was found, None if there is a fault
 abbrev pub unless_fault : Kinds → Option GivenView → Option GivenView
 unless_fault [] found = found
 unless_fault (k ∷ ks) found = None
 
--- the values that clap finds for its command, None where it refuses the words
+-- the values that clap finds for its command, None if it refuses the words
 unfoldable pub clap_values : List (List ℕ) → Option GivenView
 clap_values words = unless_fault (fault_of cloner_app words) (Some (values_in (matches_of cloner_app words)))
 
@@ -30,7 +30,7 @@ clap_values words = unless_fault (fault_of cloner_app words) (Some (values_in (m
 abbrev pub up_to_four : GivenView → Option GivenView
 up_to_four v = if nat_le (length v.positionals) 4 then Some v else None
 
--- clap finds the values of the rules, in each list of texts; more than four positionals it refuses
+-- clap finds the values of the rules in each list of texts, and refuses more than four positionals
 abbrev pub ClapFindsTheValues : Type 0
 ClapFindsTheValues = (words : List (List ℕ)) → list_all is_utf8 words ≡ true
     → clap_values words ≡ option_and_then up_to_four (values words)

@@ -1,4 +1,4 @@
--- Worked examples: command lines, and what they ask for.
+-- Worked examples: command lines and their requests.
 use Rattle.std.specs.Prelude.{◌≡◌, ◌==◌, ℕ, codes, List, [], ◌∷◌, map, Option, Some, None}
 use Rattle.std.specs.List.{slice_split}
 use Rattle.command_words.specs.declared.request.Mode.{Mode}
@@ -7,11 +7,11 @@ use Rattle.command_words.specs.Requests.{FileNames, Number, RequestView, form, s
 use Rattle.command_words.specs.Requests.{live_by as live_of}
 use Rattle.command_words.specs.Requests.{watch_by as watch_of}
 
--- the words of a line, which one space parts
+-- the words of a line, split at single spaces
 abbrev pub words_of : List ℕ → List (List ℕ)
 words_of line = slice_split (λ b. b == 32) line
 
--- the words of a command line, and what they ask for, None where it has no known form
+-- the words of a command line, and their request, None if it has no known form
 pub record Example : Type 0 where
   pub words : List (List ℕ)
   pub asks : Option RequestView
@@ -20,15 +20,15 @@ pub record Example : Type 0 where
 abbrev pub line : List ℕ → Option RequestView → Example
 line text asks = record { words = words_of text; asks = asks }
 
--- each line asks for what is said beside it
+-- each line has the request of its example
 abbrev pub AreRight : List Example → Type 0
 AreRight examples = map (λ e. form e.words) examples ≡ map (λ e. e.asks) examples
 
--- a study of the texts m and s, in this mode and by this number of workers
+-- a study of the texts m and s, in this mode and with this number of workers
 abbrev pub of_m_and_s : Mode → ℕ → Option RequestView
 of_m_and_s mode workers = Some (study_of (FileNames (codes "m") (codes "s")) mode workers)
 
--- all clones of the texts m and s, by this number of workers
+-- all clones of the texts m and s, with this number of workers
 abbrev pub run_by : ℕ → Option RequestView
 run_by workers = of_m_and_s Run workers
 
@@ -36,23 +36,23 @@ run_by workers = of_m_and_s Run workers
 abbrev pub solo_fast : Option RequestView
 solo_fast = of_m_and_s (Solo (codes "fast")) 1
 
--- all clones of the texts m and s, while analysts decide, by this number of workers
+-- all clones of the texts m and s, while analysts decide, with this number of workers
 abbrev pub live_by : ℕ → Option RequestView
 live_by workers = Some (live_of (codes "m") (codes "s") workers)
 
--- all clones of the texts m and s, with the watches of the text w, by this number of workers
+-- all clones of the texts m and s, with the watches of the text w, with this number of workers
 abbrev pub watch_by : ℕ → Option RequestView
 watch_by workers = Some (watch_of (codes "m") (codes "s") (codes "w") workers)
 
--- the report of what is made of a number, by this number of workers
+-- the report of the study of a number, with this number of workers
 abbrev pub gen_by : ℕ → ℕ → Option RequestView
 gen_by number workers = Some (study_of (Number number) Report workers)
 
--- all clones of two texts with odd names, by one worker
+-- all clones of two texts with odd names, with one worker
 abbrev pub run_named : List ℕ → List ℕ → Option RequestView
 run_named model script = Some (study_of (FileNames model script) Run 1)
 
--- the modes; without --workers there is one worker
+-- the modes; one worker without --workers
 abbrev pub modes : List Example
 modes =
     line (codes "run m s") (run_by 1)
@@ -68,7 +68,7 @@ modes =
     ∷ line (codes "--help") None
     ∷ []
 
--- an option's value is the next word, or stands in the same word
+-- an option's value is the next word, or part of the same word
 abbrev pub option_values : List Example
 option_values =
     line (codes "run m s --workers 4") (run_by 4)
@@ -80,13 +80,13 @@ option_values =
     -- no value, or an empty one
     ∷ line (codes "run m s --workers") None
     ∷ line (codes "run m s --workers=") None
-    -- a word with a dash is no value
+    -- a word with a dash is not a value
     ∷ line (codes "run m --workers -- s") None
     ∷ line (codes "run m s --workers -4") None
     ∷ line (codes "solo m s --clone --clone fast") None
     ∷ []
 
--- options stand anywhere before `--`
+-- options may be anywhere before `--`
 abbrev pub option_places : List Example
 option_places =
     line (codes "--workers 4 run m s") (run_by 4)
@@ -97,7 +97,7 @@ option_places =
     ∷ line (codes "gen --workers 16 999999") (gen_by 999999 16)
     ∷ []
 
--- each option stands at most once, by its whole name, and there are no others
+-- each option may occur once, with its whole name, and there are no other options
 abbrev pub option_names : List Example
 option_names =
     line (codes "run m s --workers 4 --workers 4") None
@@ -109,7 +109,8 @@ option_names =
     ∷ line (codes "run m s -w 4") None
     ∷ []
 
--- behind `--` each word is a positional, and before it none that begins with a dash, but for a dash alone
+-- after `--` each word is a positional, and before it a positional does not begin with a dash, unless it is a single
+-- dash
 abbrev pub dashes : List Example
 dashes =
     line (codes "-- run m s") (run_by 1)
@@ -122,7 +123,7 @@ dashes =
     ∷ line (codes "run -- m --") (run_named (codes "m") (codes "--"))
     ∷ []
 
--- the positionals are in number exactly, and none is empty
+-- the number of positionals is exact, and none is empty
 abbrev pub positionals : List Example
 positionals =
     record { words = []; asks = None }
@@ -144,7 +145,7 @@ positionals =
     ∷ line (codes " m s") None
     ∷ []
 
--- which option belongs to which mode
+-- the options of each mode
 abbrev pub options_of_modes : List Example
 options_of_modes =
     line (codes "run m s --clone base") None
@@ -155,12 +156,12 @@ options_of_modes =
     ∷ line (codes "links m s --clone fast") None
     ∷ line (codes "solo m s --clone fast --workers 4") None
     ∷ line (codes "solo m s") None
-    -- what is no name
+    -- words that are not names
     ∷ line (codes "solo m s --clone Fast") None
     ∷ line (codes "solo m s --clone -") None
     ∷ []
 
--- workers are 1 to 16 and numbers 1 to 999999, in decimal without leading zero or sign
+-- workers are 1 to 16 and numbers 1 to 999999, in decimal without a leading zero or sign
 abbrev pub numbers : List Example
 numbers =
     line (codes "run m s --workers 0") None

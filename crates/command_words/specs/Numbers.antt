@@ -1,17 +1,17 @@
--- The numbers of a command line.
+-- The numbers on a command line.
 use Rattle.std.specs.Prelude.{◌&&◌, ℕ, Bool, false, nat_le, if◌then◌else◌, List, [], ◌∷◌, length, Option, Some, None}
 use Rattle.std.specs.List.{list_all}
 use Rattle.std.specs.Str.Parse.{digits_value}
 use Rattle.sim_base.specs.Names.{is_digit, is_leading}
 use Rattle.command_words.specs.declared.number.TheConstants.{LONGEST_GIVEN_NUMBER}
 
--- digits of which the first is not 0
+-- digits that do not begin with 0
 abbrev pub is_positive : List ℕ → Bool
 is_positive [] = false
 is_positive (d ∷ ds) = is_leading d && list_all is_digit ds
 
--- the number from 1 to `most` that the word writes in decimal, without leading zero or sign; `most` has at most so many
--- digits
+-- the number from 1 to `most` that the word writes in decimal, without a leading zero or sign; `most` has at most
+-- `LONGEST_GIVEN_NUMBER` digits
 abbrev pub number_to : ℕ → List ℕ → Option ℕ
 number_to most word =
     if (is_positive word && nat_le (length word) LONGEST_GIVEN_NUMBER) &&

@@ -1,4 +1,4 @@
--- What the words of a command line ask for.
+-- The request of a command line.
 use Rattle.std.specs.Prelude.{◌≡◌, ◌&&◌, ℕ, Bool, true, false, codes, if◌then◌else◌, List}
 use Rattle.std.specs.Prelude.{[], ◌∷◌, Option, Some, None, option_map, option_and_then}
 use Rattle.std.specs.Str.{bytes_eq}
@@ -15,37 +15,37 @@ use Rattle.command_words.specs.Numbers.{number_to}
 use Rattle.command_words.specs.Rules.{values}
 use Rattle.command_words.specs.Values.{GivenView}
 
--- where the model and the script come from: two files by their names, or a number that they are made of
+-- the source of the model and the script: two files by their names, or a number from which both are generated
 pub data SourceView : Type 0 where
   FileNames : List ℕ → List ℕ → SourceView
   Number : ℕ → SourceView
 
--- an assignment, whoever does it: a study of a model and a script in a mode; a study of two files, the model and the
--- script, while analysts decide; or a study of three files, the third with watches
+-- an assignment: a study of a model and a script in a mode; a study of two files, the model and the script, while
+-- analysts decide; or a study of three files, the third with watches
 pub data AssignmentView : Type 0 where
   Study : SourceView → Mode → AssignmentView
   Live : List ℕ → List ℕ → AssignmentView
   Watch : List ℕ → List ℕ → List ℕ → AssignmentView
 
--- what is asked, and by how many workers it is done
+-- what to do, and with how many workers
 pub record RequestView : Type 0 where
   pub assignment : AssignmentView
   pub workers : ℕ
 
 -- ---- a request as plain data
 
--- where a study's texts come from
+-- the source of a study's texts, as plain data
 abbrev pub source_view : Source → SourceView
 source_view (origin.FileNames model script) = FileNames model.now script.now
 source_view (origin.Number number) = Number number
 
--- what is to be done
+-- an assignment as plain data
 abbrev pub assignment_view : Assignment → AssignmentView
 assignment_view (task.Study source mode) = Study (source_view source) mode
 assignment_view (task.Live model script) = Live model.now script.now
 assignment_view (task.Watch model script watches) = Watch model.now script.now watches.now
 
--- and by how many workers
+-- a request as plain data
 abbrev pub request_view : Request → RequestView
 request_view r = record { assignment = assignment_view r.assignment; workers = r.workers }
 
@@ -61,39 +61,39 @@ abbrev pub workers_of : Option (List ℕ) → Option ℕ
 workers_of None = Some 1
 workers_of (Some word) = number_to MOST_WORKERS word
 
--- the name that a word is
+-- a word as a name
 abbrev pub name_of : List ℕ → Option (List ℕ)
 name_of word = if is_name word then Some word else None
 
--- the workers, if no other option is given
+-- the number of workers, if there is no other option
 abbrev pub workers_alone : Option (List ℕ) → Option (List ℕ) → Option ℕ
 workers_alone workers None = workers_of workers
 workers_alone workers (Some clone) = None
 
--- the name of the clone, if no other option is given
+-- the name of the clone, if there is no other option
 abbrev pub clone_alone : Option (List ℕ) → Option (List ℕ) → Option (List ℕ)
 clone_alone None (Some clone) = name_of clone
 clone_alone _ _ = None
 
 -- ---- the forms
 
--- a study by this number of workers
+-- a study with this number of workers
 abbrev pub study_of : SourceView → Mode → ℕ → RequestView
 study_of source mode workers = record { assignment = Study source mode; workers = workers }
 
--- a live study by this number of workers
+-- a live study with this number of workers
 abbrev pub live_by : List ℕ → List ℕ → ℕ → RequestView
 live_by model script workers = record { assignment = Live model script; workers = workers }
 
--- a study with watches by this number of workers
+-- a study with watches, with this number of workers
 abbrev pub watch_by : List ℕ → List ℕ → List ℕ → ℕ → RequestView
 watch_by model script watches workers = record { assignment = Watch model script watches; workers = workers }
 
--- what is asked, if neither name of a file is empty
+-- the request, if neither file name is empty
 abbrev pub if_named : List ℕ → List ℕ → Option RequestView → Option RequestView
 if_named first second request = if is_text first && is_text second then request else None
 
--- `run MODEL SCRIPT [--workers N]`, and likewise `stats` and `links`
+-- `run MODEL SCRIPT [--workers N]`, and the same for `stats` and `links`
 abbrev pub study_form : Mode → List ℕ → List ℕ → GivenView → Option RequestView
 study_form mode model script v = if_named model script
     (option_map (study_of (FileNames model script) mode) (workers_alone v.workers v.clone))
@@ -121,11 +121,11 @@ gen_form number v =
     option_and_then (λ n. option_map (study_of (Number n) Report) (workers_alone v.workers v.clone))
     (number_to MOST_STUDY number)
 
--- the mode of one positional more
+-- the mode with one more positional
 abbrev pub form_of_one : List ℕ → List ℕ → GivenView → Option RequestView
 form_of_one mode number v = if bytes_eq mode (codes "gen") then gen_form number v else None
 
--- the modes of two positionals more; a later mode of two files is one `else if` more
+-- the modes with two more positionals; a later mode of two files adds one `else if`
 abbrev pub form_of_two : List ℕ → List ℕ → List ℕ → GivenView → Option RequestView
 form_of_two mode first second v =
     if bytes_eq mode (codes "run") then study_form Run first second v
@@ -135,27 +135,27 @@ form_of_two mode first second v =
     else if bytes_eq mode (codes "links") then study_form Links first second v
     else None
 
--- the mode of three positionals more
+-- the mode with three more positionals
 abbrev pub form_of_three : List ℕ → List ℕ → List ℕ → List ℕ → GivenView → Option RequestView
 form_of_three mode first second third v =
     if bytes_eq mode (codes "watch") then watch_form first second third v else None
 
--- the first positional is the mode, and the mode says how many follow
+-- the first positional is the mode, and the mode determines how many follow
 abbrev pub by_positionals : List (List ℕ) → GivenView → Option RequestView
 by_positionals (mode ∷ first ∷ []) v = form_of_one mode first v
 by_positionals (mode ∷ first ∷ second ∷ []) v = form_of_two mode first second v
 by_positionals (mode ∷ first ∷ second ∷ third ∷ []) v = form_of_three mode first second third v
 by_positionals _ v = None
 
--- what the values ask for, None if they have no known form
+-- the request of the values, None if they have no known form
 abbrev pub form_of : GivenView → Option RequestView
 form_of v = by_positionals v.positionals v
 
--- what the words ask for, None if the command line has no known form
+-- the request of the words, None if the command line has no known form
 abbrev pub form : List (List ℕ) → Option RequestView
 form words = option_and_then form_of (values words)
 
--- of a study whose texts are made of a number the report alone is written
+-- a study whose texts are generated from a number writes the report only
 abbrev pub MadeIsReported : Type 0
 MadeIsReported = (words : List (List ℕ)) (r : RequestView) (number : ℕ) (mode : Mode) → form words ≡ Some r
     → r.assignment ≡ Study (Number number) mode → mode ≡ Report

@@ -1,4 +1,4 @@
--- The line that tells the modes.
+-- The usage line.
 use Rattle.std.specs.Prelude.{ℕ, List, codes}
 
 -- each mode with its positionals and its options

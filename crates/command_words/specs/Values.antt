@@ -1,13 +1,13 @@
--- The values that a command line gives to its options, and its positionals.
+-- The values of the options and the positionals on a command line.
 use Rattle.std.specs.Prelude.{ℕ, List, [], ◌∷◌, Option, Some, None}
 
--- the value of each option, None where the option isn't there, and the positionals in their order
+-- the value of each option, None without the option, and the positionals in order
 pub record GivenView : Type 0 where
   pub workers : Option (List ℕ)
   pub clone : Option (List ℕ)
   pub positionals : List (List ℕ)
 
--- those that are there, up to the first that isn't
+-- the positionals up to the first one that is missing
 abbrev pub positionals_of : Option (List ℕ) → Option (List ℕ) → Option (List ℕ) → Option (List ℕ) → List (List ℕ)
 positionals_of None second third fourth = []
 positionals_of (Some a) None third fourth = a ∷ []

@@ -1,4 +1,4 @@
-//! The command that the words are read by.
+//! The `clap` command that reads the words.
 ghost use Rattle.std.specs.Prelude.{◌≡◌, IfOk, false};
 ghost use Rattle.clap.specs.Words.{app_of, rule_of, with_rule};
 ghost use Rattle.command_words.specs.Application.{cloner_app, bare_app, option, positional};
@@ -31,7 +31,7 @@ fn bare_command<'a>(alloc: Global) -> Command<'a>
         .disable_help_flag(true)
 }
 
-// The command with one argument more.
+// The command with one more argument.
 fn with_arg<'a>(command: Command<'a>, arg: Arg<'a>) -> Result<Command<'a>, AllocError>
     requires local { arg.global ≡ false }
     ensures value { IfOk result (λ c. app_of c ≡ with_rule (app_of command.entry) (rule_of arg.entry)) }

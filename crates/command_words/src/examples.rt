@@ -1,46 +1,46 @@
 //! Worked examples, computed by the checker from the rules of the command line.
 //!
-//! The lines, and what they ask for, stand in `specs/Examples.antt`. Each function's contract is a theorem; there is
+//! The lines and their requests are in `specs/Examples.antt`. The contract of each function is a theorem; there is
 //! nothing to run.
 ghost use Rattle.command_words.specs.Examples.{AreRight, dashes, modes, numbers, option_names, option_places};
 ghost use Rattle.command_words.specs.Examples.{option_values, options_of_modes, positionals};
 
-/// The seven modes, and what is none of them.
+/// The seven modes, and words that are no mode.
 pub fn the_modes()
     ensures { AreRight modes }
 {}
 
-/// An option's value is the next word, or stands in the same word.
+/// An option's value is the next word, or part of the same word.
 pub fn values_of_options()
     ensures { AreRight option_values }
 {}
 
-/// Options stand anywhere before `--`.
+/// Options may be anywhere before `--`.
 pub fn places_of_options()
     ensures { AreRight option_places }
 {}
 
-/// Each option stands at most once, by its whole name, and there are no others.
+/// Each option may occur once, with its whole name. There are no other options.
 pub fn names_of_options()
     ensures { AreRight option_names }
 {}
 
-/// Behind `--` each word is a positional; before it none that begins with a dash, but for a dash alone.
+/// After `--` each word is a positional. Before it a positional does not begin with a dash, unless it is a single dash.
 pub fn words_with_dashes()
     ensures { AreRight dashes }
 {}
 
-/// The positionals are in number exactly, and none is empty.
+/// The number of positionals is exact, and none is empty.
 pub fn number_of_positionals()
     ensures { AreRight positionals }
 {}
 
-/// Which option belongs to which mode.
+/// Each mode has its options.
 pub fn options_by_mode()
     ensures { AreRight options_of_modes }
 {}
 
-/// Workers are 1 to 16 and numbers 1 to 999999, in decimal without leading zero or sign.
+/// Workers are 1 to 16 and numbers 1 to 999999, in decimal without a leading zero or sign.
 pub fn numbers_in_words()
     ensures { AreRight numbers }
 {}

@@ -1,4 +1,4 @@
-//! The values that a command line gives.
+//! The values on a command line.
 ghost use Rattle.std.specs.Prelude.{◌≡◌, ◌↔◌, IfOk, IsTrue, true, option_map, option_and_then};
 ghost use Rattle.std.specs.List.{list_all};
 ghost use Rattle.std.specs.Str.{is_utf8};
@@ -25,21 +25,21 @@ pub(crate) struct Given<'a> {
     pub(crate) clone: Option<&'a str>,
 }
 
-// Whether the library was refused memory.
+// Whether the library ran out of memory.
 fn is_memory(error: &Error) -> bool
     ensures value { IsTrue result ↔ (kind_of error.now ≡ ErrorKind.OutOfMemory) }
 {
     error.kind() == ErrorKind::OutOfMemory
 }
 
-// A word is a text: its bytes are UTF-8.
+// Recalls that a word is a text: its bytes are UTF-8.
 fn note_text(word: &Word)
     ensures text { is_utf8 word.now ≡ true }
 {
     let _bytes = word.text().as_bytes();
 }
 
-// All words are. Nothing is done; what is known of each is said of all.
+// Recalls this for all words; it has no other effect.
 fn note_texts(words: &[Word])
     ensures texts { list_all is_utf8 words.now ≡ true }
 {
@@ -48,7 +48,7 @@ fn note_texts(words: &[Word])
     }
 }
 
-/// The values that the words give, None where they break a rule or there are more than four positionals.
+/// The values of the words, None if they break a rule or there are more than four positionals.
 pub(crate) fn given_words<'a>(
     alloc: Global,
     words: &'a [Word],
@@ -57,7 +57,7 @@ pub(crate) fn given_words<'a>(
     ensures value { IfOk result (λ g. option_map given_view g ≡ option_and_then up_to_four
         (values words.entry.now)) }
 
-    // they ask for what the words ask for
+    // the values lead to the same request as the words
     ensures asks { IfOk result (λ g. option_and_then (λ v. form_of (given_view v)) g ≡ form words.entry.now) }
 {
     note_texts(words);

@@ -1,13 +1,13 @@
-//! The numbers of a command line: decimal, from 1, without leading zero or sign.
+//! The numbers on a command line: decimal, from 1, without a leading zero or sign.
 ghost use Rattle.std.specs.Prelude.{◌≡◌, ◌≤◌, IfSome};
 ghost use Rattle.command_words.specs.Numbers.{is_positive, number_to as number_in};
 
 use sim_base::number::{are_digits, may_lead, value};
 
-// The digits of the greatest number that any command line may have.
+// The number of digits of the greatest number that a command line may have.
 pub(crate) const LONGEST_GIVEN_NUMBER: usize = 6;
 
-// Whether a word is a number from 1 on, without leading zero or sign.
+// Whether a word is a number from 1 on, without a leading zero or sign.
 fn is_positive_number(word: &[u8]) -> bool
     ensures value { result ≡ is_positive word.now }
 {
@@ -17,7 +17,7 @@ fn is_positive_number(word: &[u8]) -> bool
     }
 }
 
-/// The number from 1 to `most` that the word writes.
+/// Reads a word as a number from 1 to `most`.
 #[tactic(auto, using(crate::proofs::Digits::positive_digits))]
 pub(crate) fn number_to(most: u32, word: &[u8]) -> Option<u32>
     ensures value { result ≡ number_in most word.now }

@@ -1,4 +1,4 @@
-//! The reading of a command line: from its words to a request.
+//! Reads a command line: from its words to a request.
 ghost use Rattle.std.specs.Prelude.{◌≡◌, ◌⊎◌, ◌≤◌, IfOk, IfSome, None, Err, option_map};
 ghost use Rattle.command_words.specs.Requests.{clone_alone as clone_alone_of, form, form_of, form_of_one};
 ghost use Rattle.command_words.specs.Requests.{form_of_three, form_of_two, gen_form, is_text as is_text_of};
@@ -13,7 +13,7 @@ use sim_base::Name;
 use sim_outer::Word;
 use std::alloc::{AllocError, Global};
 
-// Whether a word has a byte.
+// Whether a word is not empty.
 fn is_text(text: &str) -> bool
     ensures value { result ≡ is_text_of text.now }
 {
@@ -23,7 +23,7 @@ fn is_text(text: &str) -> bool
     }
 }
 
-// How many workers an option asks for; without it, one.
+// The number of workers in an option; 1 without it.
 fn workers_of(word: Option<&str>) -> Option<u32>
     ensures value { result ≡ workers_in (option_map (λ s. s.now) word.entry) }
     ensures some { IfSome result (λ n. 1 ≤ n) }
@@ -35,7 +35,7 @@ fn workers_of(word: Option<&str>) -> Option<u32>
     }
 }
 
-// How many workers are asked for, if no other option is given.
+// The number of workers, if there is no other option.
 fn workers_alone(given: &Given) -> Option<u32>
     ensures value { result ≡ workers_alone_of (given_view given.now).workers (given_view given.now).clone }
     ensures some { IfSome result (λ n. 1 ≤ n) }
@@ -47,7 +47,7 @@ fn workers_alone(given: &Given) -> Option<u32>
     }
 }
 
-// The name of the clone, if no other option is given.
+// The name of the clone, if there is no other option.
 fn clone_alone(given: &Given) -> Option<Name>
     ensures value { result ≡ clone_alone_of (given_view given.now).workers (given_view given.now).clone }
 {
@@ -57,7 +57,7 @@ fn clone_alone(given: &Given) -> Option<Name>
     }
 }
 
-// `run MODEL SCRIPT [--workers N]`, and likewise `stats` and `links`
+// `run MODEL SCRIPT [--workers N]`, and the same for `stats` and `links`
 fn study_request<'a>(
     mode: Mode,
     model: &'a str,
@@ -147,7 +147,7 @@ fn gen_request<'a>(number: &str, given: &Given) -> Option<Request<'a>>
     })
 }
 
-// What a mode with one more positional asks for.
+// The request of a mode with one more positional.
 fn request_of_one<'a>(mode: &str, number: &str, given: &Given) -> Option<Request<'a>>
     ensures value { option_map request_view result ≡ form_of_one mode.now number.now (given_view given.now) }
 {
@@ -158,7 +158,7 @@ fn request_of_one<'a>(mode: &str, number: &str, given: &Given) -> Option<Request
     }
 }
 
-// What a mode with two more positionals asks for.
+// The request of a mode with two more positionals.
 fn request_of_two<'a>(
     mode: &str,
     first: &'a str,
@@ -183,7 +183,7 @@ fn request_of_two<'a>(
     }
 }
 
-// What a mode with three more positionals asks for.
+// The request of a mode with three more positionals.
 fn request_of_three<'a>(
     mode: &str,
     first: &'a str,
@@ -201,7 +201,7 @@ fn request_of_three<'a>(
     }
 }
 
-// What the values ask for.
+// The request of these values.
 fn request_of<'a>(given: &Given<'a>) -> Option<Request<'a>>
     ensures value { option_map request_view result ≡ form_of (given_view given.now) }
 {
@@ -214,14 +214,14 @@ fn request_of<'a>(given: &Given<'a>) -> Option<Request<'a>>
     }
 }
 
-/// What the words ask for: one of the forms of the usage line.
+/// Reads the words as one of the forms of the usage line.
 ///
-/// Words of no known form give `Usage`; reading takes memory, and may be refused it.
+/// Returns `Usage` if the command line has no known form, and `NoMemory` if out of memory.
 pub fn read_words<'a>(alloc: Global, words: &'a [Word]) -> Result<Request<'a>, WordsFault>
-    // what is given is what the words ask for
+    // the result is the request of the words
     ensures value { IfOk result (λ r. form words.entry.now ≡ Some (request_view r)) }
 
-    // refused only where the command line has no known form, and there always, unless memory is refused
+    // `Usage` is returned only if the command line has no known form, and always then, unless out of memory
     ensures refused { result ≡ Err WordsFault.Usage → form words.entry.now ≡ None }
     ensures formless { form words.entry.now ≡ None → (result ≡ Err WordsFault.Usage)
         ⊎ (result ≡ Err WordsFault.NoMemory) }

@@ -1,40 +1,40 @@
-//! What a command line asks for: what is to be done, and by how many workers.
+//! The request of a command line: what to do, and with how many workers.
 ghost use Rattle.std.specs.Prelude.{◌≤◌};
 ghost use Rattle.command_words.specs.declared.request.TheConstants.{MOST_WORKERS};
 
 use sim_base::Name;
 
-/// The most workers that may be asked for.
+/// The maximum number of workers.
 pub const MOST_WORKERS: u32 = sim_base::limits::MOST_WORKERS;
 
-/// The greatest number that a study may be made of.
+/// The greatest number from which a study may be generated.
 pub(crate) const MOST_STUDY: u32 = 999_999;
 
-/// Which of a script's clones are run, once all its decisions are made, and what is written of them.
+/// The mode of a study whose decisions are all made first: which clones are run, and what is written of them.
 #[derive(Clone, Copy, Debug, PartialEq, Eq)]
 pub enum Mode {
     /// All of them: their traces and the report.
     Run,
-    /// All of them: the report alone.
+    /// All of them: the report only.
     Report,
     /// All of them: the statistics of their servers.
     Stats,
-    /// All of them, kept in step by the clocks of links: their traces, the report, and the number of rounds.
+    /// All of them, in rounds with a clock for each link: their traces, the report, and the number of rounds.
     Links,
-    /// The one of this name, alone: its trace.
+    /// The named clone alone: its trace.
     Solo(Name),
 }
 
-/// Where the model and the script come from.
+/// The source of the model and the script.
 #[derive(Clone, Copy, Debug)]
 pub enum Source<'a> {
     /// Two files by their names, the model and the script.
     FileNames { model: &'a str, script: &'a str },
-    /// Both are made of this number.
+    /// Both are generated from this number.
     Number(u32),
 }
 
-/// What is to be done.
+/// The assignment of a command line: what to do, without the number of workers.
 #[derive(Clone, Copy, Debug)]
 pub enum Assignment<'a> {
     /// A study of a model and a script.
@@ -47,7 +47,7 @@ pub enum Assignment<'a> {
         model: &'a str,
         script: &'a str,
     },
-    /// A study of three files, the model, the script and the watches, which make branches while it runs.
+    /// A study of three files, the model, the script and the watches, which create branches while it runs.
     Watch {
         model: &'a str,
         script: &'a str,
@@ -55,10 +55,10 @@ pub enum Assignment<'a> {
     },
 }
 
-/// What is to be done, and by how many workers.
+/// The request of a command line: what to do, and with how many workers.
 #[derive(Clone, Copy, Debug)]
 pub struct Request<'a> {
-    /// What is to be done.
+    /// What to do.
     pub assignment: Assignment<'a>,
     /// The number of workers, from 1 to [`MOST_WORKERS`].
     pub workers: u32,

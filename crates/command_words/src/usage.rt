@@ -1,4 +1,4 @@
-//! The line that tells the modes.
+//! The usage line.
 ghost use Rattle.std.specs.Prelude.{◌≡◌};
 ghost use Rattle.command_words.specs.Usage.{usage_line as modes_line};
 

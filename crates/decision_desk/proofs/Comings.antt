@@ -1,4 +1,4 @@
--- How a pass and the helm come to their turns, and that a pass has a free place for its call's receipt.
+-- How a pass and the helm come to their turns. A pass has room for its call's receipt.
 use Rattle.std.proofs.Common.{◌≡◌, ⊎_elim, ℕ, ◌+◌, ◌<◌, ◌≤◌, Bool, true, false}
 use Rattle.std.proofs.Common.{List, [], ◌∷◌, length, sym, ap}
 use Rattle.std.proofs.Common.{◌∙◌, subst, arith, true≢false, is_some, if◌then◌else◌, nat_eq, suc}
@@ -20,7 +20,7 @@ use Rattle.decision_desk.specs.Passes.{IsPass, receipt_of, HasEntered, HasFoundF
 
 -- ---- PassHasTurn
 
--- what a seat has: its view, and the slots that are out with it
+-- the state of a seat: its view, and the slots that it holds
 abbrev Hand : Type 0
 Hand = Me Slot View
 
@@ -30,7 +30,7 @@ pub waits_with_ticket : (m m1 : Hand) (a : Account) (t : ℕ) → m ≡ (pass_vi
     → m1 ≡ (view_with_turn (pass_view m.0.net m.0.seen a) true t false m.0.seen, [])
 waits_with_ticket m m1 a t rest drew = drew ∙ ap (λ (x : Hand). (view_with_turn x.0 true t false x.0.seen, x.1)) rest
 
--- once it is served, it has the turn, sees the journal as it then stands, and carries the book
+-- once the ticket is served, it has the turn, the whole journal and the book
 comes_to_turn : (m m1 m2 : Hand) (a : Account) (t : ℕ) (j : List Event) → m ≡ (pass_view m.0.net m.0.seen a, [])
     → m1 ≡ (view_with_turn m.0 true t false m.0.seen, m.1)
     → m2 ≡ (view_with_turn m1.0 true m1.0.ticket true j, (0, book_of m1.0.net j) ∷ m1.1)
@@ -39,7 +39,7 @@ comes_to_turn m m1 m2 a t j rest drew turn =
     turn ∙ ap (λ (x : Hand). (view_with_turn x.0 true x.0.ticket true j, (0, book_of x.0.net j) ∷ x.1))
     (waits_with_ticket m m1 a t rest drew)
 
--- so a pass at rest that has drawn a ticket and is served has come to its turn
+-- a pass at rest that has drawn a ticket, and whose ticket is served, has come to its turn
 pub has_turn : (m m1 m2 : Hand) (a : Account) (t : ℕ) (j : List Event) → m ≡ (pass_view m.0.net m.0.seen a, [])
     → m1 ≡ (view_with_turn m.0 true t false m.0.seen, m.1)
     → IsPrefix m1.0.seen j → length (calls_of j) ≤ MOST_CALLS → AreAccounts j m1.0.accounts
@@ -60,13 +60,13 @@ has_turn m m1 m2 a t j rest drew begins few right turn rises =
 
 -- ---- IsPass
 
--- a list that may have a call more is at most one longer
+-- a list that may get one more call is at most one longer
 short_or : (b : Bool) (n : ℕ) (c : Call) (xs : List (ℕ × Call)) (k : ℕ) → length xs ≤ k
     → length (if b then (n, c) ∷ xs else xs) ≤ k + 1
 short_or true n c xs k h = omega (arith, h)
 short_or false n c xs k h = omega (arith, h)
 
--- a caller has no more calls than there are
+-- a caller has no more calls than the journal
 by_short : (x n : ℕ) (cs : List Call) → length (calls_from x n cs) ≤ length cs
 by_short x n [] = omega arith
 by_short x n (c ∷ cs) =
@@ -75,7 +75,7 @@ by_short x n (c ∷ cs) =
     subst (λ k. length (if nat_eq c.caller x then (n, c) ∷ calls_from x (n + 1) cs else calls_from x (n + 1) cs) ≤ k)
     e h
 
--- a pass has a free place for the receipt of a call that is in the journal
+-- a pass has room for the receipt of a call that is in the journal
 pub places_left : (caller : ℕ) (receipts : ReservedView Receipt) (desk : TableId) (m new : Hand) (d : Decision)
     (receipt : Receipt) (j : List Event)
     → IsPass caller receipts desk m → IsPassTurn m.0.net m.0.seen (first_account m.0.accounts) d receipt new j
@@ -105,7 +105,7 @@ helm_waits_with_ticket : (m m1 : Hand) (t : ℕ)
 helm_waits_with_ticket m m1 t rest drew =
     drew ∙ ap (λ (x : Hand). (view_with_turn x.0 true t false x.0.seen, x.1)) rest.is
 
--- a helm at rest that has drawn a ticket waits without the turn, and has a part as before
+-- a helm at rest that has drawn a ticket waits without the turn, and still has a part
 pub helm_waits : (m m1 : Hand) (t : ℕ) → IsHelmAtRest m
     → m1 ≡ (view_with_turn m.0 true t false m.0.seen, m.1)
     → IsWaiting m1.0
@@ -116,7 +116,7 @@ helm_waits m m1 t rest drew =
       subst (λ n. 0 < n) (sym (ap (λ (x : Hand). x.0.parts) e)) rest.part,
     )
 
--- and once it is served, it has come to its turn
+-- once the ticket is served, it has come to its turn
 pub helm_has_turn : (m m1 m2 : Hand) (t : ℕ) (j : List Event)
     → IsHelmAtRest m
     → m1 ≡ (view_with_turn m.0 true t false m.0.seen, m.1)

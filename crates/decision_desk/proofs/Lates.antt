@@ -1,4 +1,4 @@
--- Behind a front no decision of an earlier time is accepted.
+-- After a front no decision of an earlier time is accepted.
 use Rattle.std.proofs.Common.{◌≡◌, inl, inr, ⊎_elim, ◌⊎◌, ℕ, ◌<◌, ◌≤◌, Bool, true, false, List, [], ◌∷◌, ◌++◌, length}
 use Rattle.std.proofs.Common.{Some, None, if◌then◌else◌, is_none, nat_le, nat_lt, refl, sym, ap, ◌∙◌, subst, arith}
 use Rattle.std.proofs.Common.{append_assoc}
@@ -51,7 +51,7 @@ accepted_later s time (End who at) late h =
 
 -- ---- IsLater
 
--- behind a front of a right journal all is later than the times before it
+-- all events after a front of a right journal are later than the times before it
 all_later : (net : Net) (time : ℕ) (before es : List Event) (s : Situation) → after net before ≡ s → time < s.front
     → EachAfter (MayFollow net) before es → AllByRecursion (IsLater time) es
 all_later net time before [] s is late right = tt
@@ -73,7 +73,7 @@ all_later net time before (NewCall c ∷ es) s is late right =
 
 -- ---- front_of
 
--- the last front of a journal is the one before it, or stands in the journal
+-- the last front of a journal is the one before it, or is in the journal
 at_front : (n : ℕ) (es : List Event) → (front_from n es ≡ n)
     ⊎ ((before : List Event) × (rest : List Event) × (es ≡ before ++ NewFront (front_from n es) ∷ rest))
 at_front n [] = inl refl
@@ -90,7 +90,7 @@ at_front n (NewCall c ∷ es) = ⊎_elim
 
 -- ---- late_front
 
--- a front is answered where the time is before it
+-- a front is returned only if the time is before it
 late_is : (front time f : ℕ) → late_front front time ≡ Some f → (front ≡ f) × (time < f)
 late_is front time f e = by_test (nat_lt time front) refl e
   where
@@ -104,7 +104,7 @@ late_is front time f e = by_test (nat_lt time front) refl e
 
 -- ---- LateIsSettled
 
--- what comes behind a front of a right journal is later than the times before it
+-- the events after a front of a right journal are later than the times before it
 before_front : (net : Net) (time f : ℕ) (before rest events : List Event) → time < f
     → events ≡ before ++ NewFront f ∷ rest → IsRight net events → AreBefore time f events
 before_front net time f before rest events less is right = record {
@@ -117,7 +117,7 @@ before_front net time f before rest events less is right = record {
       (subst (IsRight net) (is ∙ sym (append_assoc before (NewFront f ∷ []) rest)) right));
 }
 
--- where a front of the journal made a time late, all accepted sets and ends up to that time are before it
+-- if a front of the journal made a time late, all accepted sets and ends up to that time precede it
 pub late_is_settled : (net : Net) → LateIsSettled net
 late_is_settled net events front time f right of late =
     let l = late_is front time f late in

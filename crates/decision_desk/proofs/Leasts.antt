@@ -43,21 +43,21 @@ use Rattle.decision_book.specs.Books.{BookView}
 
 -- ---- place_of
 
--- a place stays behind the first where it stays among the others
+-- a place stays after the first one if it stays among the others
 found_on : (b : Bool) (o p : Option ℕ) (i : ℕ) → ((k : ℕ) → o ≡ Some k → p ≡ Some k)
     → cond b (Some 0) (option_map (λ n. suc n) o) ≡ Some i → cond b (Some 0) (option_map (λ n. suc n) p) ≡ Some i
 found_on true o p i f e = e
 found_on false None p i f e = absurd cc
 found_on false (Some k) p i f e = ap (option_map (λ n. suc n)) (f k refl) ∙ e
 
--- a clone more, behind the others
+-- one more clone at the end
 place_of-push : (m : List ℕ) (cs more : List Clone) (i : ℕ) → place_of m cs ≡ Some i → place_of m (cs ++ more) ≡ Some i
 place_of-push m [] more i e = absurd cc
 place_of-push m (c ∷ cs) more i e = place_of-cons m c (cs ++ more)
     ∙ found_on (bytes_eq c.name m) (place_of m cs) (place_of m (cs ++ more)) i (λ k h. place_of-push m cs more k h)
     (sym (place_of-cons m c cs) ∙ e)
 
--- a clone changes, but for its name
+-- a clone changes, except for its name
 place_of-set : (m : List ℕ) (cs : List Clone) (j : ℕ) (k : Clone) → k.name ≡ (clone_at cs j).name
     → place_of m (slice_set cs j k) ≡ place_of m cs
 place_of-set m [] j k e = refl
@@ -68,14 +68,14 @@ place_of-set m (c ∷ cs) (suc j) k e = place_of-cons m c (slice_set cs j k)
     ∙ (ap (λ o. cond (bytes_eq c.name m) (Some 0) (option_map (λ n. suc n) o)) (place_of-set m cs j k e)
     ∙ sym (place_of-cons m c cs))
 
--- an accepted decision leaves each clone in its place
+-- an accepted decision leaves each clone at its place
 place_of-decided : (net : Net) (m : List ℕ) (cs : List Clone) (d : Decision) (i : ℕ) → place_of m cs ≡ Some i
     → place_of m (clones_after net cs d) ≡ Some i
 place_of-decided net m cs (Fork new old) i e = place_of-push m cs _ i e
 place_of-decided net m cs (Set who at station change) i e = place_of-set m cs (clone_place who cs) _ refl ∙ e
 place_of-decided net m cs (End who at) i e = place_of-set m cs (clone_place who cs) _ refl ∙ e
 
--- so do calls
+-- calls do so as well
 place_of-calls : (m : List ℕ) (s : Situation) (calls : List Call) (i : ℕ) → place_of m s.clones ≡ Some i
     → place_of m (fold after_event s (map NewCall calls)).clones ≡ Some i
 place_of-calls m s [] i e = e
@@ -114,7 +114,7 @@ least_at net front cs i lt = slice_get-map (λ c. least_of (simulation net) c fr
     ∙ ap (option_map (λ c. least_of (simulation net) c front)) (slice_get-get_or cs i nobody lt
     ∙ ap (λ (k : Clone). Some k) (sym (unwrap_or-slice_get cs i nobody)))
 
--- the least times become those of the clones that a decision leaves
+-- the least times change to those of the clones after a decision
 abbrev Changes : Situation → ℕ → Decision → Type 0
 Changes s p d = leasts_with_at p (Some (least_of (simulation s.net) (clone_at s.clones p) s.front))
     (leasts_of s.net s.clones s.front) d ≡ leasts_of s.net (clones_after s.net s.clones d) s.front
@@ -129,7 +129,7 @@ changes_fork s p new old place going =
     ∙ ap (λ t. map L s.clones ++ t ∷ [])
     (ap (λ i. L (k i)) place ∙ least_of-fork (simulation s.net) (clone_at s.clones p) new s.front going))
 
--- a set makes it the lesser of it and its own time
+-- a set changes it to the lesser of it and the set's time
 changes_set : (s : Situation) (p : ℕ) (who : List ℕ) (at : ℕ) (station : List ℕ) (change : Change) → IsNet s.net
     → clone_place who s.clones ≡ p → (clone_at s.clones p).end ≡ None → IsTimely s at
     → Changes s p (Set who at station change)
@@ -147,7 +147,7 @@ changes_set s p who at station change valid place going time =
     sym (ap (λ i. map L (slice_set s.clones i (with_plan (clone_at s.clones i) plan))) place
     ∙ (map-set L s.clones p (with_plan k plan) ∙ ap (λ t. slice_set (map L s.clones) p t) new))
 
--- an end drops it where it is not below the end
+-- an end drops it unless it is below the end
 changes_end : (s : Situation) (p : ℕ) (who : List ℕ) (at : ℕ) → IsNet s.net → clone_place who s.clones ≡ p
     → (clone_at s.clones p).end ≡ None → IsTimely s at → Changes s p (End who at)
 changes_end s p who at valid place going time =
@@ -160,7 +160,7 @@ changes_end s p who at valid place going time =
     ∙ (map-set L s.clones p (with_end k at) ∙ ap (λ t. slice_set (map L s.clones) p t)
     (least_of-with_end (lawful-stations s.net valid) k at s.front (record { late = time.0; within = within }))))
 
--- an accepted decision changes the least times so
+-- the least times after an accepted decision
 changes : (s : Situation) (d : Decision) → IsNet s.net → (o : IsOpen s d) → Changes s o.clone d
 changes s (Fork new old) valid o = changes_fork s o.clone new old (ap (λ q. unwrap_or q 0) o.place) o.going
 changes s (Set who at station change) valid o =
@@ -171,7 +171,7 @@ changes s (End who at) valid o = changes_end s o.clone who at valid (ap (λ q. u
 
 -- ---- leasts_with_calls
 
--- the least times after calls, where the clones are these at last
+-- the least times after calls, if these are the clones after all calls
 leasts_with_calls-accepted : (net : Net) (before : List Event) (cs : List Call) (s : Situation) (all : List Clone)
     → IsNet s.net → after net before ≡ s → EachAfter (MayFollow net) before (map NewCall cs)
     → all ≡ (fold after_event s (map NewCall cs)).clones
@@ -207,11 +207,11 @@ leasts_with_calls-accepted net before (c ∷ cs) s all valid is right end =
 
 -- ---- front_of
 
--- the front after a journal is the last that was raised in it, or 0
+-- the front after a journal is the last one in it, or 0
 pub front_is : (net : Net) (es : List Event) → (after net es).front ≡ front_of es
 front_is net es = ap (λ (s : Situation). s.front) (situation_of_journal net es)
 
--- ---- leasts_with_calls, behind a journal
+-- ---- leasts_with_calls, after a journal
 
 -- the least times after the calls since the helm's last turn
 leasts_after : (net : Net) (helm : List Event) (cs : List Call) → IsNet net → IsRight net (helm ++ map NewCall cs)
@@ -238,14 +238,14 @@ least-earliest : (net : Net) (cs : List Clone) (front : ℕ)
 least-earliest net [] front = refl
 least-earliest net (c ∷ cs) front = ap (earlier (least_of (simulation net) c front)) (least-earliest net cs front)
 
--- the earliest of three times is the same, whichever two are compared first
+-- the earliest of three times does not depend on which two are compared first
 pub earlier_again : (a b c : Option ℕ) → earlier (earlier a b) c ≡ earlier a (earlier b c)
 earlier_again None b c = refl
 earlier_again (Some a) None c = refl
 earlier_again (Some a) (Some b) None = refl
 earlier_again (Some a) (Some b) (Some c) = let e : min (min a b) c ≡ min a (min b c) = omega arith in ap (λ n. Some n) e
 
--- and a time is the earlier of itself and none
+-- a time is the earlier of itself and none
 pub earlier_none : (a : Option ℕ) → earlier a None ≡ a
 earlier_none None = refl
 earlier_none (Some a) = refl
@@ -273,7 +273,7 @@ next_is-within net cs front = window_end-within (simulation net) (least (simulat
 
 -- ---- helm_at, calls_at
 
--- the journal as it stood when so many calls were known is the one that only calls follow
+-- the journal as it was with `known` calls is the part that only calls follow
 helm_and_calls_at : (es helm : List Event) (cs : List Call) (known : ℕ) → es ≡ helm ++ map NewCall cs
     → known ≡ length (calls_of helm) → (helm_at known es ≡ helm) × (calls_at known es ≡ cs)
 helm_and_calls_at es helm cs known is count =
@@ -290,7 +290,7 @@ helm_and_calls_at es helm cs known is count =
 
 -- ---- IsTurnAhead
 
--- what the helm's next turn will give, behind a journal that is only calls behind another
+-- the result of the helm's next turn, after a journal that continues another with only calls
 turn_ahead : (b : BookView) (helm : List Event) (cs fresh : List Call) (known front : ℕ) (least ts : List (Option ℕ))
     (all : List Clone) → b.events ≡ helm ++ map NewCall cs → known ≡ length (calls_of helm)
     → front_of helm < b.net.horizon → least ≡ leasts_of b.net (after b.net helm).clones (front_of helm) → IsNet b.net
@@ -330,7 +330,7 @@ turn_ahead b helm cs fresh known front least ts all is count below least_is vali
       right = right;
     }
 
--- where only calls came since so many were known, the accepted ones of these and the next front are found
+-- if only calls came since `known` calls were there, the accepted ones and the next front are found
 pub is_turn_ahead : (b : BookView) (fresh : List Call) (known front : ℕ) (least ts : List (Option ℕ))
     (all : List Clone) → IsSince b known least → IsNet b.net → IsRight b.net b.events
     → fresh ≡ accepted_of (drop known (calls_of b.events)) → all ≡ (after b.net b.events).clones

@@ -1,4 +1,4 @@
--- A legal journal stays legal with one call more, and with one front more that is the next.
+-- A legal journal stays legal with one more call, and with the next front.
 use Rattle.std.proofs.Common.{◌≡◌, ◌↔◌, ◌+◌, ◌<◌, ◌≤◌, List, ◌++◌, ◌∷◌, [], length, ℕ, subst, sym, arith}
 use Rattle.std.proofs.Common.{Option, Some, None, MatchOption, Result, Ok, Err, OnOk, OnErr}
 use Rattle.decision_book.specs.Books.{BookView, IsCallUnlessFull}
@@ -12,12 +12,12 @@ use Rattle.decision_book.specs.Journal.{Event, NewFront, NewCall, calls_of}
 use Rattle.decision_book.proofs.Growing.{each_push}
 use Rattle.decision_desk.specs.Legal.{IsNextFront, FrontsAreNext}
 
--- a journal whose fronts are the next ones stays so with one call more
+-- a journal whose fronts are the next ones stays so with one more call
 fronts_are_next-asked : (net : Net) (es : List Event) (c : Call) → FrontsAreNext net es
     → FrontsAreNext net (es ++ NewCall c ∷ [])
 fronts_are_next-asked net es c h = each_push (IsNextFront net) [] es (NewCall c) h tt
 
--- so does one that a decision was asked of
+-- a book stays so after a decision
 pub fronts_are_next-told : (old new : BookView) (caller : ℕ) (d : Decision) (r : Reply) (told : Option Call)
     → FrontsAreNext old.net old.events → IsCallUnlessFull old caller d r told new → FrontsAreNext new.net new.events
 fronts_are_next-told old new caller d r None h t = subst (λ (b : BookView). FrontsAreNext b.net b.events) (sym t.1) h
@@ -25,7 +25,7 @@ fronts_are_next-told old new caller d r (Some c) h t =
     subst (λ (b : BookView). FrontsAreNext b.net b.events) (sym t.1.new_is)
     (fronts_are_next-asked old.net old.events c h)
 
--- where a decision is answered Full exactly where the book is full, a call that is told had a free place
+-- if the reply is Full exactly when the book is full, a call that is returned had room
 pub places_told : (old new : BookView) (caller : ℕ) (d : Decision) (r : Reply) (told : Option Call)
     → IsCallUnlessFull old caller d r told new → (r ≡ Full) ↔ (MOST_CALLS ≤ length (calls_of old.events))
     → MatchOption told (MOST_CALLS ≤ length (calls_of old.events)) (λ _. length (calls_of old.events) < MOST_CALLS)
@@ -37,12 +37,12 @@ places_told old new caller d r (Some c) call full =
     below : (n : ℕ) → (MOST_CALLS ≤ n → ⊥) → n + 1 ≤ MOST_CALLS
     below n h = grind (arith, h)
 
--- a journal whose fronts are the next ones stays so with one front more that is the next
+-- a journal whose fronts are the next ones stays so with the next front
 fronts_are_next-raised : (net : Net) (es : List Event) (f : ℕ) → IsNextFront net es (NewFront f) → FrontsAreNext net es
     → FrontsAreNext net (es ++ NewFront f ∷ [])
 fronts_are_next-raised net es f is h = each_push (IsNextFront net) [] es (NewFront f) h is
 
--- and so does a book whose front was to be raised to the next, whether it was or not
+-- a book stays so after raising the front, whether or not that succeeds
 pub fronts_are_next-if : {E : Type 0} (net : Net) (es : List Event) (f : ℕ) (new : BookView) (r : Result (Unit {0}) E)
     → IsNextFront net es (NewFront f) → FrontsAreNext net es
     → OnOk r (new ≡ record { net = net; events = es ++ NewFront f ∷ [] })

@@ -1,11 +1,11 @@
--- The passes that a desk begins with.
+-- The passes of a new desk.
 use Rattle.std.proofs.Common.{◌≡◌, ℕ, zero, suc, ◌+◌, [], ◌∷◌, length, length-append, All, arith, refl}
 use Rattle.std.proofs.lemmas.List.Elements.{All-nil, All-push}
 use Rattle.atomic_table.specs.Seated.{TableId}
 use Rattle.net_model.specs.Net.{Net}
 use Rattle.decision_desk.specs.Passes.{PassView, new_pass, new_passes}
 
--- there are as many as were asked for
+-- their number is the requested one
 pub new_passes_count : (desk : TableId) (net : Net) (n : ℕ) → length (new_passes desk net n) ≡ n
 new_passes_count desk net zero = refl
 new_passes_count desk net (suc n) = omega (
@@ -14,7 +14,7 @@ new_passes_count desk net (suc n) = omega (
   new_passes_count desk net n,
 )
 
--- and each is of this desk
+-- each is of this desk
 pub new_passes_desks : (desk : TableId) (net : Net) (n : ℕ)
     → All (λ (p : PassView). p.desk ≡ desk) (new_passes desk net n)
 new_passes_desks desk net zero = All-nil (λ (p : PassView). p.desk ≡ desk)

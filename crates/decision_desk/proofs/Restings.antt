@@ -1,4 +1,4 @@
--- Steps between turns: looks at the front, passes made and taken in, the beginning and the end.
+-- Steps between turns: reading the front, splitting and merging passes, the beginning and the end.
 use Rattle.std.proofs.Common.{◌≡◌, ◌≢◌, ℕ, zero, suc, ◌+◌, ◌-◌, ◌%◌, ◌^◌, ◌<◌, ◌≤◌, true}
 use Rattle.std.proofs.Common.{false, true≢false, List, [], ◌∷◌, ◌++◌, length, set, sym, refl, ap, ◌∙◌}
 use Rattle.std.proofs.Common.{subst, ⊎_elim, inl, inr, arith, slice_index, slice_set, Some, nat_eq, if◌then◌else◌}
@@ -49,9 +49,9 @@ at_rest net serve j v w idle still parts about seen helm unowned accounts f = re
   accounts = accounts;
 }
 
--- ---- Allows: a look at the front
+-- ---- Allows: reading the front
 
--- a pass at rest may read the front: it sees the journal up to there, and its account notes the front
+-- a pass at rest may read the front: it sees the journal up to there, and its account has the front
 Allows-front : (slots id : ℕ) (m : Me Slot View) → m.0.waits ≡ false → m.0.turn ≡ false → 0 < m.0.parts
     → m.0.steers ≡ false → (a : Account) → m.0.accounts ≡ a ∷ []
     → Allows IsDesk slots id m 0 (λ n. n) (λ n m'. (j : List Event) × IsPrefix m.0.seen j × (n ≡ front_of j)
@@ -102,7 +102,7 @@ Allows-front slots id m idle still some_part plain a mine s k one at small =
       ),
     )
 
--- and becomes what HasSeenFront tells of each account that it has
+-- the result is that of HasSeenFront for each of its accounts
 pub Allows-look : (slots id : ℕ) (m : Me Slot View) → m.0.waits ≡ false → m.0.turn ≡ false → 0 < m.0.parts
     → m.0.steers ≡ false → (a : Account) → m.0.accounts ≡ a ∷ [] → Allows IsDesk slots id m 0 (λ n. n) (HasSeenFront m)
 Allows-look slots id m idle still some_part plain a mine s k one at small =
@@ -121,9 +121,9 @@ Allows-look slots id m idle still some_part plain a mine s k one at small =
       ),
     )
 
--- ---- Allows: the turn of a caller that was answered Full ends
+-- ---- Allows: the end of a turn after the reply Full
 
--- a pass may end its turn with its account marked Full, where the journal is full
+-- a pass may end its turn with its account marked Full, if the journal is full
 Allows-full : (slots id : ℕ) (v : View) → 0 < v.parts → v.turn ≡ true → (a : Account) → v.accounts ≡ a ∷ []
     → length (calls_of v.seen) ≡ MOST_CALLS
     → Allows IsDesk slots id (v, (0, book_of v.net v.seen) ∷ []) 2 (λ n. (n + 1) % 2 ^ 64)
@@ -193,7 +193,7 @@ Allows-full slots id v some_part turn a mine whole s k one at small =
       refl,
     )
 
--- and becomes what HasEndedFullTurn tells of each such account
+-- the result is that of HasEndedFullTurn for each such account
 pub Allows-leave_full : (slots id : ℕ) (v : View) → 0 < v.parts → v.turn ≡ true → (a : Account) → v.accounts ≡ a ∷ []
     → length (calls_of v.seen) ≡ MOST_CALLS
     → Allows IsDesk slots id (v, (0, book_of v.net v.seen) ∷ []) 2 (λ n. (n + 1) % 2 ^ 64)
@@ -210,20 +210,20 @@ Allows-leave_full slots id v some_part turn a mine whole s k one at small =
           (only_same a b v.accounts mine too) r.4,
     )
 
--- ---- total, EachFits, BookIsHomeOrInTurn: a seat more
+-- ---- total, EachFits, BookIsHomeOrInTurn: one more seat
 
--- a seat more adds what it has to the total
+-- one more seat adds its part to the total
 total_more : (f : View → ℕ) (views : List View) (w : View) → total f (views ++ w ∷ []) ≡ total f views + f w
 total_more f [] w = omega arith
 total_more f (u ∷ us) w = omega (arith, total_more f us w)
 
--- where all seats fit, and one more that fits, all fit still
+-- if all seats fit, and one more seat fits, all fit
 each_more : (net : Net) (serve : ℕ) (j : List Event) (views : List View) (w : View) → Fits net serve j w
     → EachFits net serve j views → EachFits net serve j (views ++ w ∷ [])
 each_more net serve j views w mine others i u e =
     ⊎_elim (λ x. others i u x) (λ (x : w ≡ u). subst (λ (y : View). Fits net serve j y) x mine) (at_snoc views w u i e)
 
--- the book is still at home or with the turn beside a seat more without the turn
+-- the book is still in the slot or with the turn after one more seat without the turn
 more_home : (net : Net) (j : List Event) (homes : List (Option Slot)) (views : List View) (w : View) → w.turn ≡ false
     → BookIsHomeOrInTurn net j homes views → BookIsHomeOrInTurn net j homes (views ++ w ∷ [])
 more_home net j homes views w still home = ⊎_elim
@@ -238,17 +238,17 @@ more_home net j homes views w still home = ⊎_elim
 
 -- ---- in_line
 
--- behind the last pass that was made there is no caller
+-- there is no caller after the last pass that was made
 none_behind : (n : ℕ) → in_line n 1 n ≡ 0
 none_behind n = grind arith
 
--- and before the first was made there is none
+-- there is none before the first was made
 none_behind_first : (x : ℕ) → in_line x 1 1 ≡ 0
 none_behind_first x = grind arith
 
 -- ---- Splits
 
--- a seat of the list after a split: the helm, one that was there, or the new pass
+-- a seat of the list after a split: the helm, an earlier seat, or the new pass
 pub Splits-pass : (id : ℕ) (v : View) → v.waits ≡ false → v.turn ≡ false → v.steers ≡ true → 1 < v.parts
     → Splits IsDesk id v (record v { parts = v.parts - 1; made = v.made + 1 })
     (pass_view v.net v.seen (new_account (v.made + 1)))
@@ -339,7 +339,7 @@ Splits-pass id v idle still steers two s k at =
 
 -- ---- Joins
 
--- a seat at rest may take the parts and accounts of another at rest that does not steer, and leave it spent
+-- a seat at rest may take the parts and accounts of another one at rest that is not the helm's, and leave it spent
 pub Joins-pass : (id : ℕ) (v : View) (other : ℕ) (u : View) → v.waits ≡ false → v.turn ≡ false → 0 < v.parts
     → u.waits ≡ false → u.turn ≡ false → u.steers ≡ false
     → Joins IsDesk id v other u (record v { parts = v.parts + u.parts; accounts = v.accounts ++ u.accounts }) spent_view
@@ -451,7 +451,7 @@ Joins-pass id v other u idle still some_part idle' still' plain s k at apart at'
 
 -- ---- IsDesk
 
--- a new desk keeps the rule: the journal is empty, the book at home, and the helm alone has all parts
+-- a new desk keeps the rule: the journal is empty, the book is in the slot, and only the helm has parts
 pub IsDesk-opening : (net : Net)
     → IsDesk (opening (0 ∷ 0 ∷ 0 ∷ 0 ∷ []) (book_of net [] ∷ []) (helm_view net ALL_PARTS [] [] 0 []))
 IsDesk-opening net = record {
@@ -508,13 +508,13 @@ IsDesk-opening net = record {
 
 -- ---- HasEnded, IsFinalBook
 
--- where no seat has any, the total is 0
+-- if no seat has any, the total is 0
 all_zero : (f : View → ℕ) (views : List View) → ((i : ℕ) (u : View) → get_elem? views i ≡ some u → f u ≡ 0)
     → total f views ≡ 0
 all_zero f [] each = refl
 all_zero f (u ∷ us) each = omega (arith, each 0 u refl, all_zero f us (λ i v e. each (suc i) v e))
 
--- what the book is, once one seat has every part and is at rest
+-- the book, once one seat has every part and is at rest
 pub record HasEnded (v : View) (slots : List Slot) : Type 0 where
   pub journal : List Event
   pub book : get_elem? slots 0 ≡ some (book_of v.net journal)
@@ -524,7 +524,7 @@ pub record HasEnded (v : View) (slots : List Slot) : Type 0 where
   pub others : (x : ℕ) → accounts_of x v.accounts ≡ 0 → calls_by x journal ≡ []
   pub once : v.steers ≡ true → (x : ℕ) → accounts_of x v.accounts ≡ in_line x 1 (v.made + 1)
 
--- this is so of a seat without the turn that has all parts, when the desk ends
+-- this holds for a seat without the turn that has all parts, when the desk ends
 pub HasEnded-final : (id : ℕ) (v : View) (ws : List ℕ) (xs : List Slot) → v.parts ≡ ALL_PARTS → v.turn ≡ false
     → Final (Seen IsDesk id v) ws xs → HasEnded v xs
 HasEnded-final id v ws xs whole still final =
@@ -563,11 +563,11 @@ HasEnded-final id v ws xs whole still final =
       once = λ steers x. sym (alone x) ∙ k.once id v at steers x;
     }
 
--- a list of slots that is one alone is this one and the rest of the list
+-- a list of slots with a single element
 pub only_one : (xs : List (ℕ × Slot)) (y : Slot) → xs ≡ (0, y) ∷ [] → xs ≡ (0, y) ∷ rest xs
 only_one xs y e = e ∙ ap (λ (r : List (ℕ × Slot)). (0, y) ∷ r) (sym (ap rest e))
 
--- the book that comes out of the slot at the end
+-- the book that is taken from the slot at the end
 pub is_final_book : (h : HelmView) (t : TableId) (v : View) (xs : List Slot) (o : Slot) (b : BookView)
     → view_of_helm t v ≡ h → v.steers ≡ true → HasEnded v xs → get_elem? xs 0 ≡ some o → o ≡ Some b → IsFinalBook h b
 is_final_book h t v xs o b is steers e at out =

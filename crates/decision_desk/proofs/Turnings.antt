@@ -29,21 +29,21 @@ use Rattle.decision_desk.proofs.Journals.{rises_raised, front_of-prefix}
 
 -- ---- total
 
--- where one seat changes, the total loses what this seat had and gains what it has
+-- if one seat changes, the total loses its old part and gains its new one
 pub total_set : (f : View → ℕ) (views : List View) (id : ℕ) (v w : View) → get_elem? views id ≡ some v
     → total f (set views id w) + f v ≡ total f views + f w
 total_set f [] id v w e = absurd (some-ne-none v (sym e))
 total_set f (u ∷ us) zero v w e = let d' : f u ≡ f v = ap f (some-injective u v e) in omega arith
 total_set f (u ∷ us) (suc id) v w e = omega (arith, total_set f us id v w e)
 
--- one seat has no more than the total
+-- one seat has at most the total
 below_total : (f : View → ℕ) (views : List View) (id : ℕ) (v : View) → get_elem? views id ≡ some v
     → f v ≤ total f views
 below_total f [] id v e = absurd (some-ne-none v (sym e))
 below_total f (u ∷ us) zero v e = let d : f u ≡ f v = ap f (some-injective u v e) in omega arith
 below_total f (u ∷ us) (suc id) v e = omega (arith, below_total f us id v e)
 
--- where each seat has no more of one number than of another, so has the total
+-- if no seat has more of one number than of another, the totals compare in the same way
 total_le : (f h : View → ℕ) (views : List View) → ((id : ℕ) (v : View) → get_elem? views id ≡ some v → f v ≤ h v)
     → total f views ≤ total h views
 total_le f h [] each = omega arith
@@ -55,7 +55,7 @@ get_elem-bounds [] id v e = absurd (some-ne-none v (sym e))
 get_elem-bounds (u ∷ us) zero v e = omega arith
 get_elem-bounds (u ∷ us) (suc id) v e = omega (arith, get_elem-bounds us id v e)
 
--- two seats are no more than the total
+-- two seats have at most the total
 pub two_below : (f : View → ℕ) (views : List View) (id j : ℕ) (v u : View) → j ≢ id → get_elem? views id ≡ some v
     → get_elem? views j ≡ some u → f v + f u ≤ total f views
 two_below f [] id j v u n e d = absurd (some-ne-none v (sym e))
@@ -72,11 +72,11 @@ two_below f (x ∷ xs) (suc id) (suc j) v u n e d = omega (arith, two_below f xs
 ticket_here : (v : View) (x : ℕ) → v.waits ≡ true → v.ticket ≡ x → has_ticket x v ≡ 1
 ticket_here v x w e = ap (λ b. if b then (if nat_eq v.ticket x then 1 else 0) else 0) w ∙ grind (arith, e)
 
--- a seat that doesn't wait has no ticket
+-- a seat that does not wait has no ticket
 pub none_waiting : (v : View) → v.waits ≡ false → ticket_count v ≡ 0
 none_waiting v idle = ap (λ b. if b then 1 else 0) idle
 
--- whichever ticket is asked for
+-- it has none of any number
 pub no_tickets : (x : ℕ) (v : View) → v.waits ≡ false → has_ticket x v ≡ 0
 no_tickets x v idle = ap (λ b. if b then (if nat_eq v.ticket x then 1 else 0) else 0) idle
 
@@ -84,13 +84,13 @@ no_tickets x v idle = ap (λ b. if b then (if nat_eq v.ticket x then 1 else 0) e
 pub one_waiting : (v : View) → v.waits ≡ true → ticket_count v ≡ 1
 one_waiting v waits = ap (λ b. if b then 1 else 0) waits
 
--- its own, and no other
+-- it is its own ticket, and no other
 pub only_ticket : (x y : ℕ) (v : View) → v.waits ≡ true → v.ticket ≡ x
     → has_ticket y v ≡ (if nat_eq x y then 1 else 0)
 only_ticket x y v waits is = ap (λ b. if b then (if nat_eq v.ticket y then 1 else 0) else 0) waits
     ∙ ap (λ z. if nat_eq z y then 1 else 0) is
 
--- a ticket is in line once at most
+-- a ticket is in line at most once
 one_line : (x from to : ℕ) → in_line x from to ≤ 1
 one_line x from to = grind arith
 
@@ -98,26 +98,26 @@ one_line x from to = grind arith
 in_line_in : (x from to : ℕ) → 1 ≤ in_line x from to → (from ≤ x) × (x < to)
 in_line_in x from to h = (grind (arith, h), grind (arith, h))
 
--- a line that ends one later has gained the ticket at its end, and no other
+-- a line that ends one later has gained exactly the ticket at its end
 pub once_more : (x from to : ℕ) → from ≤ to
     → in_line x from (to + 1) ≡ in_line x from to + (if nat_eq to x then 1 else 0)
 once_more x from to h = grind (arith, h)
 
--- a line that begins one later has lost the first ticket, and no other
+-- a line that begins one later has lost exactly the first ticket
 pub once_less : (x from to : ℕ) → from < to
     → in_line x from to ≡ in_line x (from + 1) to + (if nat_eq from x then 1 else 0)
 once_less x from to h = grind (arith, h)
 
 -- ---- EachFits, NoTurn
 
--- where all seats fit, and one changes to a seat that fits, all fit still
+-- if all seats fit, and one changes to a seat that fits, all still fit
 pub each_set : (net : Net) (serve : ℕ) (j : List Event) (views : List View) (id : ℕ) (w : View) → Fits net serve j w
     → EachFits net serve j views → EachFits net serve j (set views id w)
 each_set net serve j views id w mine others i u e =
     ⊎_elim (λ (x : (i ≡ id) × (w ≡ u)). subst (λ (y : View). Fits net serve j y) x.1 mine)
     (λ (x : (i ≢ id) × (get_elem? views i ≡ some u)). others i u x.1) (at_set views id i w u e)
 
--- where one seat changes to one without the turn, and no other has it, none has the turn
+-- if one seat changes to one without the turn, and no other has it, none has the turn
 pub no_turn_set : (views : List View) (id : ℕ) (w : View) → w.turn ≡ false
     → ((j : ℕ) (u : View) → j ≢ id → get_elem? views j ≡ some u → u.turn ≡ false) → NoTurn (set views id w)
 no_turn_set views id w mine others j u e =
@@ -126,37 +126,37 @@ no_turn_set views id w mine others j u e =
 
 -- ---- Alike
 
--- a seat that keeps its parts, its callers and its place at the helm
+-- a seat with the same parts and callers, and the same role at the helm
 pub record Alike (v w : View) : Type 0 where
   pub parts : w.parts ≡ v.parts
   pub callers : (x : ℕ) → has_caller x w ≡ has_caller x v
   pub steers : w.steers ≡ v.steers
   pub made : w.made ≡ v.made
 
--- two seats are so where their parts, accounts, steering and number of passes made are equal
+-- two seats are alike if their parts, accounts, steering and number of passes made are equal
 alike_refl : (v w : View) → w.parts ≡ v.parts → w.accounts ≡ v.accounts → w.steers ≡ v.steers → w.made ≡ v.made
     → Alike v w
 alike_refl v w p a s m = record { parts = p; callers = λ x. ap (accounts_of x) a; steers = s; made = m }
 
--- what stays where one seat changes to one that is alike
+-- facts that stay if one seat changes to one that is alike
 module _ (s : State Slot View) (k : IsDesk s) (id : ℕ) (v w : View) (at : get_elem? s.views id ≡ some v)
     (same : Alike v w) where
-  -- the parts stay as many
+  -- the number of parts is unchanged
   pub parts_stay : total (λ u. u.parts) (set s.views id w) ≡ ALL_PARTS
   parts_stay = omega (arith, total_set (λ u. u.parts) s.views id v w at, k.parts, same.parts)
 
-  -- each caller has as many accounts as before
+  -- each caller has the same number of accounts
   pub callers_stay : (x : ℕ) → total (has_caller x) (set s.views id w) ≡ total (has_caller x) s.views
   callers_stay x = omega (arith, total_set (has_caller x) s.views id v w at, same.callers x)
 
-  -- so each caller of a pass that was made has one, and no other has any
+  -- each caller of a pass that was made has one account, and no other caller has any
   pub once_stays : OneAccountEach (set s.views id w)
   once_stays i u e steers x = callers_stay x ∙ ⊎_elim
       (λ (h : (i ≡ id) × (w ≡ u)). k.once id v at (sym same.steers ∙ (ap (λ (y : View). y.steers) h.1 ∙ steers)) x
       ∙ ap (λ n. in_line x 1 (n + 1)) (sym same.made ∙ ap (λ (y : View). y.made) h.1))
       (λ (h : (i ≢ id) × (get_elem? s.views i ≡ some u)). k.once i u h.1 steers x) (at_set s.views id i w u e)
 
-  -- and some seat steers
+  -- some seat is the helm's
   pub some_helm_stays : SomeHelm (set s.views id w)
   some_helm_stays = let h = k.some_helm in ⊎_elim
       (λ (here : h.0 ≡ id). (
@@ -168,7 +168,7 @@ module _ (s : State Slot View) (k : IsDesk s) (id : ℕ) (v w : View) (at : get_
       ))
       (λ (other : h.0 ≢ id). (h.0, h.1, set_else s.views id h.0 w other ∙ h.2, h.3)) (cases_eq h.0 id)
 
-  -- a seat after the change, and the one that was there
+  -- a seat after the change, and before it
   pub was : (i : ℕ) (u : View) → get_elem? (set s.views id w) i ≡ some u → (z : View) × (get_elem? s.views i ≡ some z)
       × (u.steers ≡ z.steers)
   was i u e = ⊎_elim
@@ -179,14 +179,14 @@ module _ (s : State Slot View) (k : IsDesk s) (id : ℕ) (v w : View) (at : get_
       ))
       (λ (h : (i ≢ id) × (get_elem? s.views i ≡ some u)). (u, h.1, refl)) (at_set s.views id i w u e)
 
-  -- one seat at most steers
+  -- at most one seat is the helm's
   pub one_helm_stays : OneHelm (set s.views id w)
   one_helm_stays i j u z e d mine other =
       let a = was i u e in
       let b = was j z d in
       k.one_helm i j a.0 b.0 a.1 b.1 (sym a.2 ∙ mine) (sym b.2 ∙ other)
 
-  -- and a caller without an account has no calls
+  -- a caller without an account has no calls
   pub others_stay : (x : ℕ) → total (has_caller x) (set s.views id w) ≡ 0 → calls_by x k.journal ≡ []
   others_stay x nobody = k.others x (omega (arith, nobody, callers_stay x))
 
@@ -196,7 +196,7 @@ at_most_once s k x = let h = k.some_helm in omega (arith, k.once h.0 h.1 h.2 h.3
 
 -- ---- each_once: the seat with the turn, and the others
 
--- beside a seat that waits with the ticket that is served, no other has the turn
+-- if a seat waits with the ticket that is served, no other has the turn
 module _ (s : State Slot View) (k : IsDesk s) (id : ℕ) (v : View) (at : get_elem? s.views id ≡ some v)
     (waits : v.waits ≡ true) where
   -- its ticket is in line
@@ -209,7 +209,7 @@ module _ (s : State Slot View) (k : IsDesk s) (id : ℕ) (v : View) (at : get_el
         ticket_here v v.ticket waits refl,
       ))
 
-  -- and where it is the one that is served, no other seat has the turn
+  -- if its ticket is the served one, no other seat has the turn
   pub others_idle : v.ticket ≡ k.serve → (j : ℕ) (u : View) → j ≢ id → get_elem? s.views j ≡ some u → u.turn ≡ false
   others_idle mine j u n e = false_from_ne_true u.turn (λ turn. let t = (k.fits j u e).turn turn in
       omega (
@@ -223,7 +223,7 @@ module _ (s : State Slot View) (k : IsDesk s) (id : ℕ) (v : View) (at : get_el
 
 -- ---- BookIsHomeOrInTurn
 
--- the book is still at home or with the turn, where a seat changes that neither had nor gets the turn
+-- the book is still in the slot or with the turn, if the changed seat neither had nor gets the turn
 pub rest_home : (net : Net) (j : List Event) (homes : List (Option Slot)) (views : List View) (id : ℕ) (v w : View)
     → get_elem? views id ≡ some v → v.turn ≡ false → w.turn ≡ false → BookIsHomeOrInTurn net j homes views
     → BookIsHomeOrInTurn net j homes (set views id w)
@@ -247,7 +247,7 @@ rest_home net j homes views id v w at still still' home = ⊎_elim
 
 -- ---- Allows: a ticket is drawn, and served
 
--- a seat at rest that has a part may draw the next ticket
+-- a seat at rest with a part may draw the next ticket
 pub Allows-draw : (slots id : ℕ) (m : Me Slot View) → m.0.waits ≡ false → m.0.turn ≡ false → 0 < m.0.parts
     → Allows IsDesk slots id m 1 (λ n. (n + 1) % 2 ^ 64) (HasDrawnTicket m)
 Allows-draw slots id m idle still some_part s k one at small =
@@ -303,11 +303,11 @@ same_place : (from x to n : ℕ) → from ≤ x → x < to → to ≤ from + ALL
 same_place from x to n low high near a b =
     sym (one_turn from x (2 ^ 64) low (omega (arith, low, high, near)) (sym a ∙ b))
 
--- there are no more in line than there are parts
+-- there are at most as many tickets in line as parts
 near : (s : State Slot View) (k : IsDesk s) → k.next ≤ k.serve + ALL_PARTS
 near s k = omega (arith, k.line, k.parts, total_le ticket_count (λ u. u.parts) s.views (λ i u e. (k.fits i u e).part))
 
--- the look at who is served, whether it is the ticket of this seat or not
+-- checking which ticket is served, whether or not it is that of this seat
 serves_at : (id : ℕ) (m : Me Slot View) → 0 < m.0.parts → m.0.waits ≡ true → m.0.turn ≡ false
     → (s : State Slot View) (k : IsDesk s) → get_elem? s.views id ≡ some m.0
     → (b : Bool) → nat_eq (slice_index s.words 2) (m.0.ticket % 2 ^ 64) ≡ b
@@ -397,7 +397,7 @@ serves_at id m some_part waits still s k at true is =
       (k.journal, f.seen, k.few, f.helm, f.accounts, refl, front_of-prefix v.seen k.journal f.seen k.rising),
     )
 
--- a seat that waits may look who is served, and has the turn and the book where it is its own ticket
+-- a waiting seat may check which ticket is served, and has the turn and the book if it is its own
 pub Allows-serve : (slots id : ℕ) (m : Me Slot View) → 0 < m.0.parts → m.0.waits ≡ true → m.0.turn ≡ false
     → Allows IsDesk slots id m 2 (λ n. n) (HasTurnIfServed m)
 Allows-serve slots id m some_part waits still s k one at small =
@@ -405,7 +405,7 @@ Allows-serve slots id m some_part waits still s k one at small =
 
 -- ---- Fits: in a turn
 
--- in its turn a seat knows the journal, and the slot is out
+-- in its turn a seat knows the journal, and the slot is empty
 pub in_turn : (s : State Slot View) (k : IsDesk s) (id : ℕ) (v : View) → get_elem? s.views id ≡ some v → v.turn ≡ true
     → s.homes ≡ none ∷ []
 in_turn s k id v at turn = ⊎_elim (λ (h : (s.homes ≡ some (book_of k.net k.journal) ∷ []) × NoTurn s.views).
@@ -413,7 +413,7 @@ in_turn s k id v at turn = ⊎_elim (λ (h : (s.homes ≡ some (book_of k.net k.
     (λ (h : (s.homes ≡ none ∷ []) × ((j : ℕ) × (u : View) × (get_elem? s.views j ≡ some u) × (u.turn ≡ true))). h.0)
     k.home
 
--- another seat's facts where the journal has one call more, of a caller whose account it hasn't
+-- another seat's facts after one more call in the journal, of a caller whose account it does not have
 fits_called : (net : Net) (serve : ℕ) (j : List Event) (c : Call) (u : View) → u.turn ≡ false
     → accounts_of c.caller u.accounts ≡ 0 → length (calls_of j) < MOST_CALLS → Fits net serve j u
     → Fits net serve (j ++ NewCall c ∷ []) u
@@ -427,7 +427,7 @@ fits_called net serve j c u still nobody free f = record {
   accounts = accounts_other j c u.accounts nobody free f.accounts;
 }
 
--- another seat's facts where the journal has one front more
+-- another seat's facts after one more front in the journal
 fits_raised : (net : Net) (serve : ℕ) (j : List Event) (f : ℕ) (u : View) → u.turn ≡ false → ¬ (u.steers ≡ true)
     → Fits net serve j u → Fits net serve (j ++ NewFront f ∷ []) u
 fits_raised net serve j g u still other f = record {
@@ -440,7 +440,7 @@ fits_raised net serve j g u still other f = record {
   accounts = accounts_raised j g u.accounts f.accounts;
 }
 
--- a seat without the turn fits still when the next ticket is served
+-- a seat without the turn still fits when the next ticket is served
 pub fits_served : (net : Net) (serve : ℕ) (j : List Event) (u : View) → u.turn ≡ false → Fits net serve j u
     → Fits net (serve + 1) j u
 fits_served net serve j u still f = record {
@@ -453,9 +453,9 @@ fits_served net serve j u still f = record {
   accounts = f.accounts;
 }
 
--- ---- Allows: a call is added, and the front raised
+-- ---- Allows: a call is added, or the front raised
 
--- a pass in its turn may add a call of its caller to the journal and its account, where the journal is not full
+-- a pass in its turn may add a call of its caller to the journal and its account, if the journal is not full
 Allows-call : (said : List Call) (a : Account) (c : Call) (slots id : ℕ) (m : Me Slot View) → said ≡ c ∷ []
     → m.0.accounts ≡ a ∷ [] → c.caller ≡ a.caller → m.0.turn ≡ true → length (calls_of m.0.seen) < MOST_CALLS
     → Allows IsDesk slots id m 3 (λ n. (n + 1) % 2 ^ 64) (λ n m'. (n ≡ length (calls_of m.0.seen))
@@ -592,7 +592,7 @@ Allows-raise_front g slots id m turn steers above s k one at small =
 
 -- ---- Allows: the turn ends
 
--- a seat may end its turn and give back the book, and the next ticket is served
+-- a seat may end its turn and put the book back, and the next ticket is served
 pub Allows-leave : (slots id : ℕ) (v : View) → 0 < v.parts → v.turn ≡ true
     → Allows IsDesk slots id (v, (0, book_of v.net v.seen) ∷ []) 2 (λ n. (n + 1) % 2 ^ 64)
     (HasEndedTurn (v, (0, book_of v.net v.seen) ∷ []))
@@ -656,15 +656,15 @@ Allows-leave slots id v some_part turn s k one at small =
 
 -- ---- Allows: any account and any call
 
--- two accounts or two calls, each of which is all that one list has, are the same
+-- two accounts or two calls that are both the only one of a list are the same
 pub only_same : {A : Type 0} (a b : A) (xs : List A) → xs ≡ a ∷ [] → xs ≡ b ∷ [] → a ≡ b
 only_same a b xs e d = ap (λ l. get_or l 0 a) (sym e ∙ d)
 
--- the one seat, with what it carries, is the other
+-- one seat, with what it holds, is the other
 abbrev pub Becomes : Me Slot View → Me Slot View → Type 0
 Becomes m n = m ≡ n
 
--- a pass in its turn may add a call, and becomes what HasAddedCall tells of each such account and call
+-- a pass in its turn may add a call; the result is that of HasAddedCall for each such account and call
 pub Allows-raise_count : (said : List Call) (a : Account) (c : Call) (slots id : ℕ) (m : Me Slot View) → said ≡ c ∷ []
     → m.0.accounts ≡ a ∷ [] → c.caller ≡ a.caller → m.0.turn ≡ true → length (calls_of m.0.seen) < MOST_CALLS
     → Allows IsDesk slots id m 3 (λ n. (n + 1) % 2 ^ 64) (HasAddedCall said m)

@@ -12,37 +12,37 @@ use Rattle.stations.specs.Runs.{simulation}
 use Rattle.decision_book.specs.declared.call.Call.{Call}
 use Rattle.decision_book.specs.Journal.{Event, calls_of}
 
--- the least times that are due in the clones, one each
+-- the least time that is due in each clone
 abbrev pub leasts_of : Net → List Clone → ℕ → List (Option ℕ)
 leasts_of net cs front = map (λ c. least_of (simulation net) c front) cs
 
--- the earliest of these times, where there is one
+-- the earliest of these times, if there is one
 abbrev pub earliest : List (Option ℕ) → Option ℕ
 earliest [] = None
 earliest (t ∷ ts) = earlier t (earliest ts)
 
--- an accepted decision on the clone at this place, whose least time was the given one: a fork starts with it, a set
--- makes it the lesser of it and the set's time, and an end drops it where it isn't below the end
+-- the least times after an accepted decision on the clone at this place, with its least time before: a fork starts with
+-- it; a set takes the lesser of it and the set's time; an end drops it unless it is below the end
 abbrev pub leasts_with_at : ℕ → Option (Option ℕ) → List (Option ℕ) → Decision → List (Option ℕ)
 leasts_with_at p None ts d = ts
 leasts_with_at p (Some t) ts (Fork new old) = ts ++ t ∷ []
 leasts_with_at p (Some t) ts (Set who at station change) = slice_set ts p (earlier (Some at) t)
 leasts_with_at p (Some t) ts (End who at) = slice_set ts p (time_before at t)
 
--- an accepted decision on the clone that has this place, if any
+-- the least times after an accepted decision on the clone at this place, if any
 abbrev pub leasts_with : Option ℕ → List (Option ℕ) → Decision → List (Option ℕ)
 leasts_with None ts d = ts
 leasts_with (Some p) ts d = leasts_with_at p (slice_get ts p) ts d
 
--- accepted calls, where the clones are these at last
+-- the least times after accepted calls, if these are the clones after all calls
 abbrev pub leasts_with_calls : List Clone → List (Option ℕ) → List Call → List (Option ℕ)
 leasts_with_calls clones ts calls =
     fold (λ us c. leasts_with (place_of (subject c.decision) clones) us c.decision) ts calls
 
--- a journal as it stood when so many calls were known, where only calls came since
+-- a journal as it was when it had `known` calls, if only calls came since
 abbrev pub helm_at : ℕ → List Event → List Event
 helm_at known es = take (length es - (length (calls_of es) - known)) es
 
--- and the calls since then
+-- the calls since then
 abbrev pub calls_at : ℕ → List Event → List Call
 calls_at known es = drop known (calls_of es)

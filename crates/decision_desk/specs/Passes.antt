@@ -1,4 +1,4 @@
--- What contracts see of a pass and of the helm, and what their turns do.
+-- What contracts see of a pass and of the helm, and the effect of their turns.
 use Rattle.std.specs.Prelude.{◌≡◌, ◌≢◌, ◌⊎◌, ℕ, zero, suc, ◌+◌, ◌-◌, ◌<◌, ◌≤◌, List, []}
 use Rattle.std.specs.Prelude.{◌∷◌, ◌++◌, length, map, true, Some, None, Option, MatchOption, nat_lt, if◌then◌else◌}
 use mathlib.Core.List.{IsPrefix}
@@ -28,23 +28,23 @@ use Rattle.decision_desk.specs.declared.helm.Turn.{Turn}
 
 -- ---- pass
 
--- what contracts see of a pass: its desk and network, the journal as far as it was seen, and the caller's account
+-- what contracts see of a pass: its desk and network, the journal that it has seen, and the caller's account
 pub record PassView : Type 0 where
   pub desk : TableId
   pub net : Net
   pub seen : List Event
   pub account : Account
 
--- the first of these accounts, or a new one of caller 0 where there is none
+-- the first of these accounts, or a new one of caller 0 if there is none
 abbrev pub first_account : List Account → Account
 first_account [] = new_account 0
 first_account (a ∷ as') = a
 
--- what contracts see of the pass of a desk that has this view
+-- what contracts see of a pass with this desk and this view
 abbrev pub view_of_pass : TableId → View → PassView
 view_of_pass desk v = record { desk = desk; net = v.net; seen = v.seen; account = first_account v.accounts }
 
--- a pass at rest: its part of the desk, what it saw and its account
+-- a pass at rest: its part of the desk, what it has seen and its account
 abbrev pub IsPassAtRest : Me Slot View → Type 0
 IsPassAtRest me = me ≡ (pass_view me.0.net me.0.seen (first_account me.0.accounts), [])
 
@@ -52,7 +52,7 @@ IsPassAtRest me = me ≡ (pass_view me.0.net me.0.seen (first_account me.0.accou
 abbrev pub turn_view : Net → List Event → Account → ℕ → View
 turn_view net j a ticket = view_with_turn (pass_view net j a) true ticket true j
 
--- a pass in its turn, while the book is out of the slot
+-- a pass in its turn, while it holds the book
 abbrev pub IsPassInTurn : Me Slot View → Type 0
 IsPassInTurn me = me ≡ (turn_view me.0.net me.0.seen (first_account me.0.accounts) me.0.ticket, (0, None) ∷ [])
 
@@ -60,8 +60,8 @@ IsPassInTurn me = me ≡ (turn_view me.0.net me.0.seen (first_account me.0.accou
 abbrev pub receipt_of : ℕ × Call → Receipt
 receipt_of p = record { entry = Some p.0; reply = p.1.reply }
 
--- a pass at rest: one part of the desk, its account, the receipts of its calls, and memory reserved for as many as a
--- journal may hold
+-- a pass at rest: one part of the desk, its account, the receipts of its calls, and memory reserved for the maximum
+-- number of receipts
 pub record IsPass (caller : ℕ) (receipts : ReservedView Receipt) (desk : TableId) (me : Me Slot View) : Type 0 where
   pub sized : IsDeskTable desk
   pub rest : IsPassAtRest me
@@ -71,8 +71,8 @@ pub record IsPass (caller : ℕ) (receipts : ReservedView Receipt) (desk : Table
 
 -- ---- turns of a pass
 
--- the reply of the table of refusals to a decision, and the call that is told: the last of the book, which had a free
--- place for it, or none, where the book was full
+-- the reply of the table of refusals to a decision, and the call that is returned: the last of the book, or none if the
+-- book was full
 pub record HasAnswered (old : BookView) (caller : ℕ) (d : Decision) (answer : Reply) (told : Option Call)
     (new : BookView) : Type 0 where
   pub answer_is : answer ≡ reply (after old.net old.events) d
@@ -80,36 +80,36 @@ pub record HasAnswered (old : BookView) (caller : ℕ) (d : Decision) (answer : 
   pub places : MatchOption told (MOST_CALLS ≤ length (calls_of old.events))
       (λ _. length (calls_of old.events) < MOST_CALLS)
 
--- a pass that saw some events and has an account comes behind the events j
+-- the journal j continues what the pass has seen, and the pass's account is right for j
 pub record ComesBehind (seen : List Event) (a : Account) (j : List Event) : Type 0 where
   pub begins : IsPrefix seen j
   pub rises : front_of seen ≤ front_of j
   pub right : AreAccounts j (a ∷ [])
   pub few : length (calls_of j) ≤ MOST_CALLS
 
--- a pass that came to its turn, behind the events j
+-- a pass that has come to its turn, after the events j
 pub record PassHasTurn (net : Net) (seen : List Event) (a : Account) (me : Me Slot View) (j : List Event) : Type 0 where
   pub ticket : ℕ
   pub comes : ComesBehind seen a j
   pub is : me ≡ (turn_view net j a ticket, (0, book_of net j) ∷ [])
 
--- the call is in the journal, at the place that the receipt names, and in the account; this holds of both then
+-- the call is in the account, and in the journal at the place on the receipt; `Then` holds of both afterwards
 abbrev pub HasEntered : List Event → Account → Decision → Receipt → (List Event → Account → Type 0) → Type 0
 HasEntered j a d receipt Then = (receipt.reply ≢ Full) × (receipt.entry ≡ Some (length (calls_of j)))
     × (length (calls_of j) < MOST_CALLS)
     × Then (j ++ NewCall (call_of a.caller j d receipt.reply) ∷ [])
     (with_call a j (call_of a.caller j d receipt.reply))
 
--- the reply is Full: the journal stays as it was, the account is marked; this holds of both then
+-- the reply is Full: the journal is unchanged, and the account is marked; `Then` holds of both afterwards
 abbrev pub HasFoundFull : List Event → Account → Receipt → (List Event → Account → Type 0) → Type 0
 HasFoundFull j a receipt Then = (receipt.reply ≡ Full) × (receipt.entry ≡ None) × (length (calls_of j) ≡ MOST_CALLS)
     × Then j (full_account a)
 
--- what becomes of a journal and of an account whose caller asks: one or the other
+-- the two outcomes of a decision for the journal and the caller's account
 abbrev pub HasEnteredOrFull : List Event → Account → Decision → Receipt → (List Event → Account → Type 0) → Type 0
 HasEnteredOrFull j a d receipt Then = HasEntered j a d receipt Then ⊎ HasFoundFull j a receipt Then
 
--- the result of a pass's turn, behind the events j: it is at rest, with what became of them and of its account
+-- the result of a pass's turn, after the events j: it is at rest, with the new journal and the new account
 pub record IsPassTurn (net : Net) (seen : List Event) (a : Account) (d : Decision) (receipt : Receipt)
     (new : Me Slot View) (j : List Event) : Type 0 where
   pub comes : ComesBehind seen a j
@@ -119,16 +119,16 @@ pub record IsPassTurn (net : Net) (seen : List Event) (a : Account) (d : Decisio
 -- the same, as contracts see it
 pub record IsAsked (old : PassView) (d : Decision) (receipt : Receipt) (new : PassView) (j : List Event) : Type 0 where
   pub begins : IsPrefix old.seen j
-  -- the front that it was decided at is at least the one that was seen
+  -- the front at the decision is at least the one that was seen
   pub rises : front_of old.seen ≤ front_of j
   pub reply_is : receipt.reply ≡ reply (after old.net j) d
-  -- the call is in the journal, at the place that the receipt names; or it is full
+  -- the call is in the journal, at the place on the receipt; or the journal is full
   pub outcome : HasEnteredOrFull j old.account d receipt (λ events b. new ≡ record old { seen = events; account = b })
 
 -- ---- helm
 
--- what contracts see of a helm: the journal as far as it was seen, the journal when it last raised the front, its
--- parts, how many passes were made, and the accounts that came back
+-- what contracts see of a helm: the journal that it has seen, and the journal when it last raised the front; its parts,
+-- the number of passes made, and the accounts that were handed back
 pub record HelmView : Type 0 where
   pub desk : TableId
   pub net : Net
@@ -138,7 +138,7 @@ pub record HelmView : Type 0 where
   pub made : ℕ
   pub accounts : List Account
 
--- what contracts see of the helm of a desk that has this view
+-- what contracts see of a helm with this desk and this view
 abbrev pub view_of_helm : TableId → View → HelmView
 view_of_helm desk v = record {
   desk = desk;
@@ -150,7 +150,7 @@ view_of_helm desk v = record {
   accounts = v.accounts;
 }
 
--- the helm at rest: its parts of the desk, of which it has some, what it saw, and the accounts that came back
+-- the helm at rest: its parts of the desk, at least one, what it has seen, and the accounts that were handed back
 pub record IsHelmAtRest (me : Me Slot View) : Type 0 where
   pub is : me ≡ (helm_view me.0.net me.0.parts me.0.seen me.0.helm me.0.made me.0.accounts, [])
   pub part : 0 < me.0.parts
@@ -160,7 +160,7 @@ abbrev pub helm_turn_view : Net → ℕ → List Event → List Event → ℕ �
 helm_turn_view net parts j helm made accounts ticket =
     view_with_turn (helm_view net parts j helm made accounts) true ticket true j
 
--- the helm in its turn, while the book is out of the slot
+-- the helm in its turn, while it holds the book
 pub record IsHelmInTurn (me : Me Slot View) : Type 0 where
   pub is : me ≡ (
     helm_turn_view me.0.net me.0.parts me.0.seen me.0.helm me.0.made me.0.accounts me.0.ticket,
@@ -173,23 +173,23 @@ pub record IsHelm (made known front : ℕ) (desk : TableId) (me : Me Slot View) 
   pub sized : IsDeskTable desk
   pub rest : IsHelmAtRest me
   pub made_is : me.0.made ≡ made
-  -- how many calls there were when it last raised the front
+  -- the number of calls when it last raised the front
   pub known_is : known ≡ length (calls_of me.0.helm)
   -- and that front
   pub front_is : front ≡ front_of me.0.helm
 
 -- ---- passes and helm of a new desk
 
--- the pass of a caller that has asked nothing
+-- the pass of a caller that has not submitted anything
 abbrev pub new_pass : TableId → Net → ℕ → PassView
 new_pass desk net x = record { desk = desk; net = net; seen = []; account = new_account x }
 
--- those of the callers from 1 to n
+-- the new passes of the callers from 1 to n
 abbrev pub new_passes : TableId → Net → ℕ → List PassView
 new_passes desk net zero = []
 new_passes desk net (suc n) = new_passes desk net n ++ new_pass desk net (n + 1) ∷ []
 
--- the helm, once so many passes were made
+-- the helm, once n passes were made
 abbrev pub new_helm : TableId → Net → ℕ → HelmView
 new_helm desk net n = record {
   desk = desk;
@@ -203,17 +203,17 @@ new_helm desk net n = record {
 
 -- ---- looks of a pass
 
--- the front was seen, behind the events j
+-- the front was seen, after the events j
 abbrev pub pass_after_look : PassView → List Event → PassView
 pass_after_look p j = record p { seen = j; account = record p.account { fronts = p.account.fronts ++ front_of j ∷ [] } }
 
--- the front, where this time is below it, and else none
+-- the front, if this time is below it, and otherwise none
 abbrev pub late_front : ℕ → ℕ → Option ℕ
 late_front front time = if nat_lt time front then Some front else None
 
 -- ---- the book at the end
 
--- what the book is that a desk leaves
+-- the book that a desk leaves
 pub record IsFinalBook (helm : HelmView) (book : BookView) : Type 0 where
   pub net : book.net ≡ helm.net
   pub seen : IsPrefix helm.seen book.events
@@ -222,18 +222,19 @@ pub record IsFinalBook (helm : HelmView) (book : BookView) : Type 0 where
   pub accounts : AreAccounts book.events helm.accounts
   -- each caller of a pass that was made has one account
   pub once : (x : ℕ) → accounts_of x helm.accounts ≡ in_line x 1 (helm.made + 1)
-  -- nobody else has calls
+  -- other callers have no calls
   pub others : (x : ℕ) → accounts_of x helm.accounts ≡ 0 → calls_by x book.events ≡ []
 
 -- ---- turns of the helm
 
--- a helm that came to its turn: only calls were made since it last raised the front
+-- a helm that has come to its turn: only calls came since it last raised the front
 pub record HelmHasTurn (old : View) (me : Me Slot View) (j : List Event) : Type 0 where
   pub ticket : ℕ
   pub only_calls : OnlyCalls old.helm j
   pub is : me ≡ (helm_turn_view old.net old.parts j old.helm old.made old.accounts ticket, (0, book_of old.net j) ∷ [])
 
--- only calls were made since so many were known; these are the least times as the clones stood then, below the horizon
+-- only calls came since `known` calls were in the journal; these are the clones' least times at that point, which is
+-- below the horizon
 pub record IsSince (book : BookView) (known : ℕ) (least : List (Option ℕ)) : Type 0 where
   pub helm : List Event
   pub calls : List Call
@@ -242,18 +243,18 @@ pub record IsSince (book : BookView) (known : ℕ) (least : List (Option ℕ)) :
   pub below : front_of helm < book.net.horizon
   pub least_is : least ≡ leasts_of book.net (after book.net helm).clones (front_of helm)
 
--- the accepted ones of the calls since the helm's last turn, and the next front
+-- the accepted calls since the helm's last turn, and the next front
 pub record IsTurnAhead (book : BookView) (helm : List Event) (cs fresh : List Call) (front : ℕ) : Type 0 where
   pub fresh_is : fresh ≡ accepted_of cs
   pub front_is : front ≡ next_front book.net (after book.net book.events).clones (front_of helm)
-  -- no call raises the front, so it is the next one from where the book stands
+  -- no call raises the front, so it is the next one after the whole book
   pub next : front ≡ next_front book.net (after book.net book.events).clones (after book.net book.events).front
   pub later : (after book.net book.events).front < front
   pub above : front_of book.events < front
   pub within : front ≤ book.net.horizon
   pub right : IsRight book.net book.events
 
--- what a turn of the helm gives over these events: the accepted ones of the calls since its last, and the next front
+-- the result of a turn of the helm over these events: the accepted calls since its last turn, and the next front
 pub record IsTurnOver (net : Net) (events helm : List Event) (cs : List Call) (turn : Turn) : Type 0 where
   pub fresh : turn.fresh.items ≡ accepted_of cs
   pub front : turn.front ≡ next_front net (after net events).clones (front_of helm)
@@ -268,7 +269,7 @@ pub record IsHelmTurn (old : BookView) (helm : List Event) (cs : List Call) (tur
   pub over : IsTurnOver old.net old.events helm cs turn
   pub new_is : new ≡ record old { events = old.events ++ NewFront turn.front ∷ [] }
 
--- a turn of the helm, behind the events j: only calls were made since its last, and the front is the next one
+-- a turn of the helm: only calls came since its last turn, and the front is the next one
 pub record IsNextTurn (old : HelmView) (turn : Turn) (new : HelmView) (cs : List Call) : Type 0 where
   pub over : IsTurnOver old.net (old.helm ++ map NewCall cs) old.helm cs turn
   pub new_is : new ≡ record old {
@@ -276,6 +277,6 @@ pub record IsNextTurn (old : HelmView) (turn : Turn) (new : HelmView) (cs : List
     helm = (old.helm ++ map NewCall cs) ++ NewFront turn.front ∷ [];
   }
 
--- a turn that found no memory
+-- a turn that ran out of memory
 abbrev pub IsMissedTurn : HelmView → HelmView → Type 0
 IsMissedTurn old new = (j : List Event) × OnlyCalls old.helm j × (new ≡ record old { seen = j })

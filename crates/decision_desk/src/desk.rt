@@ -1,4 +1,4 @@
-//! The desk: one book of decisions that threads share.
+//! The desk: a book of decisions that threads share.
 ghost use Rattle.std.specs.Prelude.{◌≡◌, ℕ, ◌+◌, ◌-◌, ◌<◌, ◌≤◌, ◌++◌, ◌∷◌, []};
 ghost use Rattle.std.specs.Prelude.{List, All, Some, length, map, IfOk, OnOk, OnErr};
 ghost use mathlib.Core.List.{IsPrefix};
@@ -20,13 +20,13 @@ use sim_base::{Decision, NoMemory, Reserved};
 use std::alloc::Global;
 use std::sync::{Arc, Wait};
 
-/// The most passes of a desk, one for each analyst.
+/// The maximum number of passes of a desk, one for each analyst.
 pub const MOST_PASSES: u32 = MOST_ANALYSTS;
 
-/// The parts of a desk, with all of which the helm begins: one for each pass, and its own.
+/// The parts of the right to close a desk: one for each pass, and the helm's own. The helm begins with all of them.
 pub const ALL_PARTS: u32 = MOST_PASSES + 1;
 
-/// The book between threads.
+/// The desk: the book that threads share.
 #[derive(Drop)]
 pub struct Desk {
     /// The words of the turns, and the slot of the book.
@@ -37,7 +37,8 @@ pub struct Desk {
 impl Desk {
     ghost use Rattle.decision_desk.specs.Desks.{desk_id};
 
-    /// A desk with an empty book, a pass for each analyst, with memory reserved for all its receipts, and the helm.
+    /// Opens a desk with an empty book. Returns a pass for each analyst, with memory reserved for all its receipts, and
+    /// the helm.
     pub fn begin(
         alloc: Global,
         model: Arc<Model>,
@@ -79,7 +80,7 @@ impl Desk {
         }
     }
 
-    // A pass for the next caller, with memory reserved for all its receipts.
+    // Makes a pass for the next caller, with memory reserved for all its receipts.
     fn make_pass(&self, alloc: Global, helm: &mut Helm) -> Result<Pass, NoMemory>
         requires desk { helm.old.desk ≡ desk_id self.now }
         requires parts { 1 < helm.old.parts }
@@ -106,7 +107,7 @@ impl Desk {
         })
     }
 
-    // Takes a pass in.
+    // Merges a pass into the helm.
     fn absorb(&self, helm: &mut Helm, pass: Pass)
         requires helm { helm.old.desk ≡ desk_id self.now }
         requires pass { pass.desk ≡ desk_id self.now }
@@ -123,7 +124,7 @@ impl Desk {
         self.table.shared.join_seat::<Share>(&mut helm.seat, seat);
     }
 
-    /// Asks a decision in its turn. It may wait, and takes no memory.
+    /// Submits a decision in the pass's turn. It may wait, and allocates nothing.
     pub fn decide<R: Wait>(&self, rt: &R, pass: &mut Pass, d: Decision) -> Receipt
         requires desk { pass.old.desk ≡ desk_id self.now }
         ensures asked { (j : List Event) × IsAsked pass.old d result pass.new j }
@@ -142,7 +143,7 @@ impl Desk {
         receipt
     }
 
-    /// The front. It waits for nobody, and takes no memory.
+    /// The front. It never waits, and allocates nothing.
     pub fn front(&self, pass: &mut Pass) -> u64
         requires desk { pass.old.desk ≡ desk_id self.now }
         ensures rises { front_of pass.old.seen ≤ result }
@@ -152,7 +153,7 @@ impl Desk {
         look_at_front(&self.table.shared, &mut pass.seat)
     }
 
-    /// The front, where it is beyond this time. It waits for nobody, and takes no memory.
+    /// The front, if it is past this time. It never waits, and allocates nothing.
     pub fn is_late(&self, pass: &mut Pass, time: u64) -> Option<u64>
         requires desk { pass.old.desk ≡ desk_id self.now }
         ensures rises { (f : ℕ) → result ≡ Some f → front_of pass.old.seen ≤ f }
@@ -163,7 +164,7 @@ impl Desk {
         if time < front { Some(front) } else { None }
     }
 
-    // Takes all passes in.
+    // Merges all passes into the helm.
     fn absorb_all(&self, helm: &mut Helm, passes: Vec<Pass>)
         requires helm { helm.old.desk ≡ desk_id self.now }
         requires passes { All (λ p. p.desk ≡ desk_id self.now) passes.items }
@@ -177,7 +178,7 @@ impl Desk {
         }
     }
 
-    /// The book, once all passes are handed back. It takes no memory.
+    /// Returns the book, once all passes are handed back. It allocates nothing.
     pub fn close(self, passes: Vec<Pass>, helm: Helm) -> LegalBook
         requires desk { helm.desk ≡ desk_id self }
         requires passes { All (λ p. p.desk ≡ desk_id self) passes.items }
@@ -192,7 +193,7 @@ impl Desk {
         self.take_book(helm)
     }
 
-    // The book, once the helm has every part.
+    // Returns the book, once the helm has every part.
     fn take_book(self, helm: Helm) -> LegalBook
         requires desk { helm.desk ≡ desk_id self }
         requires whole { helm.parts ≡ ALL_PARTS }

@@ -1,11 +1,11 @@
-//! Worked examples, computed by the checker from the definitions. Each function's contract is a theorem; there is
+//! Worked examples, computed by the checker from the definitions. The contract of each function is a theorem; there is
 //! nothing to run.
 ghost use Rattle.stations.specs.Examples.OneDesk.{one_desk};
 ghost use Rattle.decision_book.specs.Examples.{during_a_run, raised_to};
 ghost use Rattle.decision_desk.specs.Legal.{IsLegal};
 
-/// A set that waits at front 10 makes 12 the next front: the journal that goes on at 12 is legal, and neither the one
-/// that goes on at 13 nor the one that goes on at 11 is.
+/// If a set waits at front 10, the next front is 12: the journal that continues at 12 is legal, and those that continue
+/// at 13 or 11 are not.
 pub fn front_behind_a_set()
     ensures next { IsLegal one_desk during_a_run }
     ensures later { ¬ (IsLegal one_desk (raised_to 13)) }

@@ -1,4 +1,4 @@
-//! The helm, the engine's seat: its turns raise the front, the boundary of the next window.
+//! The helm, the engine's seat: its turns raise the front, which is the boundary of the next window.
 ghost use Rattle.std.specs.Prelude.{◌≡◌, ◌<◌, ◌++◌, ◌∷◌, [], List, MatchResult};
 ghost use Rattle.decision_book.specs.Journal.{Event, NewFront, after, front_of};
 ghost use Rattle.decision_book.specs.declared.call.Call.{Call};
@@ -16,7 +16,7 @@ use sim_base::NoMemory;
 use std::alloc::Global;
 use std::sync::Wait;
 
-/// What a turn of the helm gives: the front that it raised, and the calls that were accepted since its last turn.
+/// The result of a turn of the helm: the front that it raised, and the calls that were accepted since its last turn.
 #[derive(Drop)]
 pub struct Turn {
     /// The front that it raised.
@@ -25,14 +25,14 @@ pub struct Turn {
     pub fresh: Vec<Call>,
 }
 
-/// The engine's seat: it raises the front, and makes the passes.
+/// The helm: the engine's seat, which raises the front and makes the passes.
 #[derive(Drop)]
 pub struct Helm {
     /// Its seat at the desk.
     pub(crate) seat: Chair,
-    /// How many passes it made.
+    /// The number of passes that it made.
     pub(crate) made: u32,
-    /// How many calls were in the journal at its last turn.
+    /// The number of calls in the journal at its last turn.
     pub(crate) known: usize,
     /// The front that it raised last, or 0.
     pub(crate) front: u64,
@@ -59,16 +59,16 @@ fn come_to_helm_turn<R: Wait>(rt: &R, board: &Board, seat: &mut Chair)
     wait_turn(rt, board, seat, ticket);
 }
 
-/// Tells of a front, and ends the turn.
+/// Publishes a front, puts the book back and ends the turn.
 fn raise_and_leave(board: &Board, seat: &mut Chair, book: LegalBook, front: u64)
-    // the helm has the turn, and the book has the front behind all that was seen
+    // the helm has the turn, and its book is the journal that it saw with the front appended
     requires table { IsSeatOf board.now.table_id seat.old.table_id }
     requires turn { IsHelmInTurn seat.old.me }
     requires above { front_of seat.old.me.0.seen < front }
     requires book { book ≡ record { net = seat.old.me.0.net; events = seat.old.me.0.seen ++ NewFront front ∷ [] } }
-    // what is kept: the table of the seat
+    // the table of the seat is unchanged
     ensures table { seat.new.table_id ≡ seat.old.table_id }
-    // what it gives: the helm at rest, with the front in its journal
+    // the result: the helm at rest, with the front in its journal
     ensures rest { seat.new.me ≡ (
       helm_view seat.old.me.0.net seat.old.me.0.parts
           (seat.old.me.0.seen ++ NewFront front ∷ []) (seat.old.me.0.seen ++ NewFront front ∷ []) seat.old.me.0.made
@@ -81,7 +81,7 @@ fn raise_and_leave(board: &Board, seat: &mut Chair, book: LegalBook, front: u64)
     end_turn(board, seat);
 }
 
-/// Ends the turn with the book as it was.
+/// Ends the turn with the book unchanged.
 fn leave_as_it_was(board: &Board, seat: &mut Chair, book: LegalBook)
     requires table { IsSeatOf board.now.table_id seat.old.table_id }
     requires turn { IsHelmInTurn seat.old.me }
@@ -98,14 +98,15 @@ fn leave_as_it_was(board: &Board, seat: &mut Chair, book: LegalBook)
 }
 
 impl Helm {
-    /// The front that this helm raised last, or 0 before its first turn. It takes no memory.
+    /// The front that this helm raised last, or 0 before its first turn. It allocates nothing.
     pub fn front(&self) -> u64
         ensures value { result ≡ front_of self.now.helm }
     {
         self.front
     }
 
-    /// In one turn: takes the accepted calls since the last one, and raises the front to the next one.
+    /// Returns the calls that were accepted since the last turn, and raises the front to the next one, both in one
+    /// turn.
     #[tactic(auto, using(crate::proofs::Journals::front_raised))]
     pub fn next<R: Wait>(
         &mut self,

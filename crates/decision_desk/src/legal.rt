@@ -1,4 +1,4 @@
-//! A book whose journal is legal: each front in it is the next one of the lists before it.
+//! A book whose journal is legal: each front is the next front of the clones before it.
 ghost use Rattle.std.specs.Prelude.{◌≡◌, ◌<◌, ◌≤◌, ◌++◌, ◌∷◌, [], OnOk, OnErr, IfOk};
 ghost use Rattle.stations.specs.Runs.{next_front};
 ghost use Rattle.decision_book.specs.Journal.{after, NewFront};
@@ -11,7 +11,7 @@ use sim_base::{Decision, NoMemory};
 use std::alloc::Global;
 use std::sync::Arc;
 
-/// A book that only calls and next fronts change.
+/// A book that changes only by calls and next fronts.
 #[derive(Drop)]
 pub struct LegalBook {
     book: Book,
@@ -29,7 +29,7 @@ impl std::marker::Model for LegalBook {
 }
 
 impl LegalBook {
-    /// No calls and no fronts.
+    /// Returns a book without calls and fronts.
     pub fn begin(alloc: Global, model: Arc<Model>) -> Result<LegalBook, NoMemory>
         ensures value { IfOk result (λ b. b ≡ record { net = model.value; events = [] }) }
     {
@@ -58,7 +58,7 @@ impl LegalBook {
         &self.book
     }
 
-    /// Asks a decision, and tells the call that this adds; none where the journal is full.
+    /// Submits a decision. Returns the reply and the call that it adds, none if the journal is full.
     pub fn ask(&mut self, caller: u32, d: &Decision) -> (Reply, Option<Call>)
         ensures asked { HasAnswered self.old caller d.now result.0 result.1 self.new }
     {

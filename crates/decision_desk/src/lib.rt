@@ -1,7 +1,7 @@
 //! The desk: a book of decisions that threads share, one turn after the other.
 //!
-//! Whoever asks draws a ticket and waits until it is served; then the book is its own until it ends its turn. So the
-//! decisions of all threads are one journal, and the engine's fronts stand in it at the places where they were raised:
+//! A caller draws a ticket, waits until it is served, and then has the book to itself until it ends its turn. So the
+//! decisions of all threads form one journal, which has the engine's fronts at the places where they were raised:
 //!
 //! ```text
 //! ticket  1           2         3                  4
@@ -18,16 +18,15 @@
 //! let book = desk.close(passes, helm);                  // a legal journal, when all is handed back
 //! ```
 //!
-//! A decision takes no memory: its pass reserved that for all receipts at the beginning. It waits for the turns before
-//! its own, yielding between looks, and then costs what `LegalBook::ask` costs. A turn of the helm copies the least
-//! times, one for each clone, and walks over the calls since its last. `front` and `is_late` load one word and wait
-//! for nobody.
+//! A decision takes no memory: its pass reserved memory for all receipts at the beginning. It waits for earlier turns
+//! and yields between checks, and then costs what `LegalBook::ask` costs. A turn of the helm copies the least times,
+//! one for each clone, and reads the calls since its last turn. `front` and `is_late` load one word and never wait.
 //!
-//! The desk carries the promise that a live study has one legal history: each analyst's decisions stand in the journal
-//! in order, each once, with the reply that the table of refusals gives at its place. All that a seat knows of the
-//! journal is one beginning of it: what its pass has seen. The rule of the desk, in `specs/Turns.antt`, says what each
-//! step of a seat does to the words front, ticket, serving and count, and to the slot that holds the book; the book's
-//! own type keeps that its journal is legal, which means that each front is the next one of the lists before it.
+//! The promise: **a live study has one legal history**. The journal has each analyst's decisions in order, each once,
+//! with the reply of the table of refusals at its place. A seat knows only the part of the journal that its pass has
+//! seen. The rule of the desk is in `specs/Turns.antt`. It defines what each step of a seat does to the words front,
+//! ticket, serving and count, and to the slot of the book. The invariant of the book's type is that its journal is
+//! legal: each front is the next one of the clones before it.
 #![tactic(auto)]
 
 pub mod desk;

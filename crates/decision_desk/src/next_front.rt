@@ -1,4 +1,4 @@
-//! The helm's turn over the book: the accepted calls since its last one, and the next front.
+//! The helm's turn over the book: the accepted calls since its last turn, and the next front.
 ghost use Rattle.std.specs.Prelude.{◌≡◌, ◌≤◌, ◌++◌, ◌∷◌, List};
 ghost use Rattle.std.specs.Prelude.{map, drop, length, IfOk, OnOk, MatchResult, if◌then◌else◌};
 ghost use Rattle.run_laws.specs.FrontLaws.{time_before as time_before'};
@@ -16,7 +16,7 @@ use sim_base::{Decision, Lists, NoMemory};
 use stations::due::{earlier, window_end};
 use std::alloc::Global;
 
-// A time, where it comes before another.
+// The time, if it is before the other time.
 fn time_before(at: u64, time: Option<u64>) -> Option<u64>
     ensures value { result ≡ time_before' at time }
 {
@@ -36,7 +36,7 @@ fn is_accepted(reply: Reply) -> bool
     }
 }
 
-// The accepted ones of these calls, in order.
+// The accepted calls among these, in order.
 fn accepted_calls(alloc: Global, calls: &[Call]) -> Result<Vec<Call>, NoMemory>
     ensures value { IfOk result (λ fresh. fresh.items ≡ accepted_of calls.now) }
 {
@@ -49,7 +49,7 @@ fn accepted_calls(alloc: Global, calls: &[Call]) -> Result<Vec<Call>, NoMemory>
     Ok(fresh)
 }
 
-// Those of the calls from this one on.
+// The accepted calls among those from this index on.
 fn accepted_calls_from(alloc: Global, calls: &[Call], known: usize) -> Result<Vec<Call>, NoMemory>
     requires known { known ≤ length calls.now }
     ensures value { IfOk result (λ fresh. fresh.items ≡ accepted_of (drop known calls.now)) }
@@ -57,7 +57,7 @@ fn accepted_calls_from(alloc: Global, calls: &[Call], known: usize) -> Result<Ve
     accepted_calls(alloc, &calls[known..])
 }
 
-// Takes an accepted decision on the clone at this place into the least times.
+// Updates the least times for an accepted decision on the clone at this place.
 fn take_decision(
     times: &mut Vec<Option<u64>>,
     place: Option<u32>,
@@ -81,7 +81,7 @@ fn take_decision(
     Ok(())
 }
 
-// Takes these accepted calls into the least times.
+// Updates the least times for these accepted calls.
 fn take_calls(times: &mut Vec<Option<u64>>, lists: &Lists, fresh: &[Call]) -> Result<(), NoMemory>
     ensures ok { OnOk result (times.new.items ≡ leasts_with_calls lists.now.clones times.old.items fresh.now) }
 {
@@ -104,7 +104,7 @@ fn earliest(times: &[Option<u64>]) -> Option<u64>
 }
 
 impl LegalBook {
-    // The accepted calls since the helm's last turn, when so many calls were known, and the next front.
+    // The accepted calls since the helm's last turn, at which `known` calls were in the journal, and the next front.
     fn look_ahead(
         &self,
         alloc: Global,
@@ -116,7 +116,7 @@ impl LegalBook {
             (helm_at known self.now.events) (calls_at known self.now.events) turn.fresh.items turn.front) }
     {
         let book = self.book();
-        // for its clause: each reply so far is that of the table, and the fronts rise
+        // recalls a clause: each reply so far is that of the table, and the fronts rise
         let _front = book.front();
         let fresh = accepted_calls_from(alloc, book.calls(), known)?;
         let mut times = Vec::new(alloc);
@@ -126,8 +126,8 @@ impl LegalBook {
         Ok(Turn { front, fresh })
     }
 
-    /// Takes the accepted calls since the helm's last turn, when so many calls were known, and raises the front to
-    /// the next one; out of memory leaves all unchanged.
+    /// Returns the accepted calls since the helm's last turn, at which `known` calls were in the journal, and raises
+    /// the front to the next one. If out of memory, nothing changes.
     pub fn take_helm_turn(
         &mut self,
         alloc: Global,

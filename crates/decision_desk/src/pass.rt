@@ -1,4 +1,4 @@
-//! Passes: what an analyst asks the desk with.
+//! Passes: an analyst's handle for submitting decisions.
 ghost use Rattle.std.specs.Prelude.{◌≡◌, ◌++◌, ◌∷◌, [], List, ◌<◌, length, map, None};
 ghost use Rattle.decision_book.specs.declared.call.TheConstants.{MOST_CALLS};
 ghost use Rattle.decision_book.specs.Journal.{Event, NewCall, calls_of};
@@ -13,16 +13,16 @@ use sim_base::{Decision, Reserved};
 use std::marker::{Brand, Model};
 use std::sync::Wait;
 
-/// What a caller got for a call: its place in the journal, None exactly where the reply is Full.
+/// The receipt of a call: its place in the journal, None exactly if the reply is Full, and the reply.
 #[derive(Clone, Copy, Debug, PartialEq, Eq)]
 pub struct Receipt {
-    /// The call's place in the journal, from 0; none where the journal is full.
+    /// The call's place in the journal, from 0; none if the journal is full.
     pub entry: Option<u32>,
     /// The reply to the decision.
     pub reply: Reply,
 }
 
-/// What an analyst asks the desk with.
+/// The pass of an analyst: a handle for submitting decisions to the desk.
 #[derive(Drop)]
 pub struct Pass {
     /// Its seat at the desk.
@@ -52,7 +52,7 @@ impl Pass {
     }
 }
 
-/// Takes the book out of the slot.
+/// Takes the book from the slot.
 pub(crate) fn take_book(board: &Board, seat: &mut Chair) -> LegalBook
     requires table { IsSeatOf board.now.table_id seat.old.table_id }
     requires held { seat.old.me.1 ≡ (0, book_of seat.old.me.0.net seat.old.me.0.seen) ∷ [] }
@@ -86,17 +86,17 @@ pub(crate) fn come_to_turn<R: Wait>(rt: &R, board: &Board, seat: &mut Chair)
     wait_turn(rt, board, seat, ticket);
 }
 
-/// Counts a call, puts the book back and ends the turn; gives the call's place in the journal.
+/// Counts a call, puts the book back and ends the turn. Returns the call's place in the journal.
 pub(crate) fn tell_and_leave(board: &Board, seat: &mut Chair, book: LegalBook, call: &Call) -> u64
-    // the pass has the turn, and the book has the call behind all that was seen
+    // the pass has the turn, and its book is the journal that it saw with the call appended
     requires table { IsSeatOf board.now.table_id seat.old.table_id }
     requires turn { IsPassInTurn seat.old.me }
     requires free { length (calls_of seat.old.me.0.seen) < MOST_CALLS }
     requires caller { call.now.caller ≡ (first_account seat.old.me.0.accounts).caller }
     requires book { book ≡ record { net = seat.old.me.0.net; events = seat.old.me.0.seen ++ NewCall call.now ∷ [] } }
-    // what is kept: the table of the seat
+    // the table of the seat is unchanged
     ensures table { seat.new.table_id ≡ seat.old.table_id }
-    // what it gives: the call's place, and the pass at rest, with the call in its journal and account
+    // the result: the call's place, and the pass at rest, with the call in its journal and account
     ensures entry { result ≡ length (calls_of seat.old.me.0.seen) }
     ensures rest { seat.new.me ≡ (
       pass_view seat.old.me.0.net (seat.old.me.0.seen ++ NewCall call.now ∷ [])
@@ -110,7 +110,7 @@ pub(crate) fn tell_and_leave(board: &Board, seat: &mut Chair, book: LegalBook, c
     entry
 }
 
-/// Ends the turn of a caller that was answered Full.
+/// Ends the turn of a caller whose reply was Full.
 pub(crate) fn leave_full(board: &Board, seat: &mut Chair, book: LegalBook)
     requires table { IsSeatOf board.now.table_id seat.old.table_id }
     requires turn { IsPassInTurn seat.old.me }

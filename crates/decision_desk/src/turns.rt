@@ -17,7 +17,7 @@ use std::marker::{Brand, PhantomData};
 use std::sync::Wait;
 use std::thread;
 
-/// The rule that each step of a seat keeps, `IsDesk` in `specs/Turns.antt`.
+/// The rule that each step of a seat keeps: `IsDesk` in `specs/Turns.antt`.
 pub struct DeskRule;
 
 impl TableRule<Option<LegalBook>, View, Model> for DeskRule {
@@ -39,7 +39,7 @@ impl Play<Option<LegalBook>, View> for Draw {
     ghost then = { λ _ m n w. HasDrawnTicket m n w };
 }
 
-/// The step that looks which ticket is served: where it is the seat's, it has the turn and the book.
+/// The step that checks which ticket is served. If it is the seat's, the seat has the turn and the book.
 pub struct Serve;
 
 impl Play<Option<LegalBook>, View> for Serve {
@@ -48,7 +48,7 @@ impl Play<Option<LegalBook>, View> for Serve {
     ghost then = { λ _ m n w. HasTurnIfServed m n w };
 }
 
-/// The step that ends a turn and serves the next ticket. The book is back by then.
+/// The step that ends a turn and serves the next ticket. The book must be back in the slot.
 pub struct Leave;
 
 impl Play<Option<LegalBook>, View> for Leave {
@@ -57,7 +57,7 @@ impl Play<Option<LegalBook>, View> for Leave {
     ghost then = { λ _ m n w. HasEndedTurn m n w };
 }
 
-/// The same for a caller that was answered Full.
+/// The same for a caller whose reply was Full.
 pub struct LeaveFull;
 
 impl Play<Option<LegalBook>, View> for LeaveFull {
@@ -84,7 +84,7 @@ impl Play<Option<LegalBook>, View> for RaiseFront {
     ghost then = { λ _ m n w. HasRaisedFront m n w };
 }
 
-/// The call that a step adds, alone in a list. Each use picks it.
+/// The call that a step adds, in a list of one. Each use chooses it.
 pub trait AddedCall {
     ghost use Rattle.std.specs.Prelude.{List};
     ghost use Rattle.decision_book.specs.declared.call.Call.{Call};
@@ -109,7 +109,7 @@ impl<E: AddedCall> Play<Option<LegalBook>, View> for RaiseCount<E> {
     ghost then = { λ _ m n w. HasAddedCall E.calls m n w };
 }
 
-/// A pass that is cut off the helm's seat, and one that is taken in.
+/// The steps that split a pass from the helm's seat, and merge one back.
 pub struct Share;
 
 impl Split<View> for Share {
@@ -130,14 +130,14 @@ impl Join<View> for Share {
     ghost spent = { spent_view };
 }
 
-/// A seat at the desk, of a pass or of the helm.
+/// A seat at the desk: a pass's or the helm's.
 pub type Chair = Seat<Option<LegalBook>, View>;
 
-/// What all seats share: the slot of the book, and four words by their place: 0 the front, 1 the next ticket, 2 the
-/// ticket that is served, 3 the count of calls.
+/// The shared part of the desk: the slot of the book, and four words by their place: 0 the front, 1 the next ticket, 2
+/// the ticket that is served, 3 the count of calls.
 pub type Board = Shared<Option<LegalBook>, View, Model, DeskRule>;
 
-/// Draws a ticket, and gives its number modulo 2^64.
+/// Draws a ticket. Returns its number modulo 2^64.
 pub fn draw_ticket(board: &Board, seat: &mut Chair) -> u64
     requires table { IsSeatOf board.now.table_id seat.old.table_id }
     requires rest { IsAtRest seat.old.me.0 }
@@ -148,7 +148,7 @@ pub fn draw_ticket(board: &Board, seat: &mut Chair) -> u64
     board.fetch_add::<Draw>(seat, 1, 1)
 }
 
-/// Looks whether it is the seat's turn.
+/// Checks whether it is the seat's turn.
 pub fn is_served(board: &Board, seat: &mut Chair, ticket: u64) -> bool
     requires table { IsSeatOf board.now.table_id seat.old.table_id }
     requires waits { IsWaiting seat.old.me.0 }
@@ -175,16 +175,16 @@ pub fn wait_turn<R: Wait>(rt: &R, board: &Board, seat: &mut Chair, ticket: u64)
     }
 }
 
-/// Counts a call, and gives its place in the journal.
+/// Counts a call. Returns its place in the journal.
 pub fn raise_count<E: AddedCall>(board: &Board, seat: &mut Chair, call: &Call) -> u64
-    // the seat has the turn, the journal has a free place for a call, and the one account is the caller's
+    // the seat has the turn, the journal has room for a call, and the seat's only account is the caller's
     requires table { IsSeatOf board.now.table_id seat.old.table_id }
     requires calls { E.calls ≡ call.now ∷ [] }
     requires turn { (seat.old.me.0.turn ≡ true) × (length (calls_of seat.old.me.0.seen) < MOST_CALLS) }
     requires account { (a : Account) × (seat.old.me.0.accounts ≡ a ∷ []) × (call.now.caller ≡ a.caller) }
-    // what is kept: the table of the seat
+    // the table of the seat is unchanged
     ensures table { seat.new.table_id ≡ seat.old.table_id }
-    // what it gives: the call's place in the journal, and what the seat sees with the call
+    // the result: the call's place in the journal, and the seat's view with the call
     ensures count { result ≡ length (calls_of seat.old.me.0.seen) }
     ensures call { (a : Account) → seat.old.me.0.accounts ≡ a ∷ []
         → seat.new.me ≡ (view_after_call seat.old.me.0 a call.now, seat.old.me.1) }
@@ -213,16 +213,16 @@ pub fn end_turn(board: &Board, seat: &mut Chair)
     board.fetch_add::<Leave>(seat, 2, 1);
 }
 
-/// Ends the turn of a caller that was answered Full.
+/// Ends the turn of a caller whose reply was Full.
 pub fn end_full_turn(board: &Board, seat: &mut Chair)
-    // the seat has the turn, and the book is back; the journal has all calls that it may have
+    // the seat has the turn, the book is back in the slot, and the journal is full
     requires table { IsSeatOf board.now.table_id seat.old.table_id }
     requires may_end { MayEndTurn seat.old.me }
     requires full { length (calls_of seat.old.me.0.seen) ≡ MOST_CALLS }
     requires account { HasOneAccount seat.old.me.0 }
-    // what is kept: the table of the seat
+    // the table of the seat is unchanged
     ensures table { seat.new.table_id ≡ seat.old.table_id }
-    // what it gives: a seat at rest, whose account was answered Full
+    // the result: a seat at rest, whose account is marked Full
     ensures rest { (a : Account) → seat.old.me.0.accounts ≡ a ∷ []
         → seat.new.me ≡ (
           record (view_with_turn seat.old.me.0 false 0 false seat.old.me.0.seen)
@@ -233,7 +233,7 @@ pub fn end_full_turn(board: &Board, seat: &mut Chair)
     board.fetch_add::<LeaveFull>(seat, 2, 1);
 }
 
-/// Loads the front. It waits for nobody.
+/// Loads the front. It never waits.
 pub fn look_at_front(board: &Board, seat: &mut Chair) -> u64
     requires table { IsSeatOf board.now.table_id seat.old.table_id }
     requires rest { IsAtRest seat.old.me.0 }

@@ -1,4 +1,4 @@
-//! Clones that are simulated alone: the worked examples of the definitions, run, and one of them resumed.
+//! Tests of clones that are simulated alone: the worked examples of the definitions, and one of them resumed.
 ghost use Rattle.std.specs.Prelude.{◌≡◌, ◌<◌, IfSome};
 ghost use Rattle.solo_run.specs.SoloView.{IsSolo};
 
@@ -20,7 +20,7 @@ use traces::{
     fast_trace, more_servers_trace, no_room_trace, one_desk_trace,
 };
 
-/// A clone without a decision, or with one, that stands before anything is handled.
+/// The base clone, with a decision or without, before anything is handled.
 fn begin_solo(alloc: Global, model: &Model, plan: Option<Planned>) -> Option<Solo>
     ensures { IfSome result (λ solo. IsSolo model.now solo) }
 {
@@ -46,7 +46,7 @@ fn holds(log: &Log, entries: &[Entry]) -> bool {
     walk.next().is_none()
 }
 
-/// Whether the run to the horizon, in two goes, comes to this trace.
+/// Whether the run to the horizon, in two parts, has this trace.
 fn comes_to<L: Ledger>(
     alloc: Global,
     text: &str,
@@ -78,7 +78,7 @@ fn plan(at: u64, station: u32, param: Param, a: u64, b: u64) -> Option<Planned> 
     })
 }
 
-/// The examples whose models are read as they stand.
+/// The examples whose models are used unchanged.
 fn whole_models<L: Ledger>(alloc: Global, steps: &mut Steps<L>) -> bool {
     let faster = plan(8, 2, Param::Service, 2, 2);
     comes_to(alloc, ONE_DESK, None, &one_desk_trace(), steps)
@@ -96,7 +96,7 @@ struct Changed<'a> {
     new: &'a str,
 }
 
-/// Whether the run of a changed model comes to this trace.
+/// Whether the run of a changed model has this trace.
 fn changed_comes_to<L: Ledger>(
     alloc: Global,
     changed: &Changed<'_>,
@@ -128,7 +128,7 @@ const BY_ARRIVAL: Changed<'static> = Changed {
     new: "",
 };
 
-/// Those whose models are others with one change.
+/// The examples whose models are others with one change.
 fn changed_models<L: Ledger>(alloc: Global, steps: &mut Steps<L>) -> bool {
     let more = plan(6, 4, Param::Servers, 3, 0);
     changed_comes_to(alloc, &BY_WEIGHTS, None, &by_weights_trace(), steps)
@@ -136,7 +136,7 @@ fn changed_models<L: Ledger>(alloc: Global, steps: &mut Steps<L>) -> bool {
         && changed_comes_to(alloc, &BY_ARRIVAL, None, &by_arrival_trace(), steps)
 }
 
-/// Whether the desk's log of the branch whose desk is faster has the five entries that the trace has of it.
+/// Whether the desk's log in the branch with the faster desk has its five entries of the trace.
 fn desk_log_is<L: Ledger>(alloc: Global, steps: &mut Steps<L>) -> Option<bool> {
     let model = read_model(alloc, ONE_DESK.as_bytes()).ok()?;
     let solo = begin_solo(alloc, &model, plan(8, 2, Param::Service, 2, 2))?;

@@ -19,12 +19,12 @@ fn begin_book(alloc: Global) -> Option<Book> {
     Book::begin(alloc, model).ok()
 }
 
-/// Raises the front, where it may be raised.
+/// Raises the front, if that is allowed.
 fn raise(book: &mut Book, front: u64) -> bool {
     front > book.front() && front <= book.model().horizon() && book.advance(front).is_ok()
 }
 
-/// Whether the book's front goes up to each of these in turn.
+/// Whether the book's front can be raised to each of these, one after the other.
 fn raise_all(book: &mut Book, fronts: &[u64]) -> bool {
     for front in fronts {
         if !raise(book, *front) {
@@ -34,7 +34,7 @@ fn raise_all(book: &mut Book, fronts: &[u64]) -> bool {
     true
 }
 
-/// The place of the first of these decisions that has another reply than the one beside it, or how many there are.
+/// The place of the first decision with another reply than its row has, or the number of rows.
 fn first_wrong(alloc: Global, book: &mut Book, rows: &[Row]) -> usize {
     for (i, (line, reply)) in rows.iter().enumerate() {
         let Some(decision) = decision(alloc, line) else {
@@ -47,7 +47,7 @@ fn first_wrong(alloc: Global, book: &mut Book, rows: &[Row]) -> usize {
     rows.len()
 }
 
-/// Whether so many fronts were there at each call.
+/// Whether the book has this number of calls, each after this number of fronts.
 fn have_fronts(book: &Book, fronts: u32, calls: usize) -> bool {
     for call in book.calls() {
         if call.fronts != fronts {
@@ -57,7 +57,7 @@ fn have_fronts(book: &Book, fronts: u32, calls: usize) -> bool {
     book.calls().len() == calls
 }
 
-/// A set at the front is accepted, and one right before it is late.
+/// A set at the front is accepted, and one just before it is late.
 const AT_TEN: &[Row] = &[
     ("fork fast from base", Reply::Accepted),
     ("set fast at 10 desk service 2 2", Reply::Accepted),
@@ -75,7 +75,7 @@ fn decisions_during_a_run(rt: HostRuntime) -> Result<(), Fail> {
     Ok(())
 }
 
-/// Whether a book at the horizon is closed to a decision and to what is asked.
+/// Whether a book at the horizon refuses a decision and a front.
 fn is_closed(book: &mut Book, decision: &Decision) -> bool {
     if book.decide(1, *decision) != Reply::Closed {
         return false;
@@ -96,14 +96,14 @@ fn digit(d: u32) -> u8 {
     b'0' + (d % 10) as u8
 }
 
-/// A fork of the base under a name of four bytes, another for each number below 1,000.
+/// A fork of the base with a name of four bytes, a different one for each number below 1,000.
 fn fork_of_number(n: u32) -> Option<Decision> {
     let new = Name::read(&[b'c', digit(n / 100), digit(n / 10), digit(n)])?;
     let old = Name::read(b"base")?;
     Some(Decision::Fork { new, old })
 }
 
-/// Forks the base so often.
+/// Forks the base this number of times.
 fn forks(book: &mut Book, count: u32) -> bool {
     for n in 0..count {
         let Some(fork) = fork_of_number(n) else {
@@ -116,7 +116,7 @@ fn forks(book: &mut Book, count: u32) -> bool {
     true
 }
 
-/// Decides the same so often, and answers whether each has this reply.
+/// Makes the same decision this number of times. Returns whether each has this reply.
 fn repeat(book: &mut Book, decision: &Decision, count: u32, reply: Reply) -> bool {
     for _ in 0..count {
         if book.decide(3, *decision) != reply {
@@ -143,8 +143,8 @@ fn crowd(alloc: Global, book: &mut Book) -> bool {
         && forks(book, 253)
 }
 
-/// Decisions for a crowded book at front 10. Each refusal comes first where the one after it in this table, or a
-/// later one, holds too: in the first six some name decides, and in the others all names are known.
+/// Decisions for a crowded book at front 10, by the first refusal that applies. Each also meets the condition of the
+/// next refusal in this table, or of a later one. In the first six a name decides; in the others all names are known.
 const REFUSED: &[Row] = &[
     ("set ghost at 9 nowhere service 0 0", Reply::UnknownClone),
     ("fork base from over", Reply::Ended { at: 12 }),
@@ -164,10 +164,10 @@ const REFUSED: &[Row] = &[
     ("end base at 9", Reply::Late { front: 10 }),
 ];
 
-/// The numbers of their replies.
+/// The numbers of those replies.
 const NUMBERS: &[u32] = &[3, 12, 12, 4, 5, 6, 7, 8, 9, 10, 10, 11, 11];
 
-/// Decisions that no refusal keeps out.
+/// Decisions that are accepted.
 const ACCEPTED: &[Row] = &[
     ("set late at 10 desk service 2 2", Reply::Accepted),
     ("set late at 19 desk service 2 2", Reply::Accepted),
@@ -184,7 +184,7 @@ fn have_numbers(rows: &[Row], numbers: &[u32]) -> bool {
     true
 }
 
-/// How many clones there are, and the number of decisions and the end of the first.
+/// The number of clones, and the number of decisions and the end of the first.
 fn first_clone(book: &Book) -> (u32, usize, Option<u64>) {
     let lists = book.lists();
     let count = lists.len();
@@ -206,7 +206,7 @@ fn refusals_in_their_order(rt: HostRuntime) -> Result<(), Fail> {
     Ok(())
 }
 
-/// Whether a book that is full has no place more.
+/// Whether a full book takes no further call.
 fn is_full(book: &mut Book, decision: &Decision) -> bool {
     book.decide(3, *decision) == Reply::Full
         && book.ask(3, decision) == (Reply::Full, None)
@@ -222,7 +222,7 @@ fn a_full_book(rt: HostRuntime) -> Result<(), Fail> {
     Ok(())
 }
 
-/// A decision that a book would accept finds no place behind 4,096 that it refused.
+/// After 4,096 refused decisions there is no room for one that the book would accept.
 #[test]
 fn a_book_full_of_refusals(rt: HostRuntime) -> Result<(), Fail> {
     let unknown = decision(rt.alloc(), "fork fresh from nobody").expect(&rt, "a decision");

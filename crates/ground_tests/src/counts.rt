@@ -1,4 +1,4 @@
-//! What tables of entries are written with: the counts of each kind of station, and a change as a message has it.
+//! Helpers for tables of entries: the counts of each kind of station, and a change as a message has it.
 
 use sim_base::{Change, Line, Param, Payload};
 

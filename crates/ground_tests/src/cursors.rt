@@ -1,4 +1,4 @@
-//! Merges of logs beside a sort.
+//! Tests that merge logs, compared with a sort.
 ghost use Rattle.std.specs.Prelude.{◌≡◌, ◌≤◌, length};
 
 use log_chain::Log;
@@ -84,7 +84,7 @@ fn log_of(alloc: Global, keys: &[(u64, u32, u64)], place: u32) -> Result<Log, No
     Ok(log)
 }
 
-/// Puts all of the logs into a cursor, where their keys fit words.
+/// Puts all of the logs into a cursor, if their keys fit 64 bits.
 fn fill<'a>(cursor: &mut Cursor<'a>, logs: &'a [Log]) -> bool
     requires places { length logs.now ≤ cursor.old.most }
     ensures most { cursor.new.most ≡ cursor.old.most }
@@ -99,7 +99,7 @@ fn fill<'a>(cursor: &mut Cursor<'a>, logs: &'a [Log]) -> bool
     true
 }
 
-/// Whether a cursor gives these keys next, each from the log at this place.
+/// Whether a cursor returns these keys next, each from the log at this place.
 fn gives(cursor: &mut Cursor<'_>, want: &[(Key, u32)]) -> bool
     ensures most { cursor.new.most ≡ cursor.old.most }
 {
@@ -125,7 +125,7 @@ fn add_keys(found: &mut Vec<(Key, u32)>, log: &Log) -> Result<(), NoMemory> {
     Ok(())
 }
 
-/// The keys of all logs by a sort, each with the place of its log.
+/// The sorted keys of all logs, each with the place of its log.
 fn sort_keys(alloc: Global, logs: &[Log]) -> Result<Vec<(Key, u32)>, NoMemory> {
     let mut found = Vec::new(alloc);
     for log in logs {
@@ -135,7 +135,7 @@ fn sort_keys(alloc: Global, logs: &[Log]) -> Result<Vec<(Key, u32)>, NoMemory> {
     Ok(found)
 }
 
-/// Whether a cursor that was left in the middle gives these keys from the beginning, and then ends.
+/// Whether a cursor that was stopped in the middle returns these keys from the beginning, and then ends.
 fn gives_again<'a>(cursor: &mut Cursor<'a>, logs: &'a [Log], want: &[(Key, u32)]) -> bool
     requires places { length logs.now ≤ cursor.old.most }
 {
@@ -147,7 +147,7 @@ fn gives_again<'a>(cursor: &mut Cursor<'a>, logs: &'a [Log], want: &[(Key, u32)]
         && cursor.next().is_none()
 }
 
-/// Whether a cursor gives what a sort does.
+/// Whether a cursor returns the sorted keys.
 fn merges(alloc: Global, logs: &[Log]) -> Result<bool, NoMemory> {
     if logs.len() > 64 {
         return Ok(false);
@@ -175,7 +175,7 @@ fn a_cursor_merges_as_a_sort_does(rt: HostRuntime) -> Result<(), Fail> {
     Ok(())
 }
 
-/// The log of a station of a pace of its own; each seventh entry is another's message.
+/// The log of a station with its own pace; each seventh entry is another station's message.
 fn paced_log(alloc: Global, place: u32, count: u64) -> Result<Log, NoMemory> {
     let mut log = Log::new(alloc);
     for number in 0..count {
@@ -194,7 +194,7 @@ fn paced_log(alloc: Global, place: u32, count: u64) -> Result<Log, NoMemory> {
     Ok(log)
 }
 
-/// Logs of many paces, the last of them with nothing to do.
+/// Logs of many paces; the last one is empty.
 fn sixty_four_logs(alloc: Global) -> Result<Vec<Log>, NoMemory> {
     let mut logs = Vec::new(alloc);
     for place in 0..64_u32 {

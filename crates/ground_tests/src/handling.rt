@@ -1,4 +1,4 @@
-//! Each kind of station answers each kind of message, and copies of a station stay apart.
+//! Tests that each kind of station handles each kind of message, and that copies of a station are independent.
 ghost use Rattle.std.specs.Prelude.{◌≡◌, ◌<◌, IfSome};
 ghost use Rattle.ground_tests.specs.States.{IsStateOf};
 
@@ -35,7 +35,7 @@ fn open_station(alloc: Global, model: &Model, station: u32) -> Option<State>
     }
 }
 
-/// Whether the station answers the row's message as the row says.
+/// Whether the station handles the row's message as the row says.
 fn answers_row<L: Ledger>(
     state: &mut State,
     model: &Model,
@@ -70,7 +70,7 @@ fn answers_row<L: Ledger>(
     line == row.line && out.len() == row.sends && arrives == row.arrives
 }
 
-/// Whether the station answers one message after the other as the rows say.
+/// Whether the station handles one message after the other as the rows say.
 fn answers<L: Ledger>(
     state: &mut State,
     model: &Model,
@@ -89,7 +89,7 @@ fn answers<L: Ledger>(
     true
 }
 
-/// Whether a station that has just opened answers as the rows say.
+/// Whether a new station handles the rows' messages as they say.
 fn begins<L: Ledger>(
     alloc: Global,
     model: &Model,
@@ -119,7 +119,7 @@ fn every_kind<L: Ledger>(alloc: Global, blank: Blank) -> bool
         && begins(alloc, &model, 5, &sink_rows(), &mut steps)
 }
 
-/// Whether a desk and its copy go on as the rows say, each by itself.
+/// Whether a desk and its copy continue as the rows say, independently.
 fn copy_goes_its_way<L: Ledger>(
     alloc: Global,
     model: &Model,

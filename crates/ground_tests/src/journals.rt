@@ -1,4 +1,4 @@
-//! The texts of journals, as people expect them.
+//! Tests of journal texts, against texts written by hand.
 ghost use Rattle.std.specs.Prelude.{◌≡◌, All, length, true};
 ghost use Rattle.decision_script.specs.Stating.{IsAnalyst};
 
@@ -44,7 +44,7 @@ fn name<R: Abort>(rt: &R, text: &str) -> Name {
     Name::read(text.as_bytes()).expect(rt, "a name")
 }
 
-/// A call at so many fronts with the decision of this line.
+/// A call after this number of fronts, with the decision of this line.
 fn call<R: Abort>(
     rt: &R,
     alloc: Global,
@@ -75,7 +75,7 @@ fn are_lookers(script: &Script, looks: &[Looked]) -> bool
     looks.iter().all(|l| 1 <= l.analyst && l.analyst <= many)
 }
 
-/// Whether the journal of these calls, fronts and looks is the expected text, with the analysts of this script.
+/// Whether the journal of these calls, fronts and looks has this text, with the analysts of this script.
 fn writes(
     alloc: Global,
     script: &[u8],
@@ -142,7 +142,7 @@ fn look_at<R: Abort>(
     }
 }
 
-/// What is seen of a clone that has handled 3 events, and of one that is not there, and at a station that is not.
+/// Looks at a clone that has handled 3 events, at a missing clone, and at a missing station.
 fn three_looks<R: Abort>(rt: &R) -> [Looked; 3] {
     let handled = Glance {
         front: 7,

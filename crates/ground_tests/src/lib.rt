@@ -1,7 +1,7 @@
-//! The tests of the crates that the engine stands on, and of the texts. The library is empty.
+//! The tests of the crates below the engine, and of the texts. The library is empty.
 //!
-//! A crate's tests are proved together with the crate, so a crate with tests is proved twice. Those of these crates
-//! stand here, where they are proved once, and so are their crates. Each module tests one crate by its public items:
+//! A crate's tests are proved together with the crate, so a crate with tests is proved twice. The tests of these crates
+//! are here, so both the tests and the crates are proved once. Each module tests one crate by its public items:
 //!
 //! ```text
 //! messages, pending, lists    sim_base          scripts    decision_script    routes      msg_route
@@ -11,13 +11,13 @@
 //! handling                    stations          sinks      sim_outer
 //! ```
 //!
-//! `counts` and `lines` test no crate: three modules write their tables with `counts`, two read their decisions with
-//! `lines`.
+//! `counts` and `lines` test no crate. Three modules write their tables with `counts`, and two read their decisions
+//! with `lines`.
 //!
-//! They show what no clause says: that calls find memory, and that clauses mean what they should, by values from
-//! outside. A table has a row for each case, and its test goes over the rows: the text or the decision first, and then
-//! the result, as the number, the place and the key of a refusal. So a row reads: *this change to the small model
-//! is refused so*.
+//! They show what is not proved: that calls find memory, and that contracts mean what they should, against values
+//! computed by hand. A table has a row for each case. A row has the text or the decision first, and then the result, as
+//! the number, the place and the key of a refusal. So a row reads: *this change to the small model is refused with this
+//! number*.
 #![tactic(auto)]
 
 #[cfg(test)]

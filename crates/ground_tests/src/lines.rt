@@ -1,4 +1,4 @@
-//! Decisions as a script has them, a line for each.
+//! Decisions in script syntax, one for each line.
 
 use decision_script::{Act, read_script};
 use sim_base::Decision;

@@ -1,4 +1,4 @@
-//! Decision lists that go separate ways after a fork.
+//! Tests of decision lists that diverge after a fork.
 
 use sim_base::{Change, Lists, MOST_CLONES, Name, Param, Planned};
 use std::alloc::Global;
@@ -22,12 +22,12 @@ fn name<R: Abort>(rt: &R, text: &[u8]) -> Name {
     Name::read(text).expect(rt, "a name")
 }
 
-/// Adds a decision to a clone's list, where the clone is there.
+/// Adds a decision to a clone's list, if the clone exists.
 fn add(lists: &mut Lists, c: u32, plan: Planned) -> bool {
     c < lists.len() && lists.add(c, plan).is_ok()
 }
 
-/// Gives a clone its end, where it is there and has none.
+/// Ends a clone, if it exists and has no end.
 fn end(lists: &mut Lists, c: u32, at: u64) -> bool {
     if c >= lists.len() || lists.end_of(c).is_some() {
         return false;
@@ -36,7 +36,7 @@ fn end(lists: &mut Lists, c: u32, at: u64) -> bool {
     true
 }
 
-/// Forks the base, where there is no clone of this name.
+/// Forks the base, if no clone has this name.
 fn fork(lists: &mut Lists, alloc: Global, new: Name) -> bool {
     match lists.find(&new) {
         Some(_) => false,
@@ -68,7 +68,7 @@ fn forks_go_separate_ways(rt: HostRuntime) -> Result<(), Fail> {
     Ok(())
 }
 
-/// Memory is reserved for two clones of one decision, and a second decision needs more.
+/// Memory is reserved for two clones with one decision, and a second decision needs more.
 #[test]
 fn copies_stay_as_they_were(rt: HostRuntime) -> Result<(), Fail> {
     let mut lists = Lists::with_room(rt.alloc(), 2, 1)?;

@@ -1,11 +1,11 @@
-//! Logs that grow apart: when the tail becomes a segment, and which entries are packed.
+//! Tests of logs that diverge: when the tail becomes a segment, and which entries are packed.
 
 use log_chain::Log;
 use sim_base::{Change, Entry, Job, Key, Line, Msg, NoMemory, Param, Payload};
 use std::alloc::Global;
 use std::test::Fail;
 
-/// The payloads and counts of each kind in turn.
+/// Each kind of payload and of counts, selected by a number.
 fn contents(number: u64) -> (Payload, Line) {
     let job = Job {
         source: 3,
@@ -57,7 +57,7 @@ fn entry(number: u64) -> Entry {
     }
 }
 
-/// Whether a walk from a place on gives so many entries as they were pushed, or all to the end.
+/// Whether a walk from a place on returns the next `count` entries in order, or all up to the end.
 fn walks_from(log: &Log, at: u64, count: u64) -> bool {
     let mut walk = log.walk_from(at);
     let mut number = at;
@@ -106,7 +106,7 @@ fn a_copied_log_grows_apart(rt: HostRuntime) -> Result<(), Fail> {
     Ok(())
 }
 
-/// Shares a log, and says whether both halves have the same segments, and few.
+/// Shares a log. Returns whether both halves have the same few segments.
 fn shares(log: &mut Log, alloc: Global) -> bool {
     match log.share(alloc) {
         Ok(other) => other.segments() == log.segments() && log.segments() <= 16,
@@ -114,12 +114,12 @@ fn shares(log: &mut Log, alloc: Global) -> bool {
     }
 }
 
-/// Pushes an entry, and shares the log behind each fortieth.
+/// Pushes an entry, and shares the log after each fortieth.
 fn grows(log: &mut Log, alloc: Global, number: u64) -> bool {
     log.push(entry(number)).is_ok() && (number % 40 != 39 || shares(log, alloc))
 }
 
-/// Whether a log grows so by 65,536 entries.
+/// Whether a log can grow by 65,536 entries in this way.
 fn grows_long(log: &mut Log, alloc: Global) -> bool {
     for number in 0..65_536 {
         if !grows(log, alloc, number) {
@@ -142,7 +142,7 @@ fn a_long_log_has_few_segments(rt: HostRuntime) {
     }
 }
 
-/// Whether a log grows by 20,000 entries, and is shared behind each.
+/// Whether a log can grow by 20,000 entries, and be shared after each.
 fn grows_shared(log: &mut Log, alloc: Global) -> bool {
     for number in 0..20_000 {
         if log.push(entry(number)).is_err() || !shares(log, alloc) {
@@ -202,7 +202,7 @@ fn greatest() -> Entry {
     }
 }
 
-/// That entry with another key, receiver, payload or line.
+/// The same entry with another key, receiver, payload or line.
 fn with_key(time: u64, sender: u32, number: u64) -> Entry {
     let entry = greatest();
     let key = Key {
@@ -242,7 +242,7 @@ fn with_line(line: Line) -> Entry {
     }
 }
 
-/// In each one number is too great for a packed entry.
+/// In each of these, one number is too great for a packed entry.
 fn too_great() -> [Entry; 7] {
     let weight = Payload::Set(Change {
         param: Param::Weight,
@@ -270,7 +270,7 @@ fn too_great() -> [Entry; 7] {
     ]
 }
 
-/// Whether a log of this entry alone is packed, or None where it is out of memory.
+/// Whether a log of only this entry is packed; None if out of memory.
 fn is_packed(alloc: Global, entry: Entry) -> Option<bool> {
     let mut log = Log::new(alloc);
     match log.push(entry) {
@@ -284,7 +284,7 @@ fn pushes_both(log: &mut Log, alloc: Global, other: Entry) -> bool {
     log.push(greatest()).is_ok() && log.push(other).is_ok() && log.share(alloc).is_ok()
 }
 
-/// Whether a log has just these entries, each behind a packed one.
+/// Whether a log has just these entries, each after a packed one.
 fn has_both(log: &Log, others: &[Entry]) -> bool {
     let mut walk = log.walk_from(0);
     for other in others {

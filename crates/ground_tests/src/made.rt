@@ -1,5 +1,5 @@
-//! Made studies: their texts are those that another program makes from the words of the format, and the models of many
-//! numbers are read. That each decision of the one script is accepted, whatever the number, is proved.
+//! Tests of generated studies: their texts equal those of another program that implements the format, and the models of
+//! many numbers are read. It is proved that each decision of the script is accepted, whatever the number.
 
 mod texts;
 

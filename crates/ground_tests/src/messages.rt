@@ -1,4 +1,4 @@
-//! Names that are read and refused, and the order of messages.
+//! Tests of names that are read or refused, and of the order of messages.
 
 use sim_base::message::compare;
 use sim_base::{Job, Key, Msg, Name, Payload};
@@ -43,7 +43,7 @@ fn other_texts_are_no_names(rt: HostRuntime) {
     }
 }
 
-/// Whether a message comes before another, by both orders of the two.
+/// Whether a message comes before another, compared both ways.
 fn comes_before(first: Msg, later: Msg) -> bool {
     compare(&first, &later) == Ordering::Less && compare(&later, &first) == Ordering::Greater
 }

@@ -1,4 +1,5 @@
-//! Models: which texts are read, how the others are refused, and how long the fullest and hostile texts take.
+//! Tests of models: which texts are read, how the others are refused, and the time for the fullest and for hostile
+//! texts.
 
 mod changes;
 mod texts;
@@ -25,7 +26,7 @@ fn is_refused(alloc: Global, text: &[u8], number: u32, place: u32, key: &str) ->
     fault.number() == number && fault.place() == place && named
 }
 
-/// Whether the changed text is refused as the change says.
+/// Whether the changed text is refused as its row says.
 fn is_refused_so(alloc: Global, text: &str, change: &Refused) -> bool {
     match text.replacen(alloc, change.old, change.new, 1) {
         Ok(changed) => is_refused(
@@ -102,7 +103,7 @@ fn link(to: u32, delay: u64, weight: u32) -> Link {
     Link { to, delay, weight }
 }
 
-/// Whether the numbers at the top are these.
+/// Whether the numbers at the top of the model are these.
 fn has_top(
     model: &Model,
     format: u32,
@@ -118,7 +119,7 @@ fn has_top(
         && model.limit() == limit
 }
 
-/// The small model, with what its text leaves out.
+/// Whether the text is read as the small model, with defaults for what it leaves out.
 fn is_small(alloc: Global, text: &str) -> bool {
     let Ok(model) = read_model(alloc, text.as_bytes()) else {
         return false;
@@ -232,7 +233,7 @@ fn full_text(alloc: Global, comment: u32) -> Result<Vec<u8>, AllocError> {
     Ok(text)
 }
 
-/// How many stations of sixteen links the text states, 0 where it is refused.
+/// The number of stations with sixteen links that the text states, 0 if it is refused.
 fn full_stations(alloc: Global, text: &[u8]) -> u32 {
     let Ok(model) = read_model(alloc, text) else {
         return 0;
@@ -257,7 +258,7 @@ fn the_fullest_model_is_read(rt: HostRuntime) -> Result<(), Fail> {
     Ok(())
 }
 
-/// Pushes a piece so many times.
+/// Pushes a piece this number of times.
 fn push_pieces(text: &mut Vec<u8>, piece: &[u8], times: u32) -> Result<(), AllocError> {
     for _ in 0..times {
         text.extend_from_slice(piece)?;
@@ -265,7 +266,7 @@ fn push_pieces(text: &mut Vec<u8>, piece: &[u8], times: u32) -> Result<(), Alloc
     Ok(())
 }
 
-/// A text of so many pieces behind a prefix.
+/// A text of a prefix and this number of pieces.
 fn repeat_piece(
     alloc: Global,
     prefix: &[u8],
@@ -277,7 +278,7 @@ fn repeat_piece(
     Ok(text)
 }
 
-/// So many keys, each with its number.
+/// This number of keys, each with its number.
 fn many_keys(alloc: Global, count: u32) -> Result<Vec<u8>, AllocError> {
     let mut text = Vec::new(alloc);
     for i in 0..count {
@@ -287,8 +288,8 @@ fn many_keys(alloc: Global, count: u32) -> Result<Vec<u8>, AllocError> {
     Ok(text)
 }
 
-/// Whether the text is refused soon with this number at the top, and names this key, or none. It takes a twentieth of a
-/// second. A host that pauses may need ten; a walk that is quadratic takes longer.
+/// Whether the text is refused within ten seconds, with this number at the top and this key, or none. It takes 50 ms; a
+/// host that pauses may need longer, and a quadratic algorithm needs more than ten seconds.
 fn is_refused_soon(rt: &HostRuntime, text: &[u8], number: u32, key: &str) -> Result<bool, Fail> {
     let start = Instant::now(rt)?;
     let is = is_refused(rt.alloc(), text, number, 0, key);

@@ -1,4 +1,4 @@
-//! Pending messages: their marks, a bound, and lists of many messages.
+//! Tests of pending messages: their marks, a bound, and long lists.
 ghost use Rattle.std.specs.Prelude.{bit_or, bit_and, ◌==◌, if◌then◌else◌, Option, Some, None};
 
 use crate::messages::message;
@@ -43,7 +43,7 @@ fn second() -> Msg {
     message(4, 1, 1)
 }
 
-/// These two, of which the first comes twice.
+/// These two messages; the first is put in twice.
 fn with_a_message_twice(alloc: Global) -> Result<Pending<Bits>, NoMemory> {
     let mut pending = Pending::new(alloc);
     pending.insert(second(), set(0b011))?;
@@ -52,7 +52,7 @@ fn with_a_message_twice(alloc: Global) -> Result<Pending<Bits>, NoMemory> {
     Ok(pending)
 }
 
-/// Whether the least message is this one with these marks; it is taken out.
+/// Whether the least message is this one with these marks; it is removed.
 fn takes(pending: &mut Pending<Bits>, msg: Msg, marks: u8) -> bool {
     pending.take_least() == Some((msg, set(marks)))
 }
@@ -68,7 +68,7 @@ fn equal_messages_join_marks(rt: HostRuntime) -> Result<(), Fail> {
     Ok(())
 }
 
-/// The second message is not for clone 2, which gets the first alone.
+/// The second message is not for clone 2, which gets only the first.
 #[test]
 fn marks_are_cut(rt: HostRuntime) -> Result<(), Fail> {
     let pending = with_a_message_twice(rt.alloc())?;
@@ -86,7 +86,7 @@ fn marks_are_spread(rt: HostRuntime) -> Result<(), Fail> {
     Ok(())
 }
 
-/// Whether just this message, or none, comes before a bound; it is taken out.
+/// Whether the only message before a bound is this one, or there is none; it is removed.
 fn takes_before(pending: &mut Pending<()>, bound: u64, want: Option<Msg>) -> bool {
     match pending.take_before(bound) {
         Some((msg, ())) => want == Some(msg),
@@ -128,7 +128,7 @@ fn puts_scrambled(pending: &mut Pending<Bits>) -> bool {
     true
 }
 
-/// Puts in each third of them once more, with another mark.
+/// Puts in each third of them again, with another mark.
 fn puts_each_third(pending: &mut Pending<Bits>) -> bool {
     for i in 0..20_000_u64 {
         if !puts(pending, i * 3, 0b10) {
@@ -138,7 +138,7 @@ fn puts_each_third(pending: &mut Pending<Bits>) -> bool {
     true
 }
 
-/// 60,000 messages, each third of them twice, are taken out in order of time, each once with the marks of both.
+/// 60,000 messages, each third of them twice, are removed in order of time, each once with the marks of both.
 #[test]
 fn sixty_thousand_messages_wait_in_one_list(rt: HostRuntime) {
     let mut pending = Pending::new(rt.alloc());
@@ -160,7 +160,7 @@ fn even_and_odd(alloc: Global) -> Result<Pending<Bits>, NoMemory> {
     Ok(all)
 }
 
-/// Whether just each second message is there, from this time on, with these marks; they are taken out.
+/// Whether the list has exactly each second message from this time on, with these marks; they are removed.
 fn takes_each_second(pending: &mut Pending<Bits>, from: u64, marks: u8) -> bool {
     for i in 0..500_u64 {
         if !takes(pending, message(from.wrapping_add(2 * i), 1, 0), marks) {
@@ -187,7 +187,7 @@ fn odd_are_left(alloc: Global, all: &Pending<Bits>) -> bool {
     }
 }
 
-/// The even ones of 1,000 messages go to a list of their own, and the odd ones stay.
+/// The even ones of 1,000 messages go to a separate list, and the odd ones stay.
 #[test]
 fn a_long_list_is_parted(rt: HostRuntime) -> Result<(), Fail> {
     let mut all = even_and_odd(rt.alloc())?;

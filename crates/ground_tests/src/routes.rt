@@ -1,4 +1,4 @@
-//! Messages that are joined, and what each receiver gets.
+//! Tests of messages that are joined, and of what each receiver gets.
 ghost use Rattle.std.specs.Prelude.{◌<◌};
 ghost use Rattle.sim_base.specs.declared.lists.TheConstants.{MOST_CLONES};
 
@@ -29,7 +29,7 @@ fn part(receiver: u32, set: CloneSet) -> Part {
     Part { receiver, set }
 }
 
-/// Whether just these of three receivers get a part of a message for these clones.
+/// Whether exactly these of three receivers get a part of a message for these clones.
 fn are_cut(alloc: Global, set: CloneSet, want: &[Part]) -> bool {
     let receivers = [CloneSet::one(0), pair(1, 3), CloneSet::one(4)];
     match cut(alloc, set, &receivers) {

@@ -1,4 +1,4 @@
-//! Scripts: which texts are read, where the others are refused, the canonical texts, and texts of the greatest length.
+//! Tests of scripts: which texts are read, where the others are refused, the canonical texts, and the longest texts.
 
 mod texts;
 
@@ -8,7 +8,7 @@ use std::alloc::{AllocError, Global};
 use std::test::Fail;
 use texts::{FAULTS, OWN_SCRIPTS, Own, READ, Refused};
 
-/// The number and the line of the fault, or 0 and 0 where the text is read.
+/// The number and the line of the fault, or 0 and 0 if the text is read.
 fn fault_of(alloc: Global, text: &[u8]) -> (u32, u32) {
     match read_script(alloc, text) {
         Ok(_) => (0, 0),
@@ -37,7 +37,7 @@ fn lines_are_read_to_their_ends(rt: HostRuntime) {
     }
 }
 
-/// So many lines of this text.
+/// This number of copies of a line.
 fn lines(alloc: Global, line: &str, count: u32) -> Result<Vec<u8>, AllocError> {
     let mut text = Vec::new(alloc);
     for _ in 0..count {
@@ -55,7 +55,7 @@ fn long_texts_are_refused(rt: HostRuntime) -> Result<(), Fail> {
     Ok(())
 }
 
-/// What stands in the 4,097th line, behind as many items as there may be, and its fault and line.
+/// Texts in the 4,097th line, after the maximum number of items, and the fault and its line.
 const LAST_LINES: &[(&str, (u32, u32))] = &[
     ("analyst ben", (0, 0)),
     ("look base desk", (5, 4_097)),
@@ -73,7 +73,7 @@ fn the_4097th_line_is_tested_before_it_is_too_many(rt: HostRuntime) -> Result<()
     Ok(())
 }
 
-/// The script of a text, or of one clone of it where there is a name.
+/// The script of a text, or the own script of one clone if there is a name.
 fn own_script(alloc: Global, own: &Own) -> Option<Script> {
     let script = read_script(alloc, own.text.as_bytes()).ok()?;
     match Name::read(own.who.as_bytes()) {
@@ -89,7 +89,7 @@ fn is_printed(alloc: Global, script: &Script, canonical: &str) -> bool {
     }
 }
 
-/// Whether the items stand in these lines, each of this analyst.
+/// Whether the items are in these lines, each of this analyst.
 fn has_places(script: &Script, places: &[(u32, u32)]) -> bool {
     let mut i = 0;
     for place in places {
@@ -120,7 +120,7 @@ fn own_scripts_are_printed(rt: HostRuntime) {
     }
 }
 
-/// The canonical text of a text of so many items.
+/// The canonical text of a text with this number of items.
 fn read_and_print(alloc: Global, text: &[u8], items: u32) -> Option<Vec<u8>> {
     let script = read_script(alloc, text).ok()?;
     if script.len() != items {
@@ -129,7 +129,7 @@ fn read_and_print(alloc: Global, text: &[u8], items: u32) -> Option<Vec<u8>> {
     print_script(alloc, &script).ok()
 }
 
-/// Whether the canonical text of a text of so many items is that of itself.
+/// Whether the canonical text of a text with this number of items is its own canonical text.
 fn is_read_again(alloc: Global, text: &[u8], items: u32) -> bool {
     let Some(once) = read_and_print(alloc, text, items) else {
         return false;

@@ -1,4 +1,4 @@
-//! Sets of clones at the edges of their words.
+//! Tests of clone sets at word boundaries.
 
 use clone_sets::CloneSet;
 use sim_base::Marks;
@@ -15,7 +15,7 @@ fn set_of(clones: &[u32]) -> CloneSet {
     set
 }
 
-/// Whether a set has just these clones, in this order.
+/// Whether a set has exactly these clones, in this order.
 fn has_just(set: CloneSet, clones: &[u32]) -> bool {
     let mut members = set.iter();
     for c in clones {

@@ -1,4 +1,4 @@
-//! Inputs that are fetched and sinks that take bytes: those in memory, and the real files and streams.
+//! Tests of inputs and sinks: those in memory, and the real files and streams.
 
 use sim_base::NoMemory;
 use sim_outer::{
@@ -23,7 +23,7 @@ fn three_files(alloc: Global) -> Result<MemInputs, NoMemory> {
     MemInputs::new(alloc, files, Vec::from_slice(alloc, &[3u32])?)
 }
 
-/// Whether a fetch gives these bytes.
+/// Whether a fetch returns these bytes.
 fn gives<I: Inputs>(inputs: &mut I, alloc: Global, name: &str, bytes: &[u8]) -> bool {
     match inputs.fetch(alloc, name) {
         Ok(found) => found.as_slice() == bytes,
@@ -31,7 +31,7 @@ fn gives<I: Inputs>(inputs: &mut I, alloc: Global, name: &str, bytes: &[u8]) -> 
     }
 }
 
-/// Whether a fetch fails, and not since memory is refused.
+/// Whether a fetch fails, for a reason other than out of memory.
 fn fails<I: Inputs>(inputs: &mut I, alloc: Global, name: &str) -> bool {
     match inputs.fetch(alloc, name) {
         Ok(_) => false,
@@ -53,7 +53,7 @@ fn files_are_fetched_by_name(rt: HostRuntime) -> Result<(), Fail> {
     Ok(())
 }
 
-/// A sink of so many bytes, of which the second call fails after so many.
+/// A sink of this capacity, whose second call fails after this number of bytes.
 fn failing_sink(alloc: Global, capacity: usize, takes: usize) -> Result<MemSink, NoMemory> {
     MemSink::new(alloc, capacity, Vec::from_slice(alloc, &[(2u32, takes)])?)
 }
@@ -96,7 +96,7 @@ fn parts_and_the_rest_are_one_call(rt: HostRuntime) -> Result<(), Fail> {
     Ok(())
 }
 
-/// So many bytes, of which no two runs side by side are equal.
+/// A file of this size, in which no two adjacent runs of bytes are equal.
 fn long_file(alloc: Global, size: usize) -> Result<Vec<u8>, NoMemory> {
     let mut bytes = Vec::with_capacity(alloc, size)?;
     for i in 0..size {
@@ -105,7 +105,7 @@ fn long_file(alloc: Global, size: usize) -> Result<Vec<u8>, NoMemory> {
     Ok(bytes)
 }
 
-/// Whether they are those of a long file from its beginning.
+/// Whether these are the first bytes of a long file.
 fn begin_long_file(bytes: &[u8]) -> bool {
     for (i, byte) in bytes.iter().enumerate() {
         if usize::from(*byte) != i % 251 {
@@ -115,14 +115,14 @@ fn begin_long_file(bytes: &[u8]) -> bool {
     true
 }
 
-/// A path of this process alone.
+/// A path that only this process uses.
 fn path_of_own(rt: &HostRuntime, name: &str) -> Result<PathBuf, Fail> {
     let alloc = rt.alloc();
     let name = format!(in alloc; "{name}_{}", process::id(rt.process()))?;
     Ok(env::temp_dir(rt)?.join(alloc, name.as_str())?)
 }
 
-/// Whether the real file of a path is these bytes.
+/// Whether the real file at a path has these bytes.
 fn reads(rt: &HostRuntime, path: &PathBuf, bytes: &[u8]) -> bool {
     gives(&mut FileInputs::new(rt), rt.alloc(), path.as_str(), bytes)
 }
@@ -142,7 +142,7 @@ fn real_files_are_read(rt: HostRuntime) -> Result<(), Fail> {
     Ok(())
 }
 
-/// Whether just the first bytes of a long file are fetched.
+/// Whether exactly the first bytes of a long file are fetched.
 fn is_read_cut(rt: &HostRuntime, path: &PathBuf) -> bool {
     match FileInputs::new(rt).fetch(rt.alloc(), path.as_str()) {
         Ok(bytes) => bytes.len() == MOST_FETCHED && begin_long_file(bytes.as_slice()),

@@ -1,4 +1,4 @@
-//! The texts of traces and reports, as people expect them.
+//! Tests of trace and report texts, against texts written by hand.
 ghost use Rattle.std.specs.Prelude.{◌≡◌};
 ghost use Rattle.trace_report.specs.ReportText.{HaveSmallSums};
 
@@ -9,7 +9,7 @@ use sim_base::{Entry, Figures, Job, Key, Line, Msg, Name, Param, Payload};
 use std::alloc::Global;
 use trace_report::{Names, line_len, report_text, trace_text, write_line};
 
-/// A model of format 2 with a class, whose stations have names of the longest kind, 16 bytes.
+/// A model of format 2 with a class, whose stations have the longest possible names, 16 bytes.
 const LONGEST_NAMES: &str = r#"format = 2
 lookahead = 2
 horizon = 20
@@ -33,7 +33,7 @@ name = "out"
 kind = "sink"
 "#;
 
-/// At 5 the station 2 handles a message of the sender, the sender's seventh.
+/// An entry: at 5 station 2 handles the sender's seventh message.
 fn entry(sender: u32, payload: Payload, line: Line) -> Entry {
     Entry {
         msg: Msg {
@@ -226,7 +226,7 @@ fn each_kind_of_line_holds_the_greatest_numbers(rt: HostRuntime) {
     assert!(rt; writes(rt.alloc(), ONE_DESK, &entries, expected));
 }
 
-/// Whether the line of an entry, written behind three bytes, is the expected one, and as long as is said before.
+/// Whether the line of an entry, written after three bytes, is the expected one, with the length computed before.
 fn writes_behind_three(alloc: Global, entry: &Entry, expected: &str) -> bool {
     let Ok(model) = read_model(alloc, ONE_DESK.as_bytes()) else {
         return false;

@@ -1,4 +1,4 @@
--- The lines of a journal's text, and those that are no comments.
+-- The lines of a journal's text, and those that are not comments.
 use Rattle.std.proofs.Common.{◌≡◌, ◌⊎◌, inl, inr, ⊎_elim, ℕ, Bool, true, not, List, [], ◌∷◌, ◌++◌, map}
 use Rattle.std.proofs.Common.{filter, refl, sym, ap, ◌∙◌, subst, arith, append_assoc, append-nil, codes, decimal}
 use Rattle.std.specs.List.{AllByRecursion, flat_map, join_with_byte, list_all, slice_split}
@@ -32,7 +32,7 @@ abbrev IsPrinted : List ℕ → Type 0
 IsPrinted l = list_all is_printed l ≡ true
 
 -- ---- slice_split
--- lines that are written one after the other are these lines, and an empty part behind the last
+-- splitting joined lines returns these lines, and an empty part after the last
 split-lines : (ls : List (List ℕ)) → AllByRecursion IsPrinted ls
     → slice_split is_newline (flat_map end_line ls) ≡ ls ++ ([] ∷ [])
 split-lines [] h = refl
@@ -42,7 +42,7 @@ split-lines (l ∷ ls) h =
     ∙ ap (λ rest. l ∷ rest) (split-lines ls h.1)
 
 -- ---- join_with_byte
--- such lines and that part, joined by line feeds, are the lines with a line feed each
+-- these lines and that part, joined by line feeds, are the lines with a line feed each
 join-lines : (ls : List (List ℕ)) → join_with_byte 10 (ls ++ ([] ∷ [])) ≡ flat_map end_line ls
 join-lines [] = refl
 join-lines (l ∷ []) = sym (append-nil (l ++ 10 ∷ []))
@@ -50,7 +50,7 @@ join-lines (l ∷ m ∷ ls) = ap (λ rest. l ++ (10 ∷ rest)) (join-lines (m �
     ∙ sym (append_assoc l (10 ∷ []) (flat_map end_line (m ∷ ls)))
 
 -- ---- the lines of events
--- the lines of an event: a front's, or who asked and the call
+-- the lines of an event: a front's, or the analyst's section and the call
 abbrev event_lines : List (List ℕ) → Event → List (List ℕ)
 event_lines analysts (NewFront front) = (codes "# front " ++ decimal front) ∷ []
 event_lines analysts (NewCall call) =
@@ -69,52 +69,52 @@ events_text-lines analysts (NewCall c ∷ es) =
     ∙ append_assoc head (call ++ 10 ∷ []) (events_text analysts es)
     ∙ ap (λ rest. head ++ ((call ++ 10 ∷ []) ++ rest)) (events_text-lines analysts es)
 
--- ---- what is a comment, and what is said
--- a line that is no comment
+-- ---- comments and other lines
+-- a line that is not a comment
 abbrev is_said : List ℕ → Bool
 is_said line = not (begins_comment line)
 
--- a refusal is written as a comment, and takes no call into the script
+-- a refusal is written as a comment, and adds no call to the script
 pub record IsRefused (r : Reply) : Type 0 where
   pub line : (d : Decision) → call_line r d ≡ codes "# refused " ++ refusal_text r ++ codes ": " ++ decision_text d
   pub taken : (c : Call) (cs : List Call) → accepted_onto r c cs ≡ cs
 
--- each reply is Accepted, or is such a one
+-- each reply is Accepted, or a refusal
 pub accepted_or_refused : (r : Reply) → (r ≡ Accepted) ⊎ IsRefused r
 accepted_or_refused Accepted = inl refl
 accepted_or_refused r = inr (record { line = λ d. refl; taken = λ c cs. refl })
 
--- the words of the lines that are said, of a call with this reply
+-- the words of the lines without comments, for a call with this reply
 abbrev pub said_onto : Reply → Decision → List (List (List ℕ)) → List (List (List ℕ))
 said_onto Accepted d lines = words_of_decision d ∷ lines
 said_onto refusal d lines = lines
 
--- the words of the lines that events say: a section for each call, and its decision if it was accepted
+-- the words of the lines without comments, for events: a section for each call, and its decision if it was accepted
 abbrev pub said_lines : List (List ℕ) → List Event → List (List (List ℕ))
 said_lines analysts [] = []
 said_lines analysts (NewFront front ∷ es) = said_lines analysts es
 said_lines analysts (NewCall c ∷ es) = words_of_section (analyst_name analysts c.caller) ∷ said_onto c.reply c.decision
     (said_lines analysts es)
 
--- a call that was refused says no line of a decision
+-- a refused call has no line for its decision
 pub said_onto-refused : (r : Reply) → IsRefused r → (d : Decision) (lines : List (List (List ℕ)))
     → said_onto r d lines ≡ lines
 said_onto-refused Accepted h d lines =
     absurd (let e = h.taken (record { caller = 0; fronts = 0; decision = d; reply = Accepted }) [] in cc)
 said_onto-refused r h d lines = refl
 
--- a decision is no comment
+-- the line of a decision is not a comment
 filter-decision_text : (d : Decision) (rest : List (List ℕ))
     → filter is_said (decision_text d ∷ rest) ≡ decision_text d ∷ filter is_said rest
 filter-decision_text (Fork new old) rest = refl
 filter-decision_text (Set who at station change) rest = refl
 filter-decision_text (End who at) rest = refl
 
--- lines of these words, and an empty part behind the last
+-- lines of these words, and an empty part after the last
 abbrev pub joined : List (List (List ℕ)) → List (List ℕ)
 joined ls = map (join_with_byte 32) ls ++ ([] ∷ [])
 
--- the line of a call, and lines behind it
+-- the line of a call, and the lines after it
 filter-call_line : (r : Reply) (d : Decision) (rest : List (List ℕ)) (said : List (List (List ℕ)))
     → filter is_said rest ≡ joined said
     → filter is_said (call_line r d ∷ rest) ≡ joined (said_onto r d said)
@@ -126,7 +126,7 @@ filter-call_line r d rest said same =
     ∙ ap joined (sym (said_onto-refused r h d said)))
     (accepted_or_refused r)
 
--- the lines of events that are no comments
+-- the lines of events that are not comments
 filter-event_lines : (analysts : List (List ℕ)) (es : List Event)
     → filter is_said (flat_map (event_lines analysts) es ++ ([] ∷ [])) ≡ joined (said_lines analysts es)
 filter-event_lines analysts [] = refl
@@ -137,15 +137,15 @@ filter-event_lines analysts (NewCall c ∷ es) =
     (filter-event_lines analysts es))
 
 -- ---- IsPrinted
--- of two printed texts, one behind the other
+-- two printed texts together
 IsPrinted-append : (xs ys : List ℕ) → IsPrinted xs → IsPrinted ys → IsPrinted (xs ++ ys)
 IsPrinted-append xs ys h k = list_all-append is_printed xs ys ∙ rw (h, k) refl
 
--- of a number
+-- a number
 IsPrinted-decimal : (n : ℕ) → Fits32 n → IsPrinted (decimal n)
 IsPrinted-decimal n h = printed_join (decimal n ∷ []) (decimal_is_word n (omega (arith, h)), tt)
 
--- of a decision
+-- a decision
 IsPrinted-decision_text : (d : Decision) → IsDecision d → IsPrinted (decision_text d)
 IsPrinted-decision_text d h = printed_join (words_of_decision d) (act_words (Decide d) h)
 
@@ -154,7 +154,7 @@ abbrev pub HasSmallFront : Reply → Type 0
 HasSmallFront (Late front) = Fits32 front
 HasSmallFront reply = Unit {0}
 
--- of a refusal
+-- a refusal
 IsPrinted-refusal_text : (r : Reply) → HasSmallFront r → IsPrinted (refusal_text r)
 IsPrinted-refusal_text Accepted h = IsPrinted-decimal 0 (omega arith)
 IsPrinted-refusal_text Full h = IsPrinted-decimal 1 (omega arith)
@@ -173,7 +173,7 @@ IsPrinted-refusal_text (Late front) h =
     (IsPrinted-decimal front h)
 IsPrinted-refusal_text (Ended at) h = IsPrinted-decimal 12 (omega arith)
 
--- of the line of a call
+-- the line of a call
 IsPrinted-call_line : (r : Reply) (d : Decision) → HasSmallFront r → IsDecision d → IsPrinted (call_line r d)
 IsPrinted-call_line r d small h =
     ⊎_elim
@@ -185,7 +185,7 @@ IsPrinted-call_line r d small h =
     (IsPrinted-decision_text d h)))
     (accepted_or_refused r)
 
--- an event whose lines can be written in one piece each
+-- an event whose lines are printed
 abbrev pub IsWritable : List (List ℕ) → Event → Type 0
 IsWritable analysts (NewFront front) = Fits32 front
 IsWritable analysts (NewCall c) = IsName (analyst_name analysts c.caller)
@@ -213,7 +213,7 @@ flat_map-end_line [] = refl
 flat_map-end_line (l ∷ ls) = ap (λ rest. line_text l ++ rest) (flat_map-end_line ls)
 
 -- ---- without_comments
--- what is left of events without comments are the lines that they say
+-- the text of events without comments has exactly those lines
 pub without_comments-events_text : (analysts : List (List ℕ)) (es : List Event)
     → AllByRecursion (IsWritable analysts) es
     → without_comments (events_text analysts es) ≡ flat_map line_text (said_lines analysts es)

@@ -1,4 +1,4 @@
--- The lines of a journal that are no comments are read as the accepted decisions.
+-- The lines of a journal that are not comments are read as the accepted decisions.
 use Rattle.std.proofs.Common.{◌≡◌, ⊎_elim, ℕ, ◌+◌, ◌<◌, ◌≤◌, List, [], ◌∷◌, ◌++◌, length}
 use Rattle.std.proofs.Common.{map, Result, Ok, refl, sym, ap, ap₂, ◌∙◌, subst, arith, append_assoc, append-nil}
 use Rattle.std.specs.List.{AllByRecursion, join_with_byte}
@@ -25,7 +25,7 @@ use Rattle.journal_text.proofs.Lines.{IsRefused, accepted_or_refused, said_onto,
 use Rattle.journal_text.proofs.Sections.{IsInForce, missing, analyst_name-append, section_read}
 
 -- ---- after_lines
--- the result of reading: analysts and items behind those of before, the items being these calls
+-- the result of reading: the analysts and items before, followed by those of these calls
 pub record ReadOn (analysts : List (List ℕ)) (r : ReaderView) (given : Result ReaderView ScriptFault)
     (calls : List Call) : Type 0 where
   pub after : ReaderView
@@ -36,7 +36,7 @@ pub record ReadOn (analysts : List (List ℕ)) (r : ReaderView) (given : Result 
   pub items_are : after.items ≡ r.items ++ new
   pub said : map (who_does after.analysts) new ≡ map (who_decided analysts) calls
 
--- behind a section
+-- after a section
 ReadOn-section : (analysts : List (List ℕ)) (line : ℕ) (r : ReaderView) (name l : List ℕ) (rest : List (List ℕ))
     (calls : List Call) → (s : IsInForce analysts r name (after_line line r l))
     → ReadOn analysts s.next (after_lines (line + 1) s.next rest) calls
@@ -55,7 +55,7 @@ ReadOn-section analysts line r name l rest calls s m = record {
 abbrev with_item : ℕ → ReaderView → Act → ReaderView
 with_item line r act = record r { items = r.items ++ (record { line = line; analyst = r.current; act = act }) ∷ [] }
 
--- behind a decision
+-- after a decision
 ReadOn-decision : (analysts : List (List ℕ)) (line : ℕ) (r : ReaderView) (c : Call) (rest : List (List ℕ))
     (calls : List Call) → IsDecision c.decision → length r.items < MOST_ITEMS
     → IsAnalyst (length r.analysts) r.current → analyst_name r.analysts r.current ≡ analyst_name analysts c.caller
@@ -129,7 +129,7 @@ events_read analysts line r (NewCall c ∷ es) most fits h few =
     (sym (e.taken c (accepted_of (calls_of es)))) more))
     (accepted_or_refused c.reply))
 
--- the words of these lines are words
+-- the words of these lines are valid words
 pub said_words : (analysts : List (List ℕ)) (es : List Event) → AllByRecursion (IsCallBy analysts) (calls_of es)
     → AllByRecursion (AllByRecursion IsWord) (said_lines analysts es)
 said_words analysts [] h = tt
@@ -148,24 +148,24 @@ said_words analysts (NewCall c ∷ es) h = (
 )
 
 -- ---- decisions
--- the decisions of items or calls, by who asked for what
+-- the decisions of items or calls, from their analysts and acts
 abbrev decisions_said : List (List ℕ × Act) → List Decision
 decisions_said [] = []
 decisions_said (p ∷ ps) = decisions_onto p.1 (decisions_said ps)
 
--- those of items
+-- the decisions of items
 decisions-who_does : (analysts : List (List ℕ)) (items : List Item)
     → decisions items ≡ decisions_said (map (who_does analysts) items)
 decisions-who_does analysts [] = refl
 decisions-who_does analysts (i ∷ items) = ap (decisions_onto i.act) (decisions-who_does analysts items)
 
--- those of calls
+-- the decisions of calls
 decisions_said-who_decided : (analysts : List (List ℕ)) (cs : List Call)
     → decisions_said (map (who_decided analysts) cs) ≡ map (λ c. c.decision) cs
 decisions_said-who_decided analysts [] = refl
 decisions_said-who_decided analysts (c ∷ cs) = ap (λ ds. c.decision ∷ ds) (decisions_said-who_decided analysts cs)
 
--- items that are these calls have their decisions
+-- items with the same acts as these calls have their decisions
 pub same_decisions : (names analysts : List (List ℕ)) (items : List Item) (cs : List Call)
     → map (who_does names) items ≡ map (who_decided analysts) cs → decisions items ≡ map (λ c. c.decision) cs
 same_decisions names analysts items cs h =

@@ -39,7 +39,7 @@ calls_by analysts (c ∷ cs) known h = (
   calls_by analysts cs known h.1,
 )
 
--- the lines of such calls, with small fronts, can be written in one piece each
+-- the lines of such calls, with small fronts, are printed
 writable : (analysts : List (List ℕ)) (es : List Event) → AllByRecursion (IsCallBy analysts) (calls_of es)
     → AllByRecursion HasSmallFronts es → AllByRecursion (IsWritable analysts) es
 writable analysts [] h small = tt
@@ -47,7 +47,7 @@ writable analysts (NewFront f ∷ es) h small = (small.0, writable analysts es h
 writable analysts (NewCall c ∷ es) h small = ((h.0.named, h.0.decision, small.0), writable analysts es h.1 small.1)
 
 -- ---- IsScriptOf
--- with main first
+-- if main is the first analyst
 IsScriptOf-main : (net : Net) (more : List (List ℕ)) (es : List Event) → AreKnown (codes "main" ∷ more)
     → length (codes "main" ∷ more) ≤ MOST_ANALYSTS → IsRight net es → 0 < net.horizon → Fits32 net.horizon
     → AllByRecursion (IsCallOf (length (codes "main" ∷ more))) (calls_of es) → IsScriptOf net (codes "main" ∷ more) es
@@ -76,7 +76,7 @@ IsScriptOf-main net more es known most right some_time small h =
       clones = ap (lists_of net) ds ∙ law.lists;
     }
 
--- whichever is first
+-- for any first analyst
 IsScriptOf-first : (net : Net) (analysts : List (List ℕ)) (es : List Event) → slice_get analysts 0 ≡ Some (codes "main")
     → AreKnown analysts → length analysts ≤ MOST_ANALYSTS → IsRight net es → 0 < net.horizon → Fits32 net.horizon
     → AllByRecursion (IsCallOf (length analysts)) (calls_of es) → IsScriptOf net analysts es

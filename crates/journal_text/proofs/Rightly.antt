@@ -1,4 +1,4 @@
--- The calls of a right journal are few, and its fronts are at most the horizon.
+-- A right journal has few calls, and its fronts are at most the horizon.
 use Rattle.std.proofs.Common.{◌≡◌, ℕ, ◌+◌, ◌≤◌, ◌==◌, nat_le}
 use Rattle.std.proofs.Common.{List, [], ◌∷◌, ◌++◌, length, refl, sym, ap, ◌∙◌, subst, arith}
 use Rattle.std.specs.List.{AllByRecursion}
@@ -36,17 +36,17 @@ few_calls_from net before (NewCall c ∷ es) right few =
     below : (n : ℕ) → (MOST_CALLS ≤ n → ⊥) → n + 1 ≤ MOST_CALLS
     below n h = grind (arith, h)
 
--- a right journal has at most as many calls as a journal may
+-- a right journal has at most the maximum number of calls
 pub few_calls : (net : Net) (es : List Event) → IsRight net es → length (calls_of es) ≤ MOST_CALLS
 few_calls net es right = omega (arith, few_calls_from net [] es right (omega arith))
 
 -- ---- Late
--- a reply is not Late, or tells this front
+-- a reply is not Late, or has this front
 abbrev IsLateOf : ℕ → Reply → Type 0
 IsLateOf front (Late f) = f ≡ front
 IsLateOf front r = Unit {0}
 
--- of the rows of a clone, only the last may be Late, and tells the front
+-- of the rows of a clone, only the last may be Late, and then with this front
 late_rows : (front : ℕ) → OfClone (IsLateOf front) front
 late_rows front = record {
   unknown_clone = tt;
@@ -61,7 +61,7 @@ late_rows front = record {
   late = refl;
 }
 
--- a reply that is Late tells the front
+-- a Late reply has the current front
 reply_late : (s : Situation) (d : Decision) → IsLateOf s.front (reply s d)
 reply_late s d =
     first_row-each (IsLateOf s.front) (row (nat_le MOST_CALLS s.calls) Full ∷ row (s.front == s.net.horizon) Closed
@@ -73,7 +73,7 @@ reply_late s d =
       ),
     )
 
--- so its front fits 32 bits where that front does
+-- the front of a Late reply fits 32 bits if the current front does
 small_late : (front : ℕ) (r : Reply) → Fits32 front → IsLateOf front r → HasSmallFront r
 small_late front (Late f) small h = subst Fits32 (sym h) small
 small_late front r small h = tt
@@ -84,7 +84,7 @@ abbrev pub HasSmallFronts : Event → Type 0
 HasSmallFronts (NewFront f) = Fits32 f
 HasSmallFronts (NewCall c) = HasSmallFront c.reply
 
--- the fronts of events behind others
+-- the fronts of events that follow others
 small_from : (net : Net) (before es : List Event) (s : Situation) → after net before ≡ s → s.front ≤ net.horizon
     → Fits32 net.horizon → EachAfter (MayFollow net) before es → AllByRecursion HasSmallFronts es
 small_from net before [] s is low small right = tt
@@ -106,7 +106,7 @@ small_from net before (NewCall c ∷ es) s is low small right =
       small_from net (before ++ NewCall c ∷ []) es (after_event s (NewCall c)) next low small right.1,
     )
 
--- in a right journal of a network whose horizon fits 32 bits, so do the fronts of each event
+-- if the horizon of a network fits 32 bits, so do the fronts of each event in a right journal
 pub small_fronts : (net : Net) (es : List Event) → IsRight net es → Fits32 net.horizon
     → AllByRecursion HasSmallFronts es
 small_fronts net es right small = small_from net [] es (outset net) refl (omega arith) small right

@@ -1,4 +1,4 @@
--- The names of analysts while sections are read: each is known by then, or is the next.
+-- The names of analysts while sections are read: each is either known already, or the next.
 use Rattle.std.proofs.Common.{◌≡◌, ℕ, ◌+◌, ◌-◌, ◌<◌, ◌≤◌, ◌||◌, Bool, true, false, cond}
 use Rattle.std.proofs.Common.{nat_lt, zero, suc, List, [], ◌∷◌, ◌++◌, length, get_or, Option, Some}
 use Rattle.std.proofs.Common.{None, Result, Ok, refl, sym, ap, ◌∙◌, arith, length-append, append-nil}
@@ -21,20 +21,20 @@ use Rattle.decision_script.proofs.ItemsReadAgain.{after_section}
 use Rattle.decision_book.proofs.ClonesByName.{name_itself}
 
 -- ---- missing
--- the name is one of these
+-- the name is one of these names
 abbrev is_among : List ℕ → List (List ℕ) → Bool
 is_among name names = list_any (λ other. bytes_eq other name) names
 
--- 1 where it is not there
+-- 1 if the name is not there, and otherwise 0
 abbrev lack : Bool → ℕ
 lack there = cond there 0 1
 
--- how many of the analysts have no section yet, where these have
+-- the number of analysts without a section, if these have one
 abbrev pub missing : List (List ℕ) → List (List ℕ) → ℕ
 missing names [] = 0
 missing names (a ∷ more) = lack (is_among a names) + missing names more
 
--- there are no more analysts without a section than analysts
+-- it is at most the number of analysts
 few_missing : (names analysts : List (List ℕ)) → missing names analysts ≤ length analysts
 few_missing names [] = omega arith
 few_missing names (a ∷ more) = let one = at_most (is_among a names) in omega (arith, one, few_missing names more)
@@ -43,18 +43,18 @@ few_missing names (a ∷ more) = let one = at_most (is_among a names) in omega (
     at_most true = omega arith
     at_most false = omega arith
 
--- one of two tests leaves no more missing than the first
+-- an `or` of two tests leaves no more missing than the first test
 lack-or : (b c : Bool) → lack (b || c) ≤ lack b
 lack-or true c = omega arith
 lack-or false true = omega arith
 lack-or false false = omega arith
 
--- a name more: no other is missing for that
+-- one more name does not make another name missing
 lack-push : (names : List (List ℕ)) (name a : List ℕ) → lack (is_among a (names ++ name ∷ [])) ≤ lack (is_among a names)
 lack-push names name a = rw (list_any-append (λ other. bytes_eq other a) names (name ∷ []))
     (lack-or (is_among a names) (bytes_eq name a || false))
 
--- nor are more analysts
+-- nor more analysts
 missing-push : (names : List (List ℕ)) (name : List ℕ) (analysts : List (List ℕ))
     → missing (names ++ name ∷ []) analysts ≤ missing names analysts
 missing-push names name [] = omega arith
@@ -66,7 +66,7 @@ is_among-push : (names : List (List ℕ)) (name : List ℕ) → is_among name na
 is_among-push names name h = list_any-append (λ other. bytes_eq other name) names (name ∷ [])
     ∙ rw (h, name_itself name) refl
 
--- a new name that is an analyst's: there is one less
+-- a new name of an analyst: one less is missing
 missing-push_new : (names : List (List ℕ)) (name : List ℕ) (analysts : List (List ℕ)) (i : ℕ)
     → i < length analysts → get_or analysts i [] ≡ name → is_among name names ≡ false
     → missing (names ++ name ∷ []) analysts + 1 ≤ missing names analysts
@@ -93,7 +93,7 @@ main_is_there main more =
     omega (arith, there, few_missing (main ∷ []) more)
 
 -- ---- analyst_name
--- with more names behind them, the first have the numbers that they had
+-- adding names leaves the numbers of the first ones unchanged
 pub analyst_name-append : (names more : List (List ℕ)) (a : ℕ) → IsAnalyst (length names) a
     → analyst_name (names ++ more) a ≡ analyst_name names a
 analyst_name-append names more a is =
@@ -114,7 +114,7 @@ pub record IsInForce (analysts : List (List ℕ)) (r : ReaderView) (name : List 
   pub name_is : analyst_name next.analysts next.current ≡ name
   pub fits : length next.analysts + missing next.analysts analysts ≤ length analysts
 
--- the section of an analyst who has a place already, or has none yet
+-- the section of an analyst who has a place, or has none
 IsInForce-place : (analysts : List (List ℕ)) (line : ℕ) (r : ReaderView) (name : List ℕ) (i : ℕ) → IsName name
     → i < length analysts → get_or analysts i [] ≡ name → length analysts ≤ MOST_ANALYSTS
     → length r.analysts + missing r.analysts analysts ≤ length analysts

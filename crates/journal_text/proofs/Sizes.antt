@@ -1,4 +1,4 @@
--- How long the lines are that are no comments.
+-- The lengths of the lines that are not comments.
 use Rattle.std.proofs.Common.{◌≡◌, ⊎_elim, ℕ, ◌+◌, ◌*◌, ◌≤◌, ◌==◌, false, List, []}
 use Rattle.std.proofs.Common.{◌∷◌, ◌++◌, length, refl, sym, ap, subst, arith, append-nil, length-append}
 use Rattle.std.specs.List.{AllByRecursion, flat_map}
@@ -17,7 +17,7 @@ use Rattle.journal_text.proofs.Lines.{IsRefused, accepted_or_refused, said_onto,
 use Rattle.journal_text.proofs.Reading.{IsCallBy}
 
 -- ---- line_text
--- a decision behind its section
+-- the length of a decision and its section
 decided_length : (analysts : List (List ℕ)) (c : Call) → AreKnown analysts → IsCallBy analysts c
     → length (line_text (words_of_section (analyst_name analysts c.caller))) + length
     (line_text (words_of_decision c.decision)) ≤ longest_item
@@ -43,7 +43,7 @@ decided_length analysts c known h =
     )
 
 -- ---- said_lines
--- what events say takes at most `longest_item` bytes for each call
+-- the lines without comments take at most `longest_item` bytes for each call
 pub said_length : (analysts : List (List ℕ)) (es : List Event) → AreKnown analysts
     → AllByRecursion (IsCallBy analysts) (calls_of es)
     → length (flat_map line_text (said_lines analysts es)) ≤ longest_item * length (calls_of es)

@@ -1,4 +1,4 @@
--- Worked examples: the text of a journal as people read it, and the script that it is.
+-- Worked examples: the text of a journal in full, and the script in it.
 use Rattle.std.specs.Prelude.{ℕ, List, [], ◌∷◌, ◌++◌, codes, Some, None}
 use Rattle.decision_book.specs.declared.call.Reply.TheVariants.{Accepted, Closed, Late}
 use Rattle.decision_book.specs.Journal.{Event, NewFront}
@@ -36,7 +36,7 @@ four_calls_text =
     ++ codes "# refused 2: fork x from base\n"
     ++ codes "looks 0\n"
 
--- what of it is a script
+-- its text without comments, which is a script
 abbrev pub four_calls_script : List ℕ
 four_calls_script =
     codes "analyst main\n"
@@ -46,7 +46,7 @@ four_calls_script =
     ++ codes "analyst main\n"
     ++ codes "analyst main\n"
 
--- three looks: the clone was there, it was not, the station is unknown
+-- three looks: the clone is there, it is not, the station is unknown
 abbrev pub three_looks : List Looked
 three_looks =
     record {
@@ -63,7 +63,7 @@ three_looks =
     }
     ∷ record { analyst = 2; who = codes "base"; station = codes "till"; glance = None } ∷ []
 
--- the text of these looks, where the analysts are main and ben
+-- the text of these looks, if the analysts are main and ben
 abbrev pub looks_of_two : List ℕ
 looks_of_two =
     codes "looks 3\n"

@@ -1,4 +1,4 @@
--- What is said of a journal's text: `src/laws.rt` shows that it holds.
+-- A law of a journal's text; `src/laws.rt` proves it.
 use Rattle.std.specs.Prelude.{◌≡◌, ℕ, ◌<◌, not, List, length, map, filter, Ok, None}
 use Rattle.std.specs.List.{AllByRecursion, join_with_byte, slice_split}
 use Rattle.net_model.specs.Net.{Net}
@@ -20,15 +20,15 @@ use Rattle.journal_text.specs.JournalText.{events_text}
 abbrev pub without_comments : List ℕ → List ℕ
 without_comments text = join_with_byte 10 (filter (λ line. not (begins_comment line)) (slice_split is_newline text))
 
--- an item of a script: the name of its analyst, and what is asked for
+-- an item of a script: the name of its analyst, and its act
 abbrev pub who_does : List (List ℕ) → Item → List ℕ × Act
 who_does analysts item = (analyst_name analysts item.analyst, item.act)
 
--- the same of a call
+-- the same for a call
 abbrev pub who_decided : List (List ℕ) → Call → List ℕ × Act
 who_decided analysts call = (analyst_name analysts call.caller, Decide call.decision)
 
--- a call of one of so many analysts, of a decision that a script can state
+-- a call of one of the analysts, with a decision that a script can express
 pub record IsCallOf (analysts : ℕ) (call : Call) : Type 0 where
   pub analyst : IsAnalyst analysts call.caller
   pub decision : IsDecision call.decision
@@ -41,10 +41,10 @@ pub record IsScriptOf (net : Net) (analysts : List (List ℕ)) (events : List Ev
   pub items : map (who_does again.analysts) again.items ≡ map (who_decided analysts) (accepted_of (calls_of events))
   -- all are accepted before the simulation begins
   pub accepted : first_refusal net (decisions again.items) ≡ None
-  -- and leave the same clones as the journal
+  -- and lead to the same clones as the journal
   pub clones : lists_of net (decisions again.items) ≡ (after net events).clones
 
--- so it is of each right journal whose callers are analysts of a script
+-- this holds for each right journal whose callers are analysts of a script
 abbrev pub JournalReadsAsScript : Net → Type 0
 JournalReadsAsScript net = (s : ScriptView) (events : List Event) → IsScript s → IsRight net events → 0 < net.horizon
     → Fits32 net.horizon

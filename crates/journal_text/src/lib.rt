@@ -1,7 +1,7 @@
 //! The text of a journal: what analysts decided while a simulation ran, at which fronts, and what they saw.
 //!
-//! When analysts decide during a run, what each of them gets depends on when they ask. The journal says how it went,
-//! and its text is both: a record to read, and a script by which the same run is made again.
+//! If analysts decide during a run, the replies depend on when they ask. The journal records what happened. Its text is
+//! both a record to read and a script that repeats the run.
 //!
 //! ```text
 //! journal 3 2                                             how many calls and fronts
@@ -23,13 +23,12 @@
 //! let text = journal_text(alloc, &script, book.calls(), book.fronts(), &looks)?;
 //! ```
 //!
-//! It costs a walk over calls, fronts and looks, and one text that grows. Out of memory is the only error.
+//! It costs one pass over calls, fronts and looks, and one text that grows. Out of memory is the only error.
 //!
-//! The definition of the text stands in `specs/JournalText.antt`, and what is written is that. The promise that it
-//! carries: **a run is repeated by its journal**. The lines of a right journal's calls, without comments, are read as
-//! a script; its items are the accepted decisions, in order, each by the analyst who made it; all are accepted before
-//! the simulation begins, and they leave the clones that the journal leaves. So it gives the same traces
-//! and the same report.
+//! The text is defined in `specs/JournalText.antt`. The promise: **a run is repeated by its journal**. The lines of a
+//! right journal's calls, without comments, are read as a script. Its items are the accepted decisions, in order, each
+//! by the analyst who made it. All are accepted before the simulation begins, and lead to the same clones as the
+//! journal. So the script has the same traces and the same report.
 #![tactic(auto)]
 
 pub mod examples;

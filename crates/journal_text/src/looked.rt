@@ -2,7 +2,7 @@
 use phys_proc::Glance;
 use sim_base::Name;
 
-/// A look: who asked, for which clone and which station, and what was seen.
+/// A look: the analyst, the clone, the station, and what was seen.
 #[derive(Clone, Copy, Debug, PartialEq, Eq)]
 pub struct Looked {
     /// The number of the analyst, from 1.
@@ -11,6 +11,6 @@ pub struct Looked {
     pub who: Name,
     /// The station's name.
     pub station: Name,
-    /// What was seen; `None` where the model has no such station.
+    /// What was seen; `None` if the model has no such station.
     pub glance: Option<Glance>,
 }

@@ -27,7 +27,7 @@ pub(crate) fn push_number(out: &mut Vec<u8>, number: u64) -> Result<(), NoMemory
     push(out, buffer.format(number).as_bytes())
 }
 
-/// Appends bytes and a number behind them.
+/// Appends bytes, and a number after them.
 pub(crate) fn push_count(out: &mut Vec<u8>, word: &[u8], number: u64) -> Result<(), NoMemory>
     ensures value { OnOk result (out.new.items ≡ out.old.items ++ (word.now ++ decimal number)) }
 {

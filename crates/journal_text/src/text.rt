@@ -68,7 +68,7 @@ fn push_call(out: &mut Vec<u8>, script: &Script, call: &Call) -> Result<(), NoMe
     push(out, b"\n")
 }
 
-// The calls, each behind the fronts that stood before it, and then the other fronts.
+// Appends the calls, each after the fronts that precede it, and then the other fronts.
 fn push_events(
     out: &mut Vec<u8>,
     script: &Script,
@@ -158,8 +158,8 @@ fn push_head(out: &mut Vec<u8>, calls: usize, fronts: usize) -> Result<(), NoMem
     push(out, b"\n")
 }
 
-/// The text of the journal of these calls and fronts, whose callers are analysts of the script, and of
-/// the looks of its analysts.
+/// The text of the journal with these calls and fronts, whose callers are analysts of the script, and with the looks of
+/// its analysts.
 pub fn journal_text(
     alloc: Global,
     script: &Script,

@@ -85,7 +85,7 @@ module _ (net : Net) (cs : List Clone) (k : ℕ) (procs : List ProcView) (flows 
       subst (StandsAtCut (simulation net) has cs cut (i + 1)) (sym (copies_at-got procs i p.0 p.1))
       (world.stood i p.0 p.1).copies
 
-  -- and so by the number of the station
+  -- the same by the number of the station
   stood_at : (r : ℕ) → IsStation (simulation net) r
       → StandsAtCut (simulation net) has cs cut r (by_number [] (copies_at procs) r)
   stood_at zero here = absurd (let h = here.0 in omega (arith, h))
@@ -146,7 +146,7 @@ module _ (net : Net) (cs : List Clone) (k : ℕ) (procs : List ProcView) (flows 
       (subst (λ s. GainTogether (simulation net) has (ends_of (simulation net) cs) s (next s) p.0.copies flow.handled)
       (add-one i) (is_flow i l flow got).gain)
 
-  -- with what was handled before, a station has handled no more than the limit allows each clone
+  -- with what was handled before, a station has handled at most the limit for each clone
   few_at : (i : ℕ) → i < length net.sites → (flow : Flow) → slice_get flows i ≡ Some flow →
       handled_once net cs (suc i) (cut (suc i)) + flow.handled ≤ length cs * net.limit
   few_at i l flow got =
@@ -156,7 +156,7 @@ module _ (net : Net) (cs : List Clone) (k : ℕ) (procs : List ProcView) (flows 
       (subst (λ s. (c : ℕ) → c < length cs → ¬ (IsBeyond net s (cut s) (clone_at cs c))) (add-one i) (short_of i l))
       (gained_of i l flow got)
 
-  -- nor have the first n stations together
+  -- the same for the first n stations together
   few_to : (n : ℕ) → n ≤ length net.sites →
       station_sum (λ s. handled_once net cs s (cut s)) n + station_sum
       (by_number 0 (handled_at flows)) n ≤ n * (length cs * net.limit)
@@ -171,7 +171,7 @@ module _ (net : Net) (cs : List Clone) (k : ℕ) (procs : List ProcView) (flows 
       suc-mul n (length cs * net.limit) in
       omega (arith, a, b, c, d)
 
-  -- and so all stations together
+  -- the same for all stations together
   pub few_handled : total_after net cs k + all_handled flows ≤ most_handled net (length cs)
   few_handled =
       let h = few_to (length net.sites) (omega arith) in
@@ -181,7 +181,7 @@ module _ (net : Net) (cs : List Clone) (k : ℕ) (procs : List ProcView) (flows 
   -- ---- after the round
 
   module _ (none : NoneOver flows) where
-    -- each station has stepped as the laws say
+    -- each station was stepped as the laws require
     step_at : (i : ℕ) → i < length net.sites
         → IsStepped (simulation net) has (ends_of (simulation net) cs) (i + 1) (next (i + 1)) (copies_at procs i)
         (done_at flows i) (sent_at flows i)
@@ -193,7 +193,7 @@ module _ (net : Net) (cs : List Clone) (k : ℕ) (procs : List ProcView) (flows 
         let e : sent_at flows i ≡ f.0.sent.items = sent_at-got flows i f.0 f.1 in
         rw (c, d, e) ((is_flow i l f.0 f.1).windows (none i f.0 f.1))
 
-    -- and so have all of them
+    -- the same for all stations
     each_is_round : EachIsRound (simulation net) has cs cut next olds (by_number [] (done_at flows))
         (by_number [] (sent_at flows))
     each_is_round = record {
@@ -251,7 +251,7 @@ module _ (net : Net) (cs : List Clone) (k : ℕ) (procs : List ProcView) (flows 
         absurd (false≢true (sym (ap (λ k. has k c) (none i f.0 f.1) ∙ has-empty c)
         ∙ (over_of i l f.0 f.1 c).1 (there, long)))
 
-    -- what was handled once grows by what the station has handled
+    -- the messages handled once grow by what the station has handled
     pub grown_at : (i : ℕ) → i < length net.sites → (flow : Flow) → slice_get flows i ≡ Some flow
         → handled_once net cs (suc i) (next (suc i)) ≡ handled_once net cs (suc i) (cut (suc i)) + flow.handled
     grown_at i l flow got =
@@ -261,7 +261,7 @@ module _ (net : Net) (cs : List Clone) (k : ℕ) (procs : List ProcView) (flows 
         (subst (λ s. (c : ℕ) → c < length cs → ¬ (IsBeyond net s (next s) (clone_at cs c))) (add-one i) (none_long i l))
         (gained_of i l flow got)
 
-    -- and so the first n stations together
+    -- the same for the first n stations together
     grown_to : (n : ℕ) → n ≤ length net.sites
         → station_sum (λ s. handled_once net cs s (next s)) n
         ≡ station_sum (λ s. handled_once net cs s (cut s)) n + station_sum (by_number 0 (handled_at flows)) n
@@ -274,7 +274,7 @@ module _ (net : Net) (cs : List Clone) (k : ℕ) (procs : List ProcView) (flows 
         let c : handled_at flows n ≡ flow.0.handled = handled_at-got flows n flow.0 flow.1 in
         omega (arith, a, b, c)
 
-    -- all stations together
+    -- the same for all stations together
     pub total_grows : total_after net cs (suc k) ≡ total_after net cs k + all_handled flows
     total_grows =
         let h = grown_to (length net.sites) (omega arith) in

@@ -1,4 +1,4 @@
--- A link world begins as a world at front 0, goes on round by round, and ends as a world at the horizon.
+-- A link world begins as a world at front 0, advances round by round, and ends as a world at the horizon.
 use Rattle.std.proofs.Common.{◌≡◌, ℕ, suc, ◌+◌, ◌-◌, ◌<◌, List, sym, ap, ◌∙◌, subst, arith, slice_index}
 use Rattle.std.proofs.Common.{length, map, slice_get, Some}
 use Rattle.std.proofs.lemmas.List.{length-map}
@@ -48,7 +48,7 @@ link_begins net cs ended procs now next world are = record {
       };
 }
 
--- so a world at front 0 may be taken for one whose clocks are computed for a network that is the same
+-- a world at front 0 may be taken for one whose clocks are computed for an equal network
 pub link_opens : (w : WorldView) (net shown : Net) (cs : List Clone) (ended : List (ℕ × ℕ)) (procs : List ProcView)
     (k : ℕ) (now next : List ℕ) → net ≡ w.net → cs ≡ w.clones → w.front ≡ 0 → k ≡ 0 → shown ≡ net →
     WorldStands w.net w.clones ended w.front procs → HasClocks shown k now next →
@@ -92,7 +92,7 @@ link_ends net cs ended k now next procs world done = record {
 
 module _ (net : Net) (cs : List Clone) (ended : List (ℕ × ℕ)) (k : ℕ) (now next : List ℕ) (procs : List ProcView)
     (world : LinkStands net cs ended k now next procs) where
-  -- the clock of a station stands at its place
+  -- the clock of a station is at its place in the list
   pub clock-at : (s : ℕ) → HasStation net s → slice_index now (s - 1) ≡ clock net k s
   clock-at s is =
       let low = is.low in
@@ -106,7 +106,7 @@ module _ (net : Net) (cs : List Clone) (ended : List (ℕ × ℕ)) (k : ℕ) (no
       let c = world.clocks_are.now_are.count in
       world.clocks_are.now_are.each i (omega (arith, l, c)) ∙ done (i + 1) (omega arith, omega (arith, l, c))
 
-  -- and if each in the list is there, all are
+  -- and if each in the list is at the horizon, all clocks are
   pub all-done : ((i : ℕ) → i < length now → slice_index now i ≡ net.horizon) → AreAllDone net k
   all-done all s is =
       let c = world.clocks_are.now_are.count in
@@ -114,7 +114,7 @@ module _ (net : Net) (cs : List Clone) (ended : List (ℕ × ℕ)) (k : ℕ) (no
       let high = is.1 in
       sym (clock-at s (record { low = low; high = high })) ∙ all (s - 1) (omega (arith, low, high, c))
 
-  -- a round more can be counted
+  -- one more round can be counted
   pub round-fits : ¬ (AreAllDone net k) → k < MOST_HORIZON
   round-fits going = let b = rounds-below net k world.valid going in let h = world.valid.soon in omega (arith, b, h)
 
@@ -135,7 +135,7 @@ module _ (net : Net) (cs : List Clone) (ended : List (ℕ × ℕ)) (k : ℕ) (no
     stepped = subst (λ e. AllFlow net e (λ i. clock net (suc k) (i + 1)) procs flows) world.ends stepped;
   }
 
-  -- if no clone goes over the limit, and what was sent is delivered, it is the world after one round more
+  -- if no clone goes over the limit, and what was sent is delivered, it is the world after one more round
   pub link_after : NoneOver flows → (news : List ProcView) (after later : List ℕ)
       → AllDelivered (all_sent flows) (map (λ (f : Flow). f.done) flows) news
       → HasClocks net (suc k) after later → LinkStands net cs ended (suc k) after later news

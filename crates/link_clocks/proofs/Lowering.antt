@@ -10,19 +10,19 @@ use Rattle.net_model.specs.declared.station.Link.{Link}
 use Rattle.link_laws.specs.Clocks.{least_with}
 use Rattle.link_clocks.specs.NetClocks.{delays_to, AreLowered}
 
--- a property of all elements holds of the one at a place
+-- a property of all elements holds at each place
 pub all_at : {X : Type 0} (P : X → Type 0) (xs : List X) (i : ℕ) (d : X) → AllByRecursion P xs → i < length xs →
     P (get_or xs i d)
 all_at P [] i d h l = absurd (omega (arith, l))
 all_at P (x ∷ xs) zero d h l = h.0
 all_at P (x ∷ xs) (suc i) d h l = all_at P xs i d h.1 (omega (arith, l))
 
--- one delay more lowers the least
+-- one more delay lowers the least
 least_with-push : (t : ℕ) (ds : List ℕ) (d b : ℕ) → least_with t (ds ++ d ∷ []) b ≡ min (least_with t ds b) (t + d)
 least_with-push t [] d b = omega arith
 least_with-push t (e ∷ ds) d b = let h = least_with-push t ds d b in omega (arith, h)
 
--- one link more, to the station
+-- one more link to the station
 delays_here : (xs : List Link) (l : Link) (s : ℕ) → l.to ≡ s → delays_to (xs ++ l ∷ []) s ≡ delays_to xs s ++ l.delay
     ∷ []
 delays_here xs l s e =
@@ -30,7 +30,7 @@ delays_here xs l s e =
     ∙ ap (λ b. filter (λ (l : Link). l.to == s) xs ++ cond b (l ∷ []) []) (eq-eqb l.to s e))
     ∙ map-append (λ (l : Link). l.delay) (filter (λ (l : Link). l.to == s) xs) (l ∷ [])
 
--- and one to another
+-- one more link to another station
 delays_there : (xs : List Link) (l : Link) (s : ℕ) → (l.to ≡ s → ⊥) → delays_to (xs ++ l ∷ []) s ≡ delays_to xs s
 delays_there xs l s n =
     ap (map (λ (l : Link). l.delay)) (filter-append (λ (l : Link). l.to == s) xs (l ∷ [])
@@ -43,7 +43,7 @@ pub record IsOver (l : Link) (x time : ℕ) (now after : List ℕ) : Type 0 wher
   pub own : l.to ≡ x → after ≡ now
   pub other : (l.to ≡ x → ⊥) → after ≡ slice_set now (l.to - 1) (min (slice_index now (l.to - 1)) (time + l.delay))
 
--- one link more
+-- one more link
 pub lowered_more : (xs : List Link) (l : Link) (x time : ℕ) (old now after : List ℕ) → 1 ≤ l.to → l.to ≤ length old →
     AreLowered xs x time old now → IsOver l x time now after → AreLowered (xs ++ l ∷ []) x time old after
 lowered_more xs l x time old now after low high h over = record {
@@ -88,7 +88,7 @@ lowered_more xs l x time old now after low high h over = record {
   ];
 }
   where
-    -- the bounds of other stations stay
+    -- the bounds of other stations are unchanged
     apart : (i : ℕ) → (l.to ≡ x → ⊥) → (l.to ≡ i + 1 → ⊥) → slice_index after i ≡ slice_index now i
     apart i k d = ap (λ v. slice_index v i) (over.other k)
         ∙ get_or-set_other now (l.to - 1) i (min (slice_index now (l.to - 1)) (time + l.delay)) 0

@@ -1,4 +1,4 @@
--- The next clocks of the clocks after k rounds are the clocks after one round more.
+-- The next clocks after k rounds are the clocks after one more round.
 use Rattle.std.proofs.Common.{◌≡◌, ℕ, zero, suc, ◌+◌, ◌<◌, ◌≤◌, ◌==◌, List, [], ◌∷◌, cond, refl, ap, ◌∙◌}
 use Rattle.std.proofs.Common.{arith, length, slice_index}
 use Rattle.std.specs.List.{All, AllByRecursion}
@@ -9,7 +9,7 @@ use Rattle.link_laws.specs.Clocks as clocks
 use Rattle.link_laws.proofs.Clocks.{clock-within}
 use Rattle.link_clocks.specs.NetClocks.{delays_of, clock, cut_of, AreClocks, AreNextClocks, HasClocks}
 
--- how far a station may go depends on the senders' times alone
+-- how far a station may go depends only on the senders' times
 inbound-same : (delays : clocks.Delays) (n horizon : ℕ) (time same : ℕ → ℕ) (s m : ℕ) → m ≤ n →
     ((x : ℕ) → IsStationOf n x → time x ≡ same x) →
     clocks.inbound delays n horizon time s m ≡ clocks.inbound delays n horizon same s m
@@ -29,7 +29,7 @@ cut_is_clock net k times are (suc i) is =
     let l = is.1 in
     are.each i (omega (arith, l)) ∙ ap (clock net k) (add-one i)
 
--- so the next clocks are those after one round more
+-- the next clocks are those after one more round
 pub next_are_clocks : (net : Net) (k : ℕ) (times bounds : List ℕ) → AreClocks net k times →
     AreNextClocks net times bounds → AreClocks net (suc k) bounds
 unfolding clocks.clock
@@ -39,7 +39,7 @@ next_are_clocks net k times bounds are next = record {
       (i + 1) (length net.sites) (omega arith) (cut_is_clock net k times are);
 }
 
--- a property at each place is one of all elements
+-- a property at each place holds of all elements
 pub all_of : (P : ℕ → Type 0) (xs : List ℕ) → ((i : ℕ) → i < length xs → P (slice_index xs i)) → AllByRecursion P xs
 all_of P [] f = tt
 all_of P (x ∷ xs) f = (f 0 (omega arith), all_of P xs (λ i l. f (suc i) (omega (arith, l))))
@@ -62,7 +62,7 @@ HasClocks-first net now next count none are =
     let first : AreClocks net 0 now = record { count = count; each = λ i l. none i 0 (omega (arith, l, count)) } in
     record { now_are = first; next_are = next_are_clocks net 0 now next first are }
 
--- and after each round the next ones are the clocks
+-- after each round the next clocks are the clocks
 pub HasClocks-after : (net : Net) (k : ℕ) (now next later : List ℕ) → HasClocks net k now next →
     AreNextClocks net next later → HasClocks net (suc k) next later
 HasClocks-after net k now next later h are = record {

@@ -54,11 +54,11 @@ slice_get_in (y ∷ ys) zero x e = let h : y ≡ x = cc in inl (sym h)
 slice_get_in (y ∷ ys) (suc i) x e = inr (slice_get_in ys i x e)
 
 module _ (site : Site) (now s : ℕ) where
-  -- a message is to the station itself, or over one of the links, and comes its delay later or later still
+  -- a message is to the station itself, or over one of the links, and arrives after its delay or later
   abbrev pub IsLinked : Msg → Type 0
   IsLinked m = (m.to ≡ s) ⊎ ((l : Link) × In l site.links × (l.to ≡ m.to) × (now + l.delay ≤ m.key.time))
 
-  -- the sender is the station, and so are all messages that it has sent
+  -- the sender is the station, and all messages that it has sent are linked
   pub record OnLinks (o : Outgoing) : Type 0 where
     pub station : o.sender.station ≡ s
     pub all : AllByRecursion IsLinked o.sends

@@ -1,4 +1,4 @@
--- How many rounds a network takes.
+-- The number of rounds that a network takes.
 use Rattle.std.proofs.Common.{◌≡◌, ℕ, suc, ◌+◌, ◌*◌, ◌/◌, ◌<◌, ◌≤◌, inl, inr, arith, length}
 use Rattle.std.proofs.lemmas.Bool.{cases_lt}
 use Rattle.net_model.specs.Net.{Net}
@@ -12,7 +12,7 @@ use Rattle.link_clocks.proofs.OnLinks.{net_keeps_to_links}
 delay-min : (net : Net) → IsNet net → (x s d : ℕ) → In d (delays_of net x s) → net.lookahead ≤ d
 delay-min net valid = (net_keeps_to_links net valid).lookahead_min
 
--- while a clock is not at the horizon, fewer rounds were made than the horizon has time units
+-- while a clock is not at the horizon, fewer rounds were made than there are time units up to the horizon
 pub rounds-below : (net : Net) (k : ℕ) → IsNet net → ¬ (AreAllDone net k) → k < net.horizon
 rounds-below net k valid going = elim (cases_lt k net.horizon) [
   | inl l ↦ l
@@ -21,7 +21,7 @@ rounds-below net k valid going = elim (cases_lt k net.horizon) [
       (let e : k * 1 ≡ k = omega arith in omega (arith, l, e))))
 ]
 
--- the rounds are at most the horizon over the lookahead, and one
+-- the rounds are at most the horizon over the lookahead, plus one
 pub rounds-few : (net : Net) (k : ℕ) → IsNet net → AreAllRounds net k → k ≤ net.horizon / net.lookahead + 1
 rounds-few net k valid are = rounds-at_most (delays_of net) (length net.sites) net.horizon net.lookahead
     (delay-min net valid) k (let a = valid.ahead in omega (arith, a)) are

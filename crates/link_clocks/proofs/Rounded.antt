@@ -1,4 +1,4 @@
--- The stations of a link world, stepped to their next clocks by whoever steps them.
+-- The stations of a link world, stepped to their next clocks.
 use Rattle.std.proofs.Common.{◌≡◌, ℕ, suc, ◌+◌, ◌<◌, List, Option, Some, None, refl, sym, subst, arith, length, map}
 use Rattle.std.proofs.Common.{slice_index, ◌∙◌, ap}
 use Rattle.std.proofs.lemmas.List.{get_or_default}
@@ -42,7 +42,7 @@ module _ (net : Net) (cs : List Clone) (ended : List (ℕ × ℕ)) (k : ℕ) (no
   bound-clock i l = ap (λ bs. slice_index bs i) (bounds_are ∙ times_are)
       ∙ world.clocks_are.next_are.each i (let n = world.count in omega (arith, l, n))
 
-  -- its stations may be stepped to these bounds, also of a network that is the same
+  -- its stations may be stepped to these bounds, for an equal network as well
   pub may_step : (n : Net) → n ≡ net → AreStations n procs × AreBounds n procs bounds
   may_step n e = subst (λ m. AreStations m procs × AreBounds m procs bounds) (sym e) (stations, bounded)
     where
@@ -107,7 +107,7 @@ module _ (net : Net) (cs : List Clone) (ended : List (ℕ × ℕ)) (k : ℕ) (no
       short = λ o. none_beyond net cs k procs flows stepped (none o);
     }
 
-  -- and once they were, this holds
+  -- after the step, this holds
   pub has_rounded : (n : Net) (listed : List (ℕ × ℕ)) (news : List ProcView) (sent : MarkedMessages)
       (over : Option (ℕ × ℕ)) (steps0 steps1 : ℕ) → n ≡ net → listed ≡ ended
       → AllStepped n (ends_in n.horizon listed) (bound_of bounds) procs news sent over steps0 steps1

@@ -11,7 +11,7 @@ use Rattle.link_laws.specs.Clocks as clocks
 use Rattle.link_clocks.specs.NetClocks.{clock, AreAllDone}
 use Rattle.link_clocks.specs.LinkWorlds.{total_after}
 
--- if all clocks are at the horizon, they are those that are handled up to the horizon
+-- if all clocks are at the horizon, the total is what is handled up to the horizon
 pub total_done : (net : Net) (cs : List Clone) (k : ℕ) → AreAllDone net k →
     total_after net cs k ≡ total_handled net cs net.horizon
 total_done net cs k done = to (length net.sites) (omega arith)
@@ -25,7 +25,7 @@ total_done net cs k done = to (length net.sites) (omega arith)
         let e = ap (handled_once net cs (suc n)) d in
         omega (arith, h, e)
 
--- before the first round there are none
+-- before the first round the total is 0
 pub total_first : (net : Net) (cs : List Clone) → total_after net cs 0 ≡ 0
 unfolding clocks.clock
 total_first net cs = to (length net.sites)

@@ -1,4 +1,4 @@
--- A world whose stations go by the clocks of their inbound links, and what its stations keep of the clones.
+-- A world whose stations follow the clocks of their inbound links, and the stations' copies of the clones.
 use Rattle.std.specs.Prelude.{◌≡◌, ℕ, ◌+◌, ◌≤◌, List, length, slice_get, nat_lt, Some}
 use Rattle.sim_base.specs.Clones.{Clone}
 use Rattle.sim_base.specs.declared.lists.TheConstants.{MOST_CLONES}
@@ -15,8 +15,8 @@ use Rattle.station_steps.specs.Windows.{IsNumbered}
 use Rattle.link_laws.specs.CutCopies.{StandsAtCut}
 use Rattle.link_clocks.specs.NetClocks.{clock, HasClocks}
 
--- what contracts see of a link world: its network, its clones with their decisions and ends, and the number of rounds
--- that it has made
+-- what contracts see of a link world: its network, its clones with their decisions and ends, and the number of finished
+-- rounds
 pub record LinkView : Type 0 where
   pub net : Net
   pub clones : List Clone
@@ -30,7 +30,8 @@ pub record LinkStandsAt (net : Net) (cs : List Clone) (k i : ℕ) (p : ProcView)
   pub once : p.handled ≡ handled_once net cs (i + 1) (clock net k (i + 1))
   pub copies : StandsAtCut (simulation net) has cs (clock net k) (i + 1) p.copies
 
--- what a link world keeps: after its rounds the copies of every station represent the clones at the station's clock
+-- the invariant of a link world: after its rounds the copies of every station represent the clones at the station's
+-- clock
 pub record LinkStands (net : Net) (cs : List Clone) (ended : List (ℕ × ℕ)) (k : ℕ) (now next : List ℕ)
     (procs : List ProcView) : Type 0 where
   pub valid : IsNet net
@@ -41,6 +42,6 @@ pub record LinkStands (net : Net) (cs : List Clone) (ended : List (ℕ × ℕ)) 
   pub clocks_are : HasClocks net k now next
   pub each : (i : ℕ) (p : ProcView) → slice_get procs i ≡ Some p → LinkStandsAt net cs k i p
 
--- the messages that the stations have handled once, each up to its clock after k rounds
+-- the number of messages that the stations have handled, shared ones once, each up to its clock after k rounds
 abbrev pub total_after : Net → List Clone → ℕ → ℕ
 total_after net cs k = station_sum (λ s. handled_once net cs s (clock net k s)) (length net.sites)

@@ -10,8 +10,8 @@ use Rattle.world_core.specs.Overs.{most_handled}
 use Rattle.link_clocks.specs.NetClocks.{clock}
 use Rattle.link_clocks.specs.LinkWorlds.{total_after}
 
--- at the clocks after k rounds, the station is the least with a clone whose log is beyond the limit, and there the
--- clone is the least
+-- at the clocks after k rounds: the least station with a clone whose log is beyond the limit, and the least such clone
+-- there
 pub record IsFirstBeyondAfter (net : Net) (cs : List Clone) (k station who : ℕ) : Type 0 where
   pub is_station : HasStation net station
   pub clone : who < length cs
@@ -23,8 +23,8 @@ pub record IsFirstBeyondAfter (net : Net) (cs : List Clone) (k station who : ℕ
 abbrev pub NoneBeyondAfter : Net → List Clone → ℕ → Type 0
 NoneBeyondAfter net cs k = (s : ℕ) → HasStation net s → AreWithinLimitAt (simulation net) cs s (clock net k s)
 
--- a round has no result: out of memory needs no cause; a limit names the first log beyond it after the round, and then
--- the messages that were handled are no more than the limit allows each clone at each station
+-- the causes of a round's fault: out of memory has none; a limit names the first log beyond it after the round, and
+-- then at most the limit was handled for each clone at each station
 abbrev pub IsRoundFault : Net → List Clone → ℕ → ℕ → ℕ → WorldFault → Type 0
 IsRoundFault net cs k old_steps new_steps NoMemory = Unit {0}
 IsRoundFault net cs k old_steps new_steps (EventLimit station who kept) =

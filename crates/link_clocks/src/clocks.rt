@@ -19,7 +19,7 @@ pub struct Clocks {
     pub next: Vec<u64>,
 }
 
-// Lowers the bounds of the stations to which the links of sender x lead, whose clock is `time`.
+// Lowers the bounds of the stations to which the links of sender x lead. `time` is the sender's clock.
 fn lower_by_links(links: &[Link], x: u32, time: u64, bounds: &mut [u64])
     requires far { time ≤ MOST_HORIZON }
     requires links { AllByRecursion (λ l. (1 ≤ l.to) × (l.to ≤ length bounds.old) × (l.delay ≤ MOST_TIME)) links.now }
@@ -33,7 +33,7 @@ fn lower_by_links(links: &[Link], x: u32, time: u64, bounds: &mut [u64])
     }
 }
 
-// Sets each bound to the next clock of its station. It takes no memory.
+// Sets each bound to the next clock of its station. It allocates nothing.
 fn set_to_next(model: &Model, clocks: &[u64], bounds: &mut [u64])
     requires clocks { length clocks.now ≡ length model.now.sites }
     requires early { AllByRecursion (λ t. t ≤ model.now.horizon) clocks.now }
@@ -50,7 +50,7 @@ fn set_to_next(model: &Model, clocks: &[u64], bounds: &mut [u64])
     }
 }
 
-/// Whether all times are this one.
+/// Whether all times are equal to this one.
 pub fn are_all(times: &[u64], time: u64) -> bool
     ensures value { IsTrue result ↔ ((i : ℕ) → i < length times.now → slice_index times.now i ≡ time) }
 {
@@ -92,7 +92,7 @@ impl Clocks {
         })
     }
 
-    /// The clocks after one round more. It takes no memory.
+    /// The clocks after one more round. It allocates nothing.
     pub fn after_round(self, model: &Model) -> Clocks
         requires clocks { HasClocks model.now self.rounds self.now.items self.next.items }
         requires fits { self.rounds < MOST_HORIZON }

@@ -1,4 +1,4 @@
-//! Worked clocks of networks, computed by the checker from the definitions. There is nothing to run.
+//! Worked examples of network clocks, computed by the checker from the definitions. There is nothing to run.
 ghost use Rattle.std.specs.Prelude.{◌≡◌, [], ◌∷◌};
 ghost use Rattle.stations.specs.Examples.OneDesk.{one_desk};
 ghost use Rattle.link_clocks.specs.Examples.{loop, ring, sink_alone, three_clocks, two_clocks};
@@ -12,8 +12,8 @@ pub fn clocks_of_one_desk()
     ensures three { three_clocks one_desk 3 ≡ 20 ∷ 20 ∷ 20 ∷ [] }
 {}
 
-/// A station without an inbound link is at the horizon after one round, in a ring the clocks rise together, and a link
-/// of a station to itself does not count.
+/// A station without an inbound link is at the horizon after one round. In a ring the clocks rise together. A link of a
+/// station to itself does not count.
 #[tactic(auto, unfolding(link_laws::specs::Clocks::clock))]
 pub fn clocks_of_small_networks()
     ensures alone { clock sink_alone 1 1 ≡ 10 }

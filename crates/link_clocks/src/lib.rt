@@ -1,9 +1,10 @@
 //! The world of all clones, in rounds: each station goes as far as the links that lead to it allow.
 //!
-//! A [`World`](world_core::World) takes all stations to one front, and no window is longer than the lookahead, the least
-//! delay of any link. Here each station (logical process) has a *clock* of its own. In a round it goes to its next
-//! clock, alone: the least of the horizon and, for each link from another station, the sender's clock plus the delay.
-//! This is conservative synchronization as Chandy, Misra and Bryant have it, in rounds in place of null messages.
+//! A [`World`](world_core::World) takes all stations to one front, and no window is longer than the lookahead, the
+//! least delay of any link. Here each station (logical process) has its own *clock*. In a round each station goes to
+//! its next clock, separately: the least of the horizon and, for each link from another station, the sender's clock
+//! plus the delay. This is the conservative synchronization of Chandy, Misra and Bryant, with rounds instead of null
+//! messages.
 //!
 //! ```text
 //! round    gate --2--> desk --2--> out
@@ -22,15 +23,15 @@
 //! let world = world.into_world();                                 // a World at the horizon: its traces and figures
 //! ```
 //!
-//! Cost: a round looks at each station and each link once, and steps the copies of stations with something due. If two
-//! stations or more have something due, a round goes to the crew. Other rounds run in the caller's thread. A network
-//! without a cycle takes as many rounds as its longest path has stations. All that waits at a station is in memory at
-//! once.
+//! Cost: a round checks each station and each link once, and steps the copies of stations with something due. If two or
+//! more stations have something due, a round goes to the crew. Other rounds run in the caller's thread. A network
+//! without a cycle takes as many rounds as its longest path has stations. All messages that wait at a station are in
+//! memory at the same time.
 //!
 //! The promise: **after each round the copies of every station represent the clones at the station's own clock**. Each
-//! clone is in one copy, whose log and state are those of the clone's own run there, and two clones share a copy exactly
-//! if their logs are equal. It is the invariant of [`LinkWorld`], whoever steps the stations. The steps that a round
-//! counts are exactly the messages that all clones together have handled more, each shared one once. The contract of
+//! clone is in one copy, whose log and state are those of the clone's own run there. Two clones share a copy exactly if
+//! their logs are equal. This is the invariant of [`LinkWorld`], in place and by a crew. The steps of a round count
+//! exactly the messages that all clones together handle in it, shared ones once. The contract of
 //! [`LinkWorld::round_in_place`], which cannot wait, promises that it returns.
 #![tactic(auto)]
 

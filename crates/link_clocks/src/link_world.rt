@@ -44,7 +44,7 @@ impl std::marker::Model for LinkWorld {
         w.clocks.now.items w.clocks.next.items w.procs.items };
 }
 
-// Each station's bound is its time in the list.
+// Sets the bound of each station to its time in the list.
 fn bound_by(buffers: &mut Buffers, times: &[u64]) -> Result<(), NoMemory>
     ensures same { OnOk result (buffers.new.bounds.items ≡ times.now) }
 {
@@ -54,11 +54,11 @@ fn bound_by(buffers: &mut Buffers, times: &[u64]) -> Result<(), NoMemory>
 }
 
 impl LinkWorld {
-    /// The clones of a world at front 0, each station at clock 0.
+    /// Puts the clones of a world at front 0 into rounds, each station at clock 0.
     ///
     /// # Errors
     ///
-    /// Out of memory, the world is given up.
+    /// Out of memory: the world is dropped.
     pub fn of(alloc: Global, world: World) -> Result<LinkWorld, NoMemory>
         requires first { world.front ≡ 0 }
         ensures begins { IfOk result (λ w. w ≡ record { net = world.net; clones = world.clones; rounds = 0 }) }
@@ -81,7 +81,7 @@ impl LinkWorld {
         })
     }
 
-    /// The clones that the calls make, each station at clock 0. The calls were accepted at front 0.
+    /// The clones that the calls create, each station at clock 0. The calls were accepted at front 0.
     ///
     /// # Errors
     ///
@@ -100,14 +100,14 @@ impl LinkWorld {
         Ok(linked)
     }
 
-    /// The number of rounds that were made.
+    /// The number of finished rounds.
     pub fn rounds(&self) -> u64
         ensures value { result ≡ self.now.rounds }
     {
         self.clocks.rounds
     }
 
-    /// The clock of a station, by its number from 1. It takes no memory.
+    /// The clock of a station, by its number from 1. It allocates nothing.
     pub fn clock(&self, station: u32) -> u64
         requires is_station { HasStation self.now.net station }
         ensures value { result ≡ clock self.now.net self.now.rounds station }
@@ -115,7 +115,7 @@ impl LinkWorld {
         self.clocks.now[station as usize - 1]
     }
 
-    /// Whether the clocks of all stations are at the horizon. It takes no memory.
+    /// Whether the clocks of all stations are at the horizon. It allocates nothing.
     pub fn is_done(&self) -> bool
         ensures value { IsTrue result ↔ AreAllDone self.now.net self.now.rounds }
         ensures valid { IsNet self.now.net }
@@ -123,7 +123,7 @@ impl LinkWorld {
         are_all(self.clocks.now.as_slice(), self.model.horizon())
     }
 
-    /// Whether two stations or more have something due in the next round, so that a crew pays for it. It is a hint.
+    /// Whether two or more stations have something due in the next round, so that a crew pays off for it. It is a hint.
     pub fn wants_crew(&self) -> bool {
         let mut one_is_busy = false;
         for i in 0..self.procs.len() {
@@ -137,21 +137,21 @@ impl LinkWorld {
         false
     }
 
-    /// Handles what comes before its next clock at each station, separately, and gives each station what the others
-    /// sent to it, all in the caller's thread.
+    /// Handles the messages before its next clock at each station, separately. Then delivers to each station what the
+    /// others sent to it. All work is done in the caller's thread.
     ///
     /// # Errors
     ///
-    /// Out of memory, or if a log would get longer than the limit, the world is given up.
+    /// The world is dropped if out of memory, or if a log would get longer than the limit.
     pub fn round_in_place<L: Ledger>(
         self,
         alloc: Global,
         steps: &mut Steps<L>,
     ) -> Result<LinkWorld, WorldFault>
         requires going { ¬ (AreAllDone self.net self.rounds) }
-        // what it gives: the same world after one round more
+        // the result: the same world after one more round
         ensures value { IfOk result (λ w. w ≡ record self { rounds = suc self.rounds }) }
-        // what is counted: the messages that the stations handle, each once for all clones of a copy
+        // the steps: the messages that the stations handle, each once for all clones of a copy
         ensures steps { IfOk result (λ w. steps.new + total_after self.net self.clones self.rounds
             ≡ steps.old + total_after self.net self.clones (suc self.rounds)) }
         // no log is beyond the limit, or the fault names the first that is
@@ -189,7 +189,7 @@ impl LinkWorld {
         })
     }
 
-    // The same by the crew. What was sent to a station it takes at its next step.
+    // The same by the crew. A station takes its messages at its next step.
     fn round_by_crew<G: Gate, L: Ledger, R: Wait>(
         self,
         rt: &R,
@@ -235,14 +235,14 @@ impl LinkWorld {
         })
     }
 
-    /// Handles what comes before its next clock at each station, separately, and gives each station what the others
-    /// sent to it. If two stations or more have something due, the crew does it: each station is a task, whether or not
-    /// something is due there. If not, the caller's thread steps the stations in place, after the gate was called for
+    /// Handles the messages before its next clock at each station, separately. Then delivers to each station what the
+    /// others sent to it. If two or more stations have something due, the crew does it: each station is a task, even if
+    /// nothing is due there. Otherwise the caller's thread steps the stations in place, after it called the gate for
     /// each.
     ///
     /// # Errors
     ///
-    /// Out of memory, or if a log would get longer than the limit, the world is given up.
+    /// The world is dropped if out of memory, or if a log would get longer than the limit.
     pub fn round<G: Gate, L: Ledger, R: Wait>(
         self,
         rt: &R,
@@ -251,9 +251,9 @@ impl LinkWorld {
         steps: &mut Steps<L>,
     ) -> Result<LinkWorld, WorldFault>
         requires going { ¬ (AreAllDone self.net self.rounds) }
-        // what it gives: the same world after one round more
+        // the result: the same world after one more round
         ensures value { IfOk result (λ w. w ≡ record self { rounds = suc self.rounds }) }
-        // what is counted: the messages that the stations handle, each once for all clones of a copy
+        // the steps: the messages that the stations handle, each once for all clones of a copy
         ensures steps { IfOk result (λ w. steps.new + total_after self.net self.clones self.rounds
             ≡ steps.old + total_after self.net self.clones (suc self.rounds)) }
         // no log is beyond the limit, or the fault names the first that is

@@ -1,4 +1,4 @@
--- A run in rounds, one round on.
+-- One more round of a run in rounds.
 use Rattle.std.proofs.Common.{◌≡◌, ℕ, suc, ◌+◌, ◌-◌, ◌<◌, ◌≤◌, Err, IfErr, IfOk, Ok, Result, ap, arith, length, refl}
 use Rattle.std.proofs.Common.{subst, sym, ◌∙◌}
 use Rattle.sim_base.specs.Clones.{clone_at}
@@ -20,12 +20,12 @@ use Rattle.linked_run.specs.Linking.{HasGoneOn, HasStopped, IsGoingBefore, IsOve
 
 -- ---- HasGoneOn
 
--- it begins
+-- the run at its start
 pub HasGoneOn-first : (w : LinkView) (s : ℕ) → HasGoneOn w w s s
 HasGoneOn-first w s = record { net_is = refl; clones_are = refl; going = λ first. first; steps = refl }
 
 module _ (old w : LinkView) (s t : ℕ) (gone : HasGoneOn old w s t) where
-  -- it has gone on by one round
+  -- the run after one more round
   pub HasGoneOn-round : (v : LinkView) (u : ℕ) → ¬ (AreAllDone w.net w.rounds)
       → v ≡ record w { rounds = suc w.rounds }
       → u + total_after w.net w.clones w.rounds ≡ t + total_after w.net w.clones (suc w.rounds)
@@ -49,7 +49,7 @@ module _ (old w : LinkView) (s t : ℕ) (gone : HasGoneOn old w s t) where
             omega (arith, before, more, end);
       }
 
-  -- or by several
+  -- the run after several more rounds
   pub HasGoneOn-further : (v : LinkView) (u : ℕ) → HasGoneOn w v t u → HasGoneOn old v s u
   HasGoneOn-further v u more = record {
     net_is = more.net_is ∙ gone.net_is;
@@ -64,7 +64,7 @@ module _ (old w : LinkView) (s t : ℕ) (gone : HasGoneOn old w s t) where
         in omega (arith, before, after);
   }
 
-  -- or it stops later
+  -- the run if it stops later
   pub HasStopped-further : (u : ℕ) (e : StudyFault) → HasStopped w t u e → HasStopped old s u e
   HasStopped-further u NoMemory h = tt
   HasStopped-further u (LimitMet station who) h = (
@@ -77,7 +77,7 @@ module _ (old w : LinkView) (s t : ℕ) (gone : HasGoneOn old w s t) where
         in omega (arith, before, few),
   )
 
-  -- and so with a run's result
+  -- the same for a run's result
   pub IfOk-further : (u : ℕ) (run : Result LinkView StudyFault) → IfOk run (λ v. HasGoneOn w v t u)
       → IfOk run (λ v. HasGoneOn old v s u)
   IfOk-further u (Ok v) more = HasGoneOn-further v u more
@@ -88,7 +88,7 @@ module _ (old w : LinkView) (s t : ℕ) (gone : HasGoneOn old w s t) where
   IfErr-further u (Ok v) h = tt
   IfErr-further u (Err e) h = HasStopped-further u e h
 
-  -- the log that is beyond the limit after a round is so at the horizon
+  -- a log that is beyond the limit after a round is so at the horizon
   limit_met : (u station who kept : ℕ) → IsNet w.net
       → IsRoundFault w.net w.clones w.rounds t u (round.EventLimit station who kept)
       → HasStopped w t u (LimitMet station who)
@@ -103,7 +103,7 @@ module _ (old w : LinkView) (s t : ℕ) (gone : HasGoneOn old w s t) where
     h.2,
   )
 
-  -- or it stops in a round
+  -- the run if it stops in a round
   pub HasStopped-round : (u : ℕ) (e : WorldFault) → IsNet w.net → IsRoundFault w.net w.clones w.rounds t u e →
       HasStopped old s u (fault_of_window e)
   HasStopped-round u round.NoMemory valid h = tt
@@ -112,7 +112,7 @@ module _ (old w : LinkView) (s t : ℕ) (gone : HasGoneOn old w s t) where
 
 -- ---- the rounds that are left
 
--- one round less is left after a round
+-- after a round one round less is left
 pub fewer-left : (w v : LinkView) → IsNet w.net → ¬ (AreAllDone w.net w.rounds) → v ≡ record w { rounds = suc w.rounds }
     → v.net.horizon - v.rounds < w.net.horizon - w.rounds
 fewer-left w v valid going is =

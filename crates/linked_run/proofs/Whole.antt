@@ -17,7 +17,7 @@ use Rattle.linked_run.specs.declared.run.LinkedWorld.{LinkedWorld}
 none_at_first : (w : LinkView) → w.rounds ≡ 0 → total_after w.net w.clones w.rounds ≡ 0
 none_at_first w first = ap (total_after w.net w.clones) first ∙ total_first w.net w.clones
 
--- a run that stops is at fault from its beginning
+-- the fault of a run is one from its beginning
 pub IsLinkedRun-stopped : (w : LinkView) (s t : ℕ) (e : StudyFault) → w.rounds ≡ 0 → HasStopped w s t e →
     IsLinkedRun w.net w.clones s t (Err e)
 IsLinkedRun-stopped w s t NoMemory first h = record {

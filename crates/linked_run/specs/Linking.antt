@@ -1,4 +1,4 @@
--- Runs in rounds: each station goes by the clock of its inbound links, until all are at the horizon.
+-- Runs in rounds: each station follows the clocks of its inbound links, until all are at the horizon.
 use Rattle.std.specs.Prelude.{◌≡◌, ℕ, suc, ◌+◌, ◌/◌, ◌<◌, ◌≤◌, List, Result, IfOk, IfErr, length}
 use Rattle.sim_base.specs.Clones.{Clone, clone_at}
 use Rattle.net_model.specs.Net.{HasStation, Net}
@@ -13,12 +13,12 @@ use Rattle.link_clocks.specs.LinkWorlds.{LinkView, total_after}
 use Rattle.link_clocks.specs.NetClocks.{AreAllDone, AreAllRounds}
 use Rattle.linked_run.specs.declared.run.LinkedWorld.{LinkedWorld}
 
--- before the last of k rounds the clocks were not all at the horizon
+-- the clocks were not all at the horizon before the last of k rounds
 abbrev pub IsGoingBefore : Net → ℕ → Type 0
 IsGoingBefore net k = (j : ℕ) → k ≡ suc j → ¬ (AreAllDone net j)
 
--- a run in rounds went on from the first world to the second: no round was made for nothing, and each shared message
--- was counted once
+-- a run in rounds went on from the first world to the second: no round was superfluous, and each shared message was
+-- counted once
 pub record HasGoneOn (old new : LinkView) (old_steps new_steps : ℕ) : Type 0 where
   pub net_is : new.net ≡ old.net
   pub clones_are : new.clones ≡ old.clones
@@ -32,8 +32,8 @@ pub record IsOverrun (net : Net) (clones : List Clone) (station who : ℕ) : Typ
   pub clone : who < length clones
   pub beyond : IsBeyond net station net.horizon (clone_at clones who)
 
--- a run in rounds has stopped: out of memory needs no cause; the limit names a log that is beyond it, and then the
--- messages that were handled are no more than the limit allows each clone at each station
+-- a run in rounds stopped: out of memory has no cause; the limit names a log that is beyond it, and then at most the
+-- limit was handled for each clone at each station
 abbrev pub HasStopped : LinkView → ℕ → ℕ → StudyFault → Type 0
 HasStopped old old_steps new_steps NoMemory = Unit {0}
 HasStopped old old_steps new_steps (LimitMet station who) = IsOverrun old.net old.clones station who
@@ -45,8 +45,9 @@ IsFaultOfLinked net clones old_steps new_steps NoMemory = Unit {0}
 IsFaultOfLinked net clones old_steps new_steps (LimitMet station who) = IsOverrun net clones station who
     × IsFew net (length clones) old_steps new_steps
 
--- the run of these clones in rounds: a world of this network and these clones at the horizon, where no log is too long,
--- after the number of rounds of the network; what clones share was handled once; or out of memory, or the limit is met
+-- the run of these clones in rounds: a world of this network and these clones at the horizon, after the network's
+-- number of rounds; no log is beyond the limit, and shared messages were handled once; or out of memory, or the limit
+-- is met
 pub record IsLinkedRun (net : Net) (clones : List Clone) (old_steps new_steps : ℕ)
     (run : Result LinkedWorld StudyFault) : Type 0 where
   pub net_is : IfOk run (λ r. r.world.net ≡ net)

@@ -1,4 +1,4 @@
-//! A run that goes on round by round, until the clocks of all stations are at the horizon (stop time).
+//! Advances a run round by round, until the clocks of all stations are at the horizon (stop time).
 ghost use Rattle.std.specs.Prelude.{◌≡◌, Some, false, IfErr, IfOk, IfSome};
 ghost use Rattle.link_clocks.specs.LinkWorlds.{LinkView};
 ghost use Rattle.link_clocks.specs.NetClocks.{AreAllDone};
@@ -14,8 +14,8 @@ use std::thread::{Threads, join_mut};
 use study_run::{NewCrew, StudyFault, begin_crew, fault_of_window};
 use world_core::Window;
 
-// Makes rounds in the caller's thread: all that are left, or, if this is asked, those before the first that pays for a
-// crew.
+// Makes rounds in the caller's thread: all that are left or, on request, those before the first for which a crew pays
+// off.
 fn go_in_place<L: Ledger>(
     alloc: Global,
     world: LinkWorld,
@@ -40,7 +40,7 @@ fn go_in_place<L: Ledger>(
     Ok(world)
 }
 
-// Makes all rounds that are left, with an executor of the larger ones.
+// Makes all rounds that are left with a crew.
 fn go_by_crew<G: Gate, L: Ledger, R: Wait>(
     rt: &R,
     alloc: Global,
@@ -63,7 +63,7 @@ fn go_by_crew<G: Gate, L: Ledger, R: Wait>(
     Ok(world)
 }
 
-// Makes all rounds that are left by the crew that is given, and tells its members that no more come.
+// Makes all rounds that are left with the given crew, and tells its members afterwards that there are no more.
 fn finish_beside<G: Gate, L: Ledger, R: Wait>(
     rt: &R,
     alloc: Global,
@@ -84,7 +84,7 @@ fn finish_beside<G: Gate, L: Ledger, R: Wait>(
     done
 }
 
-// The members' part, if it was not done yet.
+// Runs the members' part, unless it has run already.
 fn serve_members<G: Gate, R: Threads + Wait + Sync>(
     rt: &R,
     alloc: Global,
@@ -96,7 +96,7 @@ fn serve_members<G: Gate, R: Threads + Wait + Sync>(
     }
 }
 
-// Makes all rounds that are left, together with the members of a crew. All threads are joined.
+// Makes all rounds that are left, concurrently with the members of a crew. All threads are joined.
 fn go_beside<G: Gate, L: Ledger, R: Threads + Wait + Sync>(
     rt: &R,
     alloc: Global,
@@ -153,7 +153,7 @@ fn go_with_crew<G: Gate, L: Ledger, R: Threads + Wait + Sync>(
 ///
 /// # Errors
 ///
-/// Out of memory, or if a log would get longer than the limit, the world is given up.
+/// The world is dropped if out of memory, or if a log would get longer than the limit.
 pub fn go_alone<L: Ledger>(
     alloc: Global,
     world: LinkWorld,
@@ -166,7 +166,7 @@ pub fn go_alone<L: Ledger>(
     go_in_place(alloc, world, false, steps)
 }
 
-// Makes rounds in the caller's thread until one pays for a crew. The gate may ask for a crew at once.
+// Makes rounds in the caller's thread until a crew pays off. The gate may require a crew immediately.
 fn go_until_shared<G: Gate, L: Ledger>(
     alloc: Global,
     gate: &G,
@@ -182,12 +182,12 @@ fn go_until_shared<G: Gate, L: Ledger>(
     go_in_place(alloc, world, true, steps)
 }
 
-/// Makes all rounds: in the caller's thread until two stations or more have something due in one round, and from then
-/// on by a crew of this number of workers. The gate may ask for a crew at once.
+/// Makes all rounds. They run in the caller's thread until two or more stations have something due in one round. From
+/// then on a crew of this number of workers runs them. The gate may require a crew immediately.
 ///
 /// # Errors
 ///
-/// Out of memory, or if a log would get longer than the limit, the world is given up.
+/// The world is dropped if out of memory, or if a log would get longer than the limit.
 pub fn go_to_end<G: Gate, L: Ledger, R: Threads + Wait + Sync>(
     rt: &R,
     alloc: Global,
@@ -202,7 +202,7 @@ pub fn go_to_end<G: Gate, L: Ledger, R: Threads + Wait + Sync>(
 {
     match go_until_shared(alloc, gate, world, steps) {
         Ok(world) => {
-            // No round is left that a crew could share out, so none is started.
+            // no round is left for a crew, so no thread is started
             if world.is_done() {
                 return Ok(world);
             }

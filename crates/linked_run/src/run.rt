@@ -29,7 +29,7 @@ pub struct LinkedWorld {
     pub rounds: u64,
 }
 
-// The world of all clones that the calls make, before the first round.
+// Opens the world of all clones that the calls create, before the first round.
 fn open_world(alloc: Global, model: &Arc<Model>, calls: &[Call]) -> Result<LinkWorld, NoMemory>
     requires accepted { AreAccepted model.now.value (base ∷ []) 0 calls.now }
     ensures opens { IfOk result (λ w. w ≡ record {
@@ -54,7 +54,7 @@ fn finish(world: LinkWorld) -> LinkedWorld
     let _valid = world.is_done();
     let rounds = world.rounds();
     let world = world.into_world();
-    // for its clauses: no log is beyond the limit
+    // recalls clauses: no log is beyond the limit
     let _short = world.lists();
     LinkedWorld { world, rounds }
 }
@@ -92,8 +92,8 @@ fn run_to_horizon<G: Gate, L: Ledger, R: Threads + Wait + Sync>(
     }
 }
 
-/// Runs a study in rounds, in the caller's thread: the world of a model takes the calls at front 0, which were accepted,
-/// and goes to the horizon. It waits for nobody, so its clauses promise that it returns.
+/// Runs a study in rounds, in the caller's thread. The world of a model takes the calls, which were accepted, at front
+/// 0, and advances to the horizon. It never waits, so its contract promises that it returns.
 ///
 /// # Errors
 ///
@@ -114,10 +114,10 @@ pub fn run_linked_sequentially<L: Ledger>(
     }
 }
 
-/// Runs a study in rounds with this number of workers: the world of a model takes the calls at front 0, which were
-/// accepted, and goes to the horizon. With one worker it is `run_linked_sequentially`.
+/// Runs a study in rounds with this number of workers. The world of a model takes the calls, which were accepted, at
+/// front 0, and advances to the horizon. With one worker it is `run_linked_sequentially`.
 ///
-/// No clause has a term for the workers or the gate.
+/// The contract does not depend on the number of workers or on the gate.
 ///
 /// # Errors
 ///

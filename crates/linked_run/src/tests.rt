@@ -1,4 +1,4 @@
-//! Runs in rounds of small networks, by values from outside.
+//! Tests of runs in rounds of small networks, against values computed by hand.
 ghost use Rattle.std.specs.Prelude.{◌≡◌, ◌<◌, ◌≤◌, IfSome, length};
 
 use crate::run::{LinkedWorld, run_linked, run_linked_sequentially};
@@ -51,13 +51,13 @@ name = \"out\"
 kind = \"sink\"
 ";
 
-/// The model of a text.
+/// Reads a model.
 fn model_of(alloc: Global, text: &str) -> Option<Arc<Model>> {
     let model = read_model(alloc, text.as_bytes()).ok()?;
     Arc::new(alloc, model).ok()
 }
 
-/// The next round of a world of two stations or more whose first two clocks are these.
+/// Makes the next round, if the world has these first two clocks and is not done.
 fn next_round<L: Ledger>(
     alloc: Global,
     world: LinkWorld,
@@ -73,7 +73,8 @@ fn next_round<L: Ledger>(
     world.round_in_place(alloc, steps).ok()
 }
 
-/// Whether the first two clocks of a network are these after no round, one and two, and the third round is the last.
+/// Whether the first two clocks of a network are 0 at first, these after one and two rounds, and the third round is the
+/// last.
 fn clocks_are<L: Ledger>(
     alloc: Global,
     model: Arc<Model>,
@@ -96,7 +97,7 @@ fn clocks_are<L: Ledger>(
     Some(world.is_done() && world.rounds() == 3)
 }
 
-/// The same, counted from 0.
+/// The same for a model's text.
 fn clocks_come(alloc: Global, text: &str, one: [u64; 2], two: [u64; 2]) -> Option<bool> {
     let model = model_of(alloc, text)?;
     clocks_are::<Brand>(alloc, model, one, two, Blank::new(1))
@@ -123,7 +124,7 @@ fn rounds_of(alloc: Global, text: &str) -> Option<u64> {
     Some(linked.rounds)
 }
 
-/// Counts the tasks of a crew, which shares out small work too.
+/// Counts the tasks of a crew that shares small work as well.
 #[derive(Drop)]
 struct Tasks {
     begun: AtomicU64,
@@ -141,7 +142,7 @@ impl Gate for Tasks {
     }
 }
 
-/// Whether four workers make three rounds of three tasks, and the desk has handled what it handles alone.
+/// Whether four workers make three rounds of three tasks, and the desk handles what it would handle alone.
 fn four_workers_make_the_rounds<L: Ledger, R: Threads + Wait + Sync>(
     rt: &R,
     alloc: Global,

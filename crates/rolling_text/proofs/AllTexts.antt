@@ -1,4 +1,4 @@
--- One text more is put, or cut off.
+-- One more text is put, or cut off.
 use Rattle.std.proofs.Common.{◌≡◌, ℕ, ◌+◌, ◌<◌, ◌≤◌, sym, ap, subst, ◌∙◌, arith, List, ◌∷◌, ◌++◌, Option}
 use Rattle.std.proofs.Common.{length, map, take, drop, get_or}
 use Rattle.std.proofs.lemmas.List.{drop_more, length-map, length-take-le, map-append, take-append-drop}
@@ -21,7 +21,7 @@ use Rattle.rolling_text.specs.Puts.{AreCut, IsCutOff}
 
 module _ (net : Net) (cs : List Clone) (c : ℕ) (there : c < length cs) (old mid new : Option (List ℕ))
     (before : IsAppended old (flat_map (clone_text net) (take c cs)) mid) where
-  -- where it is put whole, the texts so far and this one are there
+  -- if it is put whole, the texts so far are put, with this one
   pub put_whole : IsAppended mid (clone_text net (clone_at cs c)) new
       → IsAppended old (flat_map (clone_text net) (take (c + 1) cs)) new
   put_whole k =
@@ -41,7 +41,7 @@ texts_around net cs c there =
     ∙ ap (λ t. map (clone_text net) (take c cs) ++ t ∷ map (clone_text net) (drop (c + 1) cs))
     (sym (clone_text-clone_at net cs c)))
 
--- where the texts before one were put, and that one is cut off, all are
+-- if the texts before one were put, and that one is cut off, the texts are cut off
 pub all_cut : (net : Net) (cs : List Clone) (c : ℕ) → c < length cs → (old mid new : SinkView)
     → IsAppended old.bytes (flat_map (clone_text net) (take c cs)) mid.bytes → old.faults ≤ mid.faults
     → AreCounted c old.calls mid.calls → IsCutOff (clone_text net (clone_at cs c)) mid new

@@ -1,4 +1,4 @@
--- Spans that come one after the other, and the lines that are made of them.
+-- Consecutive spans, and the lines made of them.
 use Rattle.std.proofs.Common.{◌≡◌, ℕ, zero, suc, ◌+◌, ◌<◌, ◌≤◌, List, [], ◌∷◌, ◌++◌, length, drop, get_or}
 use Rattle.std.proofs.Common.{refl, sym, ap, subst, ◌∙◌, append_assoc, arith}
 use Rattle.std.proofs.lemmas.List.{drop_more}
@@ -14,7 +14,7 @@ use Rattle.rolling_text.specs.declared.text_span.TextSpan.{TextSpan}
 
 -- ---- AreJoined
 
--- one more, that begins where they end
+-- one more span, which begins where they end
 pub AreJoined-push : (c from : ℕ) (spans : List TextSpan) (until : ℕ) (s : TextSpan) → AreJoined c from spans until →
     s.c ≡ c → s.from ≡ until → until ≤ s.until → AreJoined c from (spans ++ s ∷ []) s.until
 AreJoined-push c from [] until s h is begins order =
@@ -37,7 +37,7 @@ AreJoined-ready traces c from (s ∷ spans) until there h (suc i) d below =
 
 -- ---- AreMade
 
--- the lines of all are those of each, one after the other
+-- the lines of all spans are those of each, joined
 pub AreMade-joined : {Z : Type 0} (traces : WorldTracesView) (c from : ℕ) (spans : List TextSpan) (until : ℕ)
     (buffers : List (Vec ℕ Z)) → AreJoined c from spans until → AreMade traces spans buffers →
     IsMade (span_between traces c from until) (bytes_of buffers)
@@ -63,7 +63,7 @@ AreMade-joined traces c from (s ∷ spans) until (b ∷ bs) h made =
 
 -- ---- bytes_of
 
--- the next buffer, and then the others
+-- the next buffer, followed by the others
 pub bytes_of-next : {Z : Type 0} (buffers : List (Vec ℕ Z)) (i : ℕ) (b : Vec ℕ Z) (bytes after : List ℕ) →
     i < length buffers → b ≡ get_or buffers i b → bytes ≡ b.items →
     bytes ++ (bytes_of (drop (i + 1) buffers) ++ after) ≡ bytes_of (drop i buffers) ++ after
@@ -72,7 +72,7 @@ bytes_of-next {Z} buffers i b bytes after below is value =
     ∙ sym (ap (λ l. bytes_of l ++ after) (drop_more buffers i b below)
     ∙ append_assoc (get_or buffers i b).items (bytes_of (drop (i + 1) buffers)) after)
 
--- after the last one there is none
+-- after the last buffer there is none
 pub bytes_of-end : {Z : Type 0} (buffers : List (Vec ℕ Z)) (i : ℕ) (after : List ℕ) → length buffers ≤ i →
     bytes_of (drop i buffers) ++ after ≡ after
 bytes_of-end buffers i after end = ap (λ l. bytes_of l ++ after) (drop_of_length-le buffers {i = i} end)

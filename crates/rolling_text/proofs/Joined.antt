@@ -1,4 +1,4 @@
--- Lines behind the margin.
+-- Lines after the margin.
 use Rattle.std.proofs.Common.{◌≡◌, ℕ, suc, ◌+◌, ◌-◌, ◌<◌, ◌≤◌, refl, sym}
 use Rattle.std.proofs.Common.{◌∙◌, ap, arith, List, ◌++◌, codes}
 use Rattle.std.proofs.Common.{get_or, append_assoc, length, take, drop, length-drop, length-append}
@@ -14,16 +14,16 @@ use Rattle.rolling_text.specs.Texts.{AreLeft, body, body_before, dropped_at, par
 use Rattle.rolling_text.proofs.Keeping.{IsJoined, dropped_within, joined_at}
 use Rattle.trace_report.specs.Outputs.{clone_text}
 
--- ---- a page with lines of the clone before this one, of which the end is dropped
+-- ---- a page with lines of the previous clone, whose last bytes are dropped
 
 module _ (net : Net) (valid : IsNet net) (cs : List Clone) (in_net : AreInNet net cs) (c dropped : ℕ)
     (there : c < length cs) (old : List ℕ) (margin : MARGIN ≤ length old)
     (left : AreLeft net cs c dropped (drop MARGIN old)) where
-  -- the lines on the page and the others are those of the clone before
+  -- the lines on the page and the others are those of the previous clone
   lengths : length (drop MARGIN old) + length left.others ≡ length (body_before net cs c)
   lengths = sym (length-append (drop MARGIN old) left.others) ∙ ap length left.before
 
-  -- the page behind the margin has what is dropped
+  -- the page has the dropped bytes after the margin
   pub can_drop : MARGIN + dropped ≤ length old
   can_drop =
       let a = lengths in
@@ -36,11 +36,11 @@ module _ (net : Net) (valid : IsNet net) (cs : List Clone) (in_net : AreInNet ne
   abbrev time : ℕ
   time = parting_at net cs c
 
-  -- how many bytes of lines are kept
+  -- the number of bytes that are kept
   abbrev bytes : ℕ
   bytes = length old - dropped - MARGIN
 
-  -- these and the clone's own rest are its lines
+  -- the kept lines and the clone's own rest are its lines
   joined : IsJoined net cs c bytes time
   joined =
       let a = lengths in
@@ -50,14 +50,14 @@ module _ (net : Net) (valid : IsNet net) (cs : List Clone) (in_net : AreInNet ne
       joined_at net cs valid in_net (dropped_at net cs c) c bytes time there refl refl (omega (arith, a, b, d, w))
 
   module _ (cut : List ℕ) (is_cut : cut ≡ take (length old - dropped) old) where
-    -- how long the page is when it is cut
+    -- the length of the page after the cut
     long_cut : length cut ≡ length old - dropped
     long_cut =
         let b = ap length is_cut in
         let h : length (take (length old - dropped) old) ≡ length old - dropped = grind (arith, common_steps) in
         omega (arith, b, h)
 
-    -- behind the margin it has the first lines of the clone before
+    -- after the margin it has the first lines of the previous clone
     kept_lines : drop MARGIN cut ≡ take bytes (body_before net cs c)
     kept_lines =
         let w = can_drop in
@@ -71,13 +71,13 @@ module _ (net : Net) (valid : IsNet net) (cs : List Clone) (in_net : AreInNet ne
     pub kept_joined : drop MARGIN cut ++ rest net (clone_at cs c) time ≡ body net (clone_at cs c)
     kept_joined = ap (λ l. l ++ rest net (clone_at cs c) time) kept_lines ∙ sym joined.joins
 
-    -- and the margin is still there
+    -- the margin is unchanged
     pub margin_stays : MARGIN ≤ length cut
     margin_stays = let l = long_cut in let w = can_drop in omega (arith, l, w)
 
 -- ---- a page with the first lines of a clone
 
--- it still has free bytes for the others
+-- it still has room for the others
 pub rest_fits : (page rest body : List ℕ) (reserved : ℕ) → MARGIN ≤ length page → drop MARGIN page ++ rest ≡ body
     → MARGIN + length body ≤ reserved → length page + length rest ≤ reserved
 rest_fits page rest body reserved margin joined fits =
@@ -86,7 +86,7 @@ rest_fits page rest body reserved margin joined fits =
     let d = length-drop MARGIN page in
     omega (arith, a, b, d, margin, fits)
 
--- where lines move from what is left to a page, both together stay the lines of the clone
+-- if lines move from the rest to a page, both together are still the lines of the clone
 pub still_joined : (page now rest less body : List ℕ) → MARGIN ≤ length page → length page ≤ length now
     → now ++ less ≡ page ++ rest → drop MARGIN page ++ rest ≡ body → drop MARGIN now ++ less ≡ body
 still_joined page now rest less body margin longer moved joined =
@@ -115,7 +115,7 @@ text_is net k name piece lines rest e f h =
     ∙ ap (λ n. codes "clone " ++ (n ++ (codes "\n" ++ (lines ++ rest)))) f
     ∙ ap (λ l. codes "clone " ++ (k.name ++ (codes "\n" ++ l))) h ∙ all
 
--- the clone at a place, as lists of pieces have it
+-- the clone at a place, in terms of lists of pieces
 pub clone_text-clone_at : (net : Net) (cs : List Clone) (c : ℕ)
     → clone_text net (clone_at cs c) ≡ clone_text net (get_or cs c nobody)
 clone_text-clone_at net cs c = ap (clone_text net) (unwrap_or-slice_get cs c nobody)

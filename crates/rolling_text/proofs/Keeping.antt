@@ -1,4 +1,4 @@
--- How many bytes of the text before stay, by the lengths of what follows.
+-- The number of bytes that stay of the previous text, from the lengths of what follows.
 use Rattle.std.proofs.Common.{◌≡◌, ℕ, zero, suc, subst, ◌+◌, ◌-◌, ◌<◌, ◌≤◌, sym, ◌∙◌, ap}
 use Rattle.std.proofs.Common.{arith, List, ◌++◌, not, nat_lt, Bool, true, length, take, length-append}
 use Rattle.std.specs.List.{flat_map}
@@ -29,7 +29,7 @@ use Rattle.rolling_text.proofs.SamePlans.{tells_plans}
 
 -- ---- IsJoined
 
--- so many bytes of the clone before are kept, and then come the lines from a time on
+-- this number of bytes of the previous clone is kept, followed by the lines from a time on
 pub record IsJoined (net : Net) (cs : List Clone) (c bytes time : ℕ) : Type 0 where
   pub within : bytes ≤ length (body_before net cs c)
   pub joins : body net (clone_at cs c) ≡ take bytes (body_before net cs c) ++ rest net (clone_at cs c) time
@@ -45,12 +45,12 @@ rest_from_0 net c =
     (all_from (λ (e : Entry Msg Line). late e ≡ true) (trace_of net c)
     (λ e i. ap not (le-ltb e.msg.key.time 0 (omega arith)))))
 
--- ---- two clones that are in a network, of which the second is made of the first
+-- ---- two clones of a network, the second with first lines of the first
 
 module _ (net : Net) (valid : IsNet net) (c d : Clone)
     (c_ends : end_of (simulation net) c ≤ net.horizon) (d_ends : end_of (simulation net) d ≤ net.horizon)
     (c_there : AreForStations (simulation net) c.plans) (d_there : AreForStations (simulation net) d.plans) where
-  -- what stations do is lawful
+  -- stations handle messages lawfully
   abbrev law : HandlesLawfully (simulation net) (IsGood net)
   law = lawful-stations net valid
 
@@ -58,11 +58,11 @@ module _ (net : Net) (valid : IsNet net) (c d : Clone)
   abbrev stations : SendsToStations (simulation net) (IsGood net)
   stations = stations-to_stations net valid
 
-  -- and what they send is new
+  -- they send fresh messages
   abbrev fresh : HandlesFreshly (simulation net) (IsGood net) sender_of number_of next_number
   fresh = fresh-stations net valid
 
-  -- the time before which both have one trace
+  -- the time before which both have the same trace
   abbrev shared : ℕ
   shared = parting_of (simulation net) same_plan c d
 
@@ -70,7 +70,7 @@ module _ (net : Net) (valid : IsNet net) (c d : Clone)
   abbrev shared_lines : List ℕ
   shared_lines = flat_map (entry_line net) (entries_before (simulation net) shared (trace_of net d))
 
-  -- the lines of the first are those, and its rest
+  -- the lines of the first are the shared ones and its rest
   lines_before : body net c ≡ shared_lines ++ rest net c shared
   unfolding rest body
   lines_before =
@@ -81,13 +81,13 @@ module _ (net : Net) (valid : IsNet net) (c d : Clone)
       (entries_from (simulation net) shared (trace_of net c)))
       (agree_to_parting law same_plan c d (tells_plans net) c_ends d_ends)
 
-  -- so many bytes of the first, and the second's rest, are the lines of the second
+  -- the shared bytes of the first, and the second's rest, are the lines of the second
   lines_after : body net d ≡ take (length shared_lines) (body net c) ++ rest net d shared
   unfolding rest body
   lines_after = lines_agree law stations fresh same_plan c d (entry_line net) (tells_plans net) c_ends d_ends c_there
       d_there
 
-  -- where the first's rest is taken off its length, the bytes that both share are left
+  -- the first's length without its rest is the number of shared bytes
   shared_bytes : (bytes : ℕ) → bytes + length (rest net c shared) ≡ length (body net c) →
       (bytes ≤ length (body net c)) × (body net d ≡ take bytes (body net c) ++ rest net d shared)
   shared_bytes bytes e =
@@ -109,27 +109,27 @@ module _ (net : Net) (valid : IsNet net) (c d : Clone)
 first_joined : (net : Net) (cs : List Clone) → IsJoined net cs 0 0 0
 first_joined net cs = record { within = omega arith; joins = sym (rest_from_0 net (clone_at cs 0)) }
 
--- ---- every other keeps what it shares with the one before it
+-- ---- every other clone keeps what it shares with the previous one
 
 module _ (net : Net) (valid : IsNet net) (cs : List Clone) (in_net : AreInNet net cs) (c : ℕ) (some : 1 ≤ c)
     (there : c < length cs) where
-  -- the clone before it
+  -- the previous clone
   abbrev old : Clone
   old = clone_at cs (c - 1)
 
-  -- the time before which the two have one trace
+  -- the time before which the two have the same trace
   abbrev time : ℕ
   time = parting_with_last net cs c
 
-  -- the lines before are those of the clone before it
+  -- the lines before are those of the previous clone
   before_is : body_before net cs c ≡ body net old
   before_is = let e : c ≡ suc (c - 1) = omega arith in ap (body_before net cs) e
 
-  -- which is there
+  -- the previous clone exists
   there_old : c - 1 < length cs
   there_old = omega (arith, there)
 
-  -- what is taken off the length of the lines before is within it
+  -- the rest is no longer than the lines before
   next_fits : length (rest net old time) ≤ length (body_before net cs c)
   next_fits =
       let a = rest_short net valid old (clone_at cs c) (in_net.ends (c - 1) there_old) (in_net.ends c there)
@@ -137,7 +137,7 @@ module _ (net : Net) (valid : IsNet net) (cs : List Clone) (in_net : AreInNet ne
       let b = ap length before_is in
       omega (arith, a, b)
 
-  -- where that is taken off, the bytes that are left are kept
+  -- without the rest, the remaining bytes are kept
   next_joined : (bytes : ℕ) → bytes + length (rest net old time) ≡ length (body_before net cs c)
       → IsJoined net cs c bytes time
   next_joined bytes e =
@@ -149,19 +149,19 @@ module _ (net : Net) (valid : IsNet net) (cs : List Clone) (in_net : AreInNet ne
         joins = h.1 ∙ ap (λ b. take bytes b ++ rest net (clone_at cs c) time) (sym before_is);
       }
 
--- ---- each clone keeps what it shares with the one before it, if there is one
+-- ---- each clone keeps what it shares with the previous one, if there is one
 
 module _ (net : Net) (cs : List Clone) where
   -- the lines of the first clone are its own from time 0 on
   pub parting_none : (c n : ℕ) → c ≡ 0 → n ≡ 0 → n ≡ parting_at net cs c
   parting_none c n e z = z ∙ ap (parting_at net cs) (sym e)
 
-  -- those of any other from the time before which its trace is that of the clone before it
+  -- the lines of any other are its own from the time before which its trace is that of the previous clone
   pub parting_some : (c n : ℕ) → 1 ≤ c → n ≡ parting_with_last net cs c → n ≡ parting_at net cs c
   parting_some zero n l e = absurd (omega (arith, l))
   parting_some (suc c) n l e = e
 
-  -- what follows in a clone's lines from where the next one parts is what the next one drops
+  -- the lines of a clone after the next one parts from it are dropped by the next one
   pub dropped_next : (c after next : ℕ) → after ≡ length (rest net (clone_at cs c) next)
       → next ≡ parting_at net cs (c + 1) → after ≡ dropped_at net cs (c + 1)
   dropped_next c after next e n =
@@ -180,7 +180,7 @@ module _ (net : Net) (cs : List Clone) where
         let h = next_fits net valid cs in_net (suc c) (omega arith) there in
         omega (arith, h, d)
 
-    -- the bytes before that are kept
+    -- the bytes before the dropped ones are kept
     pub joined_at : (c bytes time : ℕ) → c < length cs → dropped ≡ dropped_at net cs c → time ≡ parting_at net cs c
         → bytes + dropped ≡ length (body_before net cs c) → IsJoined net cs c bytes time
     joined_at zero bytes time there d t e =

@@ -1,4 +1,5 @@
--- The logs of a world at the horizon: their keys fit words, they rise, and merged or measured they are a clone's rest.
+-- The logs of a world at the horizon: their keys fit 64 bits and rise; merged or measured, the logs are the rest of a
+-- clone's trace.
 use Rattle.std.proofs.Common.{◌≡◌, ℕ, zero, suc, ◌+◌, ◌<◌, ◌≤◌, Bool, true, false, not, nat_lt, if◌then◌else◌, List}
 use Rattle.std.proofs.Common.{[], ◌∷◌, ◌++◌, refl, sym, ap, ap₂, ◌∙◌, subst, arith, length, sum_by, length-append}
 use Rattle.std.proofs.Common.{drop, ◌-◌}
@@ -51,7 +52,7 @@ length-from_time t es =
     omega (arith, length-filter late es, count_by-le-length late es) in
     short
 
--- from a later time on, what comes from an earlier one on has all
+-- the entries from a later time on are among those from an earlier time on
 pub later_of_rest : (early late : ℕ) (es : List (Entry Msg Line)) → early ≤ late
     → from_time late (from_time early es) ≡ from_time late es
 later_of_rest early late [] l = refl
@@ -72,7 +73,7 @@ later_of_rest early late (e ∷ es) l =
         let late_is = ltb-false e.msg.key.time late q in
         absurd (omega (arith, l, early_is, late_is))
 
--- an entry before a time is none of those from it on
+-- an entry before a time is not among those from the time on
 early_left : (t : ℕ) (e : Entry Msg Line) (es : List (Entry Msg Line)) → e.msg.key.time < t
     → from_time t (e ∷ es) ≡ from_time t es
 early_left t e es l = by (nat_lt e.msg.key.time t) refl
@@ -92,19 +93,19 @@ late_stays t e es l = by (nat_lt e.msg.key.time t) refl
     by false p = refl
     by true p = let early = ltb-true e.msg.key.time t p in absurd (omega (arith, l, early))
 
--- where a list rises and its first entry is at a time or later, all are
+-- if a list rises and its first entry is at a time or later, all entries are
 pub all_late : (t : ℕ) (e : Entry Msg Line) (es : List (Entry Msg Line)) → RiseByTime (e ∷ es) → t ≤ e.msg.key.time
     → from_time t (e ∷ es) ≡ e ∷ es
 all_late t e [] r l = late_stays t e [] l
 all_late t e (f ∷ fs) r l =
     late_stays t e (f ∷ fs) l ∙ ap (λ k. e ∷ k) (all_late t f fs r.1 (let m = r.0.0 in omega (arith, l, m)))
 
--- of entries before a time none is left from it on
+-- if all entries are before a time, there are none from the time on
 none_late : (t : ℕ) (es : List (Entry Msg Line)) → AllByRecursion (λ e. e.msg.key.time < t) es → from_time t es ≡ []
 none_late t [] h = refl
 none_late t (e ∷ es) h = early_left t e es h.0 ∙ none_late t es h.1
 
--- those from a time on of those from a later time on are those
+-- the entries from a later time on are the same among those from an earlier time on
 late_twice : (early late : ℕ) (es : List (Entry Msg Line)) → early ≤ late
     → from_time early (from_time late es) ≡ from_time late es
 late_twice early late es l =
@@ -113,7 +114,7 @@ late_twice early late es l =
 
 -- ---- RiseByTime
 
--- some of the numbers that a list's times are not below are not below those of some entries
+-- a bound below the times of a list is below those of some of its entries
 some_above : (n : ℕ) (keep : Entry Msg Line → Bool) (es : List (Entry Msg Line))
     → AllByRecursion (λ m. n ≤ m) (times_of es) → AllByRecursion (λ m. n ≤ m) (times_of (filter keep es))
 some_above n keep [] h = tt
@@ -139,7 +140,7 @@ rise_from t es h = rise_filter (λ e. not (nat_lt e.msg.key.time t)) es h
 
 -- ---- merge
 
--- two lists in order as one have as many elements as both
+-- a merged list has the length of both lists
 pub merge_length : {X : Type 0} (cmp : X → X → Ordering) (xs ys : List X)
     → length (merge cmp xs ys) ≡ length xs + length ys
 merge_length {X = X} cmp [] ys = omega arith
@@ -164,7 +165,7 @@ module _ (world : WorldView) (over : IsOver world) (c : ℕ) (there : c < length
   abbrev net : Net
   net = world.net
 
-  -- the simulation of that
+  -- its simulation
   abbrev sim : Simulation StateView Msg Line
   sim = simulation net
 
@@ -172,7 +173,7 @@ module _ (world : WorldView) (over : IsOver world) (c : ℕ) (there : c < length
   abbrev clone : Clone
   clone = clone_at world.clones c
 
-  -- its decisions and its logs are few enough for numbers that fit words
+  -- its decisions and logs are few enough for numbers of 64 bits
   counted : HasFewNumbers net clone world.front
   counted = record {
     there = over.in_net.plans c there;
@@ -180,7 +181,7 @@ module _ (world : WorldView) (over : IsOver world) (c : ℕ) (there : c < length
     within = over.within c there;
   }
 
-  -- the keys of its logs fit words
+  -- the keys of its logs fit 64 bits
   log_fits : (s : ℕ) → FitWords (log_at net clone s world.front)
   log_fits s = all_from (λ (e : Entry Msg Line). FitsWord e.msg.key) (log_at net clone s world.front) (λ e i.
       let small = log_keys-small net over.valid clone s world.front e counted i in
@@ -191,13 +192,13 @@ module _ (world : WorldView) (over : IsOver world) (c : ℕ) (there : c < length
       let few = over.valid.few in
       record { time = omega (arith, early, done, soon); sender = omega (arith, sender, few); number = small.1.number })
 
-  -- a cursor may take it, from any time on
+  -- a cursor may take the log, from any time on
   pub walk_fits : (s t : ℕ) (log walk : List (Entry Msg Line)) → log ≡ log_at net clone s world.front
       → walk ≡ from_time t log → FitWords walk
   walk_fits s t log walk e f = subst FitWords (sym (f ∙ ap (from_time t) e))
       (fit_from t (log_at net clone s world.front) (log_fits s))
 
-  -- no entry of a log of the clone is of a later time than one behind it
+  -- the entries of a log of the clone are in order of time
   pub log_rises_by_time : (s : ℕ) (log : List (Entry Msg Line)) → log ≡ log_at net clone s world.front → RiseByTime log
   log_rises_by_time s log e = subst RiseByTime (sym e) (rise_by_time (log_at net clone s world.front)
       (log_rises (lawful-stations net over.valid) (stations-to_stations net over.valid)
@@ -208,7 +209,7 @@ module _ (world : WorldView) (over : IsOver world) (c : ℕ) (there : c < length
       → walk ≡ from_time t log → walk ≡ entries_from sim t (log_at net clone s net.horizon)
   walk_is s t log walk e f = f ∙ ap (from_time t) (e ∙ ap (log_at net clone s) over.done)
 
-  -- one log more is merged
+  -- one more log is merged
   pub merge_of_rests-next : (i t : ℕ) (left log walk new : List (Entry Msg Line))
       → left ≡ merge_of_rests sim sender_of number_of clone t i →
       log ≡ log_at net clone (i + 1) world.front → walk ≡ from_time t log → new ≡ merge by_key left walk
@@ -219,7 +220,7 @@ module _ (world : WorldView) (over : IsOver world) (c : ℕ) (there : c < length
       ∙ ap (λ s. entries_from sim t (log_at net clone s net.horizon)) up)
       ∙ ap (merge_of_rests sim sender_of number_of clone t) (sym up)
 
-  -- all of them are the trace from the time on
+  -- all logs together are the trace from the time on
   pub all_gathered : (n t : ℕ) (left : List (Entry Msg Line)) → n ≡ length net.sites
       → left ≡ merge_of_rests sim sender_of number_of clone t n → left ≡ entries_from sim t (trace_of net clone)
   all_gathered n t left many e =
@@ -227,7 +228,7 @@ module _ (world : WorldView) (over : IsOver world) (c : ℕ) (there : c < length
       ∙ rest_is_merge (lawful-stations net over.valid) (stations-to_stations net over.valid)
       (fresh-stations net over.valid) clone t (over.in_net.plans c there)
 
-  -- one log more has as many entries more
+  -- the entries of one more log are counted
   pub counted_log : (i t : ℕ) (log : List (Entry Msg Line)) → log ≡ log_at net clone (i + 1) world.front
       → length (merge_of_rests sim sender_of number_of clone t (i + 1))
       ≡ length (merge_of_rests sim sender_of number_of clone t i) + length (from_time t log)
@@ -237,13 +238,13 @@ module _ (world : WorldView) (over : IsOver world) (c : ℕ) (there : c < length
       refl refl))
       ∙ merge_length by_key left (from_time t log)
 
-  -- how long the lines of a log are that a world tells
+  -- the length of the lines of a log of the world
   pub log_measured : (t s : ℕ) (log : List (Entry Msg Line)) → log ≡ log_at net clone s world.front
       → sum_by (λ e. length (entry_line net e)) (from_time t log) ≡ log_length net clone t s
   log_measured t s log e = ap (sum_by (λ (x : Entry Msg Line). length (entry_line net x)))
       (walk_is s t log (from_time t log) e refl)
 
-  -- and so how long those between two times are
+  -- the length of the lines between two times
   pub span_measured : (model : Net) → model ≡ net → (s from until len : ℕ) (log : List (Entry Msg Line))
       → log ≡ log_at net clone s world.front
       → len + sum_by (λ e. length (entry_line model e)) (from_time until log)
@@ -258,7 +259,7 @@ module _ (world : WorldView) (over : IsOver world) (c : ℕ) (there : c < length
       let b = of until in
       omega (arith, a, b, h)
 
-  -- the lengths of all logs are together that of the rest
+  -- the lengths of all logs together are that of the rest
   pub all_measured : (n t : ℕ) → n ≡ length net.sites → first_lengths net clone t n ≡ length (rest net clone t)
   unfolding rest first_lengths
   all_measured n t many =
@@ -275,7 +276,7 @@ module _ (world : WorldView) (over : IsOver world) (c : ℕ) (there : c < length
       let done = over.done in
       omega (arith, early, done, late)))
 
-  -- so there are no entries
+  -- there are no entries from the horizon on
   pub none_over : (t : ℕ) → net.horizon ≤ t → length (entries_from sim t (trace_of net clone)) ≡ 0
   none_over t late = sym (ap length (all_gathered (length net.sites) t
       (merge_of_rests sim sender_of number_of clone t (length net.sites)) refl refl)) ∙ none (length net.sites)
@@ -290,7 +291,7 @@ module _ (world : WorldView) (over : IsOver world) (c : ℕ) (there : c < length
           ap (λ m. length (merge_of_rests sim sender_of number_of clone t m)) (sym up)
           ∙ omega (arith, more, here, before)
 
-  -- and no lines
+  -- there are no lines from the horizon on
   no_rest : (t : ℕ) → net.horizon ≤ t → length (rest net clone t) ≡ 0
   unfolding first_lengths
   no_rest t late = sym (all_measured (length net.sites) t refl) ∙ none (length net.sites)
@@ -303,7 +304,7 @@ module _ (world : WorldView) (over : IsOver world) (c : ℕ) (there : c < length
       none zero = refl
       none (suc n) = let a = none n in let b = log_ends (suc n) in omega (arith, a, b)
 
-  -- what comes from a time on is what comes before another, and then what comes from there on
+  -- the entries from a time on are those before a later time, and then those from there on
   trace_splits : (early late : ℕ) → early ≤ late → (part : List (Entry Msg Line))
       × (entries_from sim early (trace_of net clone) ≡ part ++ entries_from sim late (trace_of net clone))
   trace_splits early late l =
@@ -316,7 +317,7 @@ module _ (world : WorldView) (over : IsOver world) (c : ℕ) (there : c < length
             ∙ ap (λ k. entries_from sim early first ++ k) (late_twice early late trace l),
       )
 
-  -- so from a later time on there are no more entries
+  -- there are no more entries from a later time on
   pub fewer_later : (early late all some : ℕ) → early ≤ late
       → all ≡ length (entries_from sim early (trace_of net clone))
       → some ≡ length (entries_from sim late (trace_of net clone)) → some ≤ all
@@ -326,7 +327,7 @@ module _ (world : WorldView) (over : IsOver world) (c : ℕ) (there : c < length
       let d = length-append split.0 (entries_from sim late (trace_of net clone)) in
       omega (arith, a, s, b, d)
 
-  -- and those that there are more come first
+  -- the additional entries come first
   pub left_later : (early late all some : ℕ) → early ≤ late
       → all ≡ length (entries_from sim early (trace_of net clone))
       → some ≡ length (entries_from sim late (trace_of net clone))
@@ -340,12 +341,12 @@ module _ (world : WorldView) (over : IsOver world) (c : ℕ) (there : c < length
 
 -- ---- the lengths of the logs of the first stations
 
--- no station has no lines
+-- without stations there are no lines
 pub lengths_none : (net : Net) (c : Clone) (t : ℕ) → first_lengths net c t 0 ≡ 0
 unfolding first_lengths
 lengths_none net c t = refl
 
--- one station more has those of its log
+-- one more station adds the lines of its log
 pub lengths_more : (net : Net) (c : Clone) (t n : ℕ)
     → first_lengths net c t (n + 1) ≡ first_lengths net c t n + log_length net c t (n + 1)
 unfolding first_lengths
@@ -354,17 +355,17 @@ lengths_more net c t n =
     ap (station_sum (log_length net c t)) up
     ∙ ap (λ s. station_sum (log_length net c t) n + log_length net c t s) (sym up)
 
--- ---- the same of what contracts see of a world's traces
+-- ---- the same for a world's traces as contracts see them
 
 module _ (world : WorldView) (over : IsOver world) (view : WorldTracesView) (cs : List Clone)
     (seen : record { net = world.net; clones = cs } ≡ view) (c k : ℕ) (there : k < length world.clones)
     (same : clone_at cs c ≡ clone_at world.clones k) where
-  -- what holds of the clone in the world holds of the one that is seen
+  -- a property of the clone in the world holds of the clone as contracts see it
   pub as_seen : (P : Net → Clone → Type 0) → P world.net (clone_at world.clones k) →
       P view.net (clone_at view.clones c)
   as_seen P h = subst (λ (v : WorldTracesView). P v.net (clone_at v.clones c)) seen (subst (P world.net) (sym same) h)
 
-  -- and the other way round
+  -- the converse
   pub in_world : (P : Net → Clone → Type 0) → P view.net (clone_at view.clones c) →
       P world.net (clone_at world.clones k)
   in_world P h =
@@ -376,7 +377,7 @@ module _ (world : WorldView) (over : IsOver world) (view : WorldTracesView) (cs 
 
 -- ---- rest
 
--- the lines of what a cursor was given are the clone's rest
+-- the lines of the entries in a filled cursor are the clone's rest
 pub lines_are : (net model : Net) (c : Clone) (t : ℕ) (left : List (Entry Msg Line)) → model ≡ net
     → left ≡ entries_from (simulation net) t (trace_of net c) → flat_map (entry_line model) left ≡ rest net c t
 unfolding rest

@@ -11,10 +11,10 @@ use Rattle.sim_base.specs.declared.decision.Planned.{Planned}
 use Rattle.sim_base.proofs.SamePlans.{same_plan-Decides}
 use Rattle.run_laws.specs.SharedTexts.{parting_time}
 
--- ---- parting_time, by any test of two decisions
+-- ---- parting_time, for any test of two decisions
 
 module _ (same : Planned → Planned → Bool) where
-  -- a time taken in at the end may be taken in first
+  -- a time may be compared at the end or first
   least_first : (x most : ℕ) (ps qs : List Planned) →
       min x (parting_time same most ps qs) ≡ parting_time same (min most x) ps qs
   least_first x most [] [] = grind arith
@@ -29,7 +29,7 @@ module _ (same : Planned → Planned → Bool) where
       by true h = h
       by false h = grind (arith, h)
 
-  -- one place more of both lists, where they have the same there, leaves the parting as it is
+  -- with one more place at which both lists agree, the parting is the same
   both_more : (least : ℕ) (ps qs : List Planned) (i : ℕ) (d e : Planned) → i < length ps → i < length qs
       → same (get_or ps i d) (get_or qs i e) ≡ true →
       parting_time same least (drop i ps) (drop i qs) ≡ parting_time same least (drop (i + 1) ps) (drop (i + 1) qs)
@@ -39,7 +39,7 @@ module _ (same : Planned → Planned → Bool) where
       else min (min (get_or ps i d).at (get_or qs i e).at)
       (parting_time same least (drop (i + 1) ps) (drop (i + 1) qs))) h
 
-  -- and where they have not, it does so with the lesser of the two times taken in
+  -- with one more place at which they differ, it is the same with the lesser of the two times included
   other_more : (least : ℕ) (ps qs : List Planned) (i : ℕ) (d e : Planned) → i < length ps → i < length qs
       → same (get_or ps i d) (get_or qs i e) ≡ false →
       parting_time same least (drop i ps) (drop i qs) ≡ parting_time same
@@ -51,18 +51,18 @@ module _ (same : Planned → Planned → Bool) where
       (parting_time same least (drop (i + 1) ps) (drop (i + 1) qs))) h
       ∙ least_first (min (get_or ps i d).at (get_or qs i e).at) least (drop (i + 1) ps) (drop (i + 1) qs)
 
-  -- of one list alone
+  -- the same for one list alone
   one_more : (least : ℕ) (ps : List Planned) (i : ℕ) (d : Planned) → i < length ps →
       parting_time same least (drop i ps) [] ≡ parting_time same (min least (get_or ps i d).at) (drop (i + 1) ps) []
   one_more least ps i d l = ap (λ xs. parting_time same least xs []) (drop_more ps i d l)
       ∙ least_first (get_or ps i d).at least (drop (i + 1) ps) []
 
-  -- it is the same whichever list comes first, where the other one is empty
+  -- the order of the lists does not matter if one is empty
   parting_time-turned : (least : ℕ) (qs : List Planned) → parting_time same least [] qs ≡ parting_time same least qs []
   parting_time-turned least [] = refl
   parting_time-turned least (q ∷ qs) = ap (min q.at) (parting_time-turned least qs)
 
-  -- where one list has ended, the other one is left
+  -- if one list has ended, the rest of the other is left
   parting_time-tails : (least : ℕ) (ps qs : List Planned) → (ps ≡ []) ⊎ (qs ≡ [])
       → parting_time same least ps qs ≡ parting_time same (parting_time same least ps []) qs []
   parting_time-tails least ps qs h = elim h [
@@ -72,23 +72,23 @@ module _ (same : Planned → Planned → Bool) where
         ∙ ap (λ xs. parting_time same (parting_time same least ps []) xs []) (sym b)
   ]
 
--- ---- as the loops go on, each with its result so far
+-- ---- the loops, each with its result so far
 
 module _ (least most : ℕ) (ps qs : List Planned) (i : ℕ) (d e : Planned) (in_ps : i < length ps)
     (in_qs : i < length qs) (r : Bool)
     (decides : Decides r (get_or ps i d ≡ get_or qs i e))
     (so_far : parting_time same_plan least (drop i ps) (drop i qs) ≡ parting_time same_plan most ps qs) where
-  -- what tells equal decisions tells what is the same
+  -- a test for equal decisions is one for the same decisions
   told_apart : r ≡ same_plan (get_or ps i d) (get_or qs i e)
   told_apart = same_from_decides r (same_plan (get_or ps i d) (get_or qs i e)) decides
       (same_plan-Decides (get_or ps i d) (get_or qs i e))
 
-  -- where the decisions at the place are equal, one place more of both lists leaves the result as it is
+  -- if the decisions at the place are equal, one more place leaves the result unchanged
   pub equal_next : r ≡ true →
       parting_time same_plan least (drop (i + 1) ps) (drop (i + 1) qs) ≡ parting_time same_plan most ps qs
   equal_next h = sym (both_more same_plan least ps qs i d e in_ps in_qs (sym told_apart ∙ h)) ∙ so_far
 
-  -- where they are not, so does one place more with the lesser of their times taken in
+  -- if they differ, one more place with the lesser of their times included leaves it unchanged
   pub other_next : (both new : ℕ) → r ≡ false → both ≡ min (get_or ps i d).at (get_or qs i e).at → new
       ≡ min least both →
       parting_time same_plan new (drop (i + 1) ps) (drop (i + 1) qs) ≡ parting_time same_plan most ps qs
@@ -96,7 +96,7 @@ module _ (least most : ℕ) (ps qs : List Planned) (i : ℕ) (d e : Planned) (in
       ap (λ t. parting_time same_plan t (drop (i + 1) ps) (drop (i + 1) qs)) (n ∙ ap (min least) b)
       ∙ sym (other_more same_plan least ps qs i d e in_ps in_qs (sym told_apart ∙ h)) ∙ so_far
 
--- where one list alone is left, one place more of it, with its time taken in, leaves the result as it is
+-- if only one list is left, one more place with its time included leaves the result unchanged
 pub list_next : (least most new : ℕ) (ps : List Planned) (i : ℕ) (d : Planned) → i < length ps
     → new ≡ min least (get_or ps i d).at →
     parting_time same_plan least (drop i ps) [] ≡ parting_time same_plan most ps []
@@ -104,7 +104,7 @@ pub list_next : (least most new : ℕ) (ps : List Planned) (i : ℕ) (d : Planne
 list_next least most new ps i d l n h = ap (λ t. parting_time same_plan t (drop (i + 1) ps) []) n
     ∙ sym (one_more same_plan least ps i d l) ∙ h
 
--- behind the places that both have, one of the lists has ended
+-- after the places that both lists have, one of them has ended
 pub lists_end : (least most : ℕ) (ps qs : List Planned) (i : ℕ) (left last : ℕ) → i ≡ min (length ps) (length qs) →
     parting_time same_plan least (drop i ps) (drop i qs) ≡ parting_time same_plan most ps qs →
     left ≡ parting_time same_plan least (drop i ps) [] → last ≡ parting_time same_plan left (drop i qs) []

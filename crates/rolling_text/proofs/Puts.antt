@@ -10,7 +10,7 @@ use Rattle.rolling_text.specs.Puts.{IsPartPut, IsPut, IsCutOff, IsPutTo}
 
 -- ---- IsPartPut, IsPut, IsCutOff
 
--- nothing was taken yet
+-- nothing is taken at first
 taken_none : (v : SinkView) → IsPartPut [] v v
 taken_none v = record { bytes = appended_nothing v.bytes; later = omega arith; same = refl }
 
@@ -23,7 +23,7 @@ taken_then a b old mid new h k = let x = h.later in let y = k.later in record {
   same = k.same ∙ h.same;
 }
 
--- and then the rest, which ends the call
+-- then the rest, which ends the call
 put_then : (a b : List ℕ) (old mid new : SinkView) → IsPartPut a old mid → IsPut b mid new → IsPut (a ++ b) old new
 put_then a b old mid new h k = let x = h.later in let y = k.later in record {
   bytes = appended_then a b old.bytes mid.bytes new.bytes h.bytes k.bytes;
@@ -31,11 +31,11 @@ put_then a b old mid new h k = let x = h.later in let y = k.later in record {
   counted = subst (λ n. IsCounted n new.calls) h.same k.counted;
 }
 
--- a count that rose from a later value on rose from an earlier one on
+-- a count that has risen since a later point has risen since an earlier one
 rose_earlier : (a b c : ℕ) → a ≤ b → HasRisen b c → HasRisen a c
 rose_earlier a b c l r = omega (arith, l, r)
 
--- one part was taken, and another cut off, to which more would have come
+-- one part was taken, and the next was cut off, with more to come
 pub cut_then : (a b c : List ℕ) (old mid new : SinkView) → IsPartPut a old mid → IsCutOff b mid new
     → IsCutOff (a ++ (b ++ c)) old new
 cut_then a b c old mid new h k = let x = h.later in let y = k.later in record {
@@ -45,7 +45,7 @@ cut_then a b c old mid new h k = let x = h.later in let y = k.later in record {
   counted = subst (λ n. IsCounted n new.calls) h.same k.counted;
 }
 
--- where the first part of what is left is cut off, all that is left is
+-- if the first part of the rest is cut off, all of the rest is
 pub cut_part : (part others left : List ℕ) (old new : SinkView) → part ++ others ≡ left → IsCutOff part old new
     → IsCutOff left old new
 cut_part part others left old new e h =
@@ -54,7 +54,7 @@ cut_part part others left old new e h =
 -- ---- IsPutTo
 
 module _ (keeps : Bool) where
-  -- nothing was put yet
+  -- nothing is put at first
   pub put_none : (all : List ℕ) (p : PageView) (v : SinkView) → IsPutTo keeps all all p p v v
   put_none all p v =
       record { done = []; parts = refl; taken = taken_none v; page_is = none keeps; reserved = omega arith }
@@ -63,7 +63,7 @@ module _ (keeps : Bool) where
       none true = sym (append-nil p.text)
       none false = sym (append-nil p.text)
 
-  -- what is left by some that was put is put up to less
+  -- putting some, and then some of the rest
   pub put_on : (all left less : List ℕ) (p q r : PageView) (old mid new : SinkView) → IsPutTo keeps all left p q old mid
       → IsPutTo keeps left less q r mid new → IsPutTo keeps all less p r old new
   put_on all left less p q r old mid new h k = let x = h.reserved in let y = k.reserved in record {
@@ -79,7 +79,7 @@ module _ (keeps : Bool) where
       both true e f = f ∙ ap (λ t. t ++ k.done) e ∙ append_assoc p.text h.done k.done
       both false e f = f ∙ append-nil q.text ∙ e
 
-  -- the first part of what is left was put
+  -- the first part of the rest was put
   pub put_part : (part others left : List ℕ) (p q : PageView) (old new : SinkView) → part ++ others ≡ left
       → IsPutTo keeps part [] p q old new → IsPutTo keeps left others p q old new
   put_part part others left p q old new e h = record {
@@ -90,14 +90,14 @@ module _ (keeps : Bool) where
     reserved = h.reserved;
   }
 
-  -- some was put, and then what is left was cut off
+  -- some was put, and then the rest was cut off
   pub put_cut : (all left : List ℕ) (p q : PageView) (old mid new : SinkView) → IsPutTo keeps all left p q old mid
       → IsCutOff left mid new → IsCutOff all old new
   put_cut all left p q old mid new h k =
       subst (λ l. IsCutOff l old new) (ap (λ l. h.done ++ l) (append-nil left) ∙ h.parts)
       (cut_then h.done left [] old mid new h.taken k)
 
-  -- what is left fits behind a page where all did
+  -- the rest fits after the page, if all did
   pub left_fits : (all left : List ℕ) (p q : PageView) (old new : SinkView) → IsPutTo keeps all left p q old new
       → (keeps ≡ true → length p.text + length all ≤ p.reserved)
       → keeps ≡ true → length q.text + length left ≤ q.reserved
@@ -110,7 +110,7 @@ module _ (keeps : Bool) where
       let f = h.reserved in
       omega (arith, a, b, c, d, e, f)
 
--- and the first part of it
+-- the first part of it fits
 pub part_fits : (part others left text : List ℕ) (reserved : ℕ) → part ++ others ≡ left
     → length text + length left ≤ reserved → length text + length part ≤ reserved
 part_fits part others left text reserved e h =
@@ -118,20 +118,20 @@ part_fits part others left text reserved e h =
     let b = length-append part others in
     omega (arith, a, b, h)
 
--- ---- a text: its head, what is left of it, and the end of the call
+-- ---- a text: its head, the rest, and the end of the call
 
 module _ (head rest text : List ℕ) (is : head ++ rest ≡ text) (v0 v1 v2 : SinkView) where
-  -- taken whole
+  -- the whole text was taken
   pub text_put : (v3 : SinkView) → IsPartPut head v0 v1 → IsPartPut rest v1 v2 → IsPut [] v2 v3 → IsPut text v0 v3
   text_put v3 a b c = subst (λ l. IsPut l v0 v3) (append-nil (head ++ rest) ∙ is)
       (put_then (head ++ rest) [] v0 v2 v3 (taken_then head rest v0 v1 v2 a b) c)
 
-  -- cut off behind its head
+  -- cut off after its head
   pub rest_cut : IsPartPut head v0 v1 → IsCutOff rest v1 v2 → IsCutOff text v0 v2
   rest_cut a b = subst (λ l. IsCutOff l v0 v2) (ap (λ l. head ++ l) (append-nil rest) ∙ is)
       (cut_then head rest [] v0 v1 v2 a b)
 
-  -- and where it ends
+  -- cut off at its end
   pub end_cut : (v3 : SinkView) → IsPartPut head v0 v1 → IsPartPut rest v1 v2 → IsCutOff [] v2 v3 → IsCutOff text v0 v3
   end_cut v3 a b c = subst (λ l. IsCutOff l v0 v3) (append-nil (head ++ rest) ∙ is)
       (cut_then (head ++ rest) [] [] v0 v2 v3 (taken_then head rest v0 v1 v2 a b) c)
@@ -143,7 +143,7 @@ pub put_kept : (keeps : Bool) (all left : List ℕ) (p q : PageView) (old new : 
     IsPutTo keeps all left p q old new → IsPutTo true all left p q old new
 put_kept keeps all left p q old new is h = subst (λ k. IsPutTo k all left p q old new) is h
 
--- some of it is kept, and what comes then is put alone
+-- some of it is kept, and the rest is put without a page
 pub both_taken : (all left less : List ℕ) (p q r : PageView) (old mid new : SinkView) → less ≡ []
     → IsPutTo true all left p q old mid → IsPutTo false left less q r mid new → IsPartPut all old new
 both_taken all left less p q r old mid new none h k =
@@ -153,11 +153,11 @@ both_taken all left less p q r old mid new none h k =
 
 module _ (all left less : List ℕ) (p q r : PageView) (old mid new : SinkView) (h : IsPutTo true all left p q old mid)
     (k : IsPutTo false left less q r mid new) where
-  -- then the page has what is kept behind its text
+  -- the page then has what is kept after its text
   text_kept : r.text ≡ p.text ++ h.done
   text_kept = k.page_is ∙ append-nil q.text ∙ h.page_is
 
-  -- with what came then this is all
+  -- with what followed, this is everything
   pub both_text : r.text ++ left ≡ p.text ++ all
   both_text = ap (λ t. t ++ left) text_kept ∙ append_assoc p.text h.done left ∙ ap (λ l. p.text ++ l) h.parts
 
@@ -171,7 +171,7 @@ module _ (all left less : List ℕ) (p q r : PageView) (old mid new : SinkView) 
 
 -- ---- the parts of a text, without a page
 
--- of what is to be put this is left
+-- a first part is put, and these bytes are left
 pub record IsTakenTo (all left : List ℕ) (old new : SinkView) : Type 0 where
   pub done : List ℕ
   pub parts : done ++ left ≡ all
@@ -187,7 +187,7 @@ module _ (all left part less : List ℕ) (old mid new : SinkView) (h : IsTakenTo
     taken = taken_then h.done part old mid new h.taken k;
   }
 
-  -- or cut off
+  -- the next part is cut off
   pub cut_more : IsCutOff part mid new → IsCutOff all old new
   cut_more k = subst (λ l. IsCutOff l old new) (ap (λ l. h.done ++ l) parts ∙ h.parts)
       (cut_then h.done part less old mid new h.taken k)

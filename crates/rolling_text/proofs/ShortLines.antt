@@ -1,4 +1,4 @@
--- How many bytes the lines of clones have at most.
+-- An upper bound of the bytes in the lines of clones.
 use Rattle.std.proofs.Common.{◌≡◌, inl, inr, ℕ, zero, suc, ◌+◌, ◌-◌, ◌*◌, ◌<◌, ◌≤◌, refl, sym, ap, subst, ◌∙◌}
 use Rattle.std.proofs.Common.{arith, List, [], ◌∷◌, not, nat_lt, length, sum_by, Bool, true, ◌==◌}
 use Rattle.std.proofs.lemmas.Bool.{cases_lt, le-ltb}
@@ -38,11 +38,11 @@ use Rattle.rolling_text.proofs.SamePlans.{tells_plans}
 
 -- ---- HaveShortLines
 
--- no entries have no lines
+-- without entries there are no lines
 pub short_none : (net : Net) → HaveShortLines net []
 short_none net = record { each = λ e i. absurd i }
 
--- one entry more
+-- one more entry
 pub short_more : (net : Net) (e : Entry Msg Line) (es : List (Entry Msg Line)) → length (entry_line net e) ≤ MOST_LINE
     → HaveShortLines net es → HaveShortLines net (e ∷ es)
 short_more net e es l h = record { each = one }
@@ -51,14 +51,14 @@ short_more net e es l h = record { each = one }
     one x (inl is) = subst (λ (y : Entry Msg Line). length (entry_line net y) ≤ MOST_LINE) (sym is) l
     one x (inr i) = h.each x i
 
--- two lists in order as one
+-- a merged list of two lists
 short_merge : (net : Net) (cmp : Entry Msg Line → Entry Msg Line → Ordering) (xs ys : List (Entry Msg Line))
     → HaveShortLines net xs → HaveShortLines net ys → HaveShortLines net (merge cmp xs ys)
 short_merge net cmp xs ys h k = record {
   each = λ e i. elim (in_merge cmp xs ys e i) [ inl a ↦ h.each e a | inr b ↦ k.each e b ];
 }
 
--- so their lines are not longer than so many short ones
+-- the lines of entries are bounded by `MOST_LINE` for each
 sum_short : (net : Net) (es : List (Entry Msg Line)) → HaveShortLines net es
     → sum_by (λ e. length (entry_line net e)) es ≤ MOST_LINE * length es
 sum_short net [] h = omega arith
@@ -68,7 +68,7 @@ sum_short net (e ∷ es) h =
     let d = sum_by-cons (λ (y : Entry Msg Line). length (entry_line net y)) e es in
     omega (arith, a, b, d)
 
--- the lines of one station more, merged
+-- the lines of one more station, merged
 pub met_more : (net : Net) (c : Clone) (i t : ℕ)
     → HaveShortLines net (merge_of_rests (simulation net) sender_of number_of c t i) →
     HaveShortLines net (entries_from (simulation net) t (log_at net c (i + 1) net.horizon))
@@ -106,7 +106,7 @@ module _ (world : WorldView) (over : IsOver world) (c : ℕ) (there : c < length
       let d = length-from_time 0 log in
       omega (arith, a, b, d)
 
-  -- so with one log more the bound grows by as many for each entry
+  -- with one more log the bound grows by `MOST_LINE` for each entry
   pub bound_more : (i bound new : ℕ) (log : List (Entry Msg Line)) → log ≡ log_at net clone (i + 1) world.front
       → HaveShortLines net (trace_of net clone) → first_lengths net clone 0 i ≤ bound
       → new ≡ bound + MOST_LINE * length log → first_lengths net clone 0 (i + 1) ≤ new
@@ -123,10 +123,10 @@ module _ (world : WorldView) (over : IsOver world) (c : ℕ) (there : c < length
       let b = ap length (rest_from_0 net clone) in
       omega (arith, a, b, l)
 
--- ---- a clone's lines are short where those of the clone before it are, and its own from where it parts from that
+-- ---- a clone's lines are short if those of the previous clone are, and its own after it parts from that
 
 module _ (net : Net) (valid : IsNet net) (cs : List Clone) (in_net : AreInNet net cs) where
-  -- every clone but the first has lines of the one before it
+  -- every clone except the first has lines of the previous one
   short_next : (c : ℕ) → 1 ≤ c → c < length cs → HaveShortLines net (trace_of net (clone_at cs (c - 1)))
       → HaveShortLines net (entries_from (simulation net) (parting_with_last net cs c) (trace_of net (clone_at cs c)))
       → HaveShortLines net (trace_of net (clone_at cs c))
@@ -147,7 +147,7 @@ module _ (net : Net) (valid : IsNet net) (cs : List Clone) (in_net : AreInNet ne
             ];
       }
 
-  -- the first clone has all lines from where it parts on
+  -- the first clone has only lines of its own
   short_first : HaveShortLines net (entries_from (simulation net) 0 (trace_of net (clone_at cs 0)))
       → HaveShortLines net (trace_of net (clone_at cs 0))
   short_first h =
@@ -156,7 +156,7 @@ module _ (net : Net) (valid : IsNet net) (cs : List Clone) (in_net : AreInNet ne
       (all_from (λ (e : Entry Msg Line). late e ≡ true) (trace_of net (clone_at cs 0))
       (λ e i. ap not (le-ltb e.msg.key.time 0 (omega arith))))) h
 
-  -- so it is of each clone
+  -- this holds for each clone
   pub short_at : (c time : ℕ) → c < length cs → time ≡ parting_at net cs c
       → (1 ≤ c → HaveShortLines net (trace_of net (clone_at cs (c - 1))))
       → HaveShortLines net (entries_from (simulation net) time (trace_of net (clone_at cs c)))
@@ -168,7 +168,7 @@ module _ (net : Net) (valid : IsNet net) (cs : List Clone) (in_net : AreInNet ne
 
 -- ---- body
 
--- a bound for the lines of one clone more
+-- a bound for the lines of one more clone
 pub fits_more : (net : Net) (cs : List Clone) (n most here new : ℕ)
     → ((c : ℕ) → c < n → length (body net (clone_at cs c)) ≤ most) → length (body net (clone_at cs n)) ≤ here
     → most ≤ new → here ≤ new → (c : ℕ) → c < n + 1 → length (body net (clone_at cs c)) ≤ new

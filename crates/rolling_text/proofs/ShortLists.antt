@@ -1,4 +1,4 @@
--- A call adds one decision to one list at most. Where there is no clone, its list is empty.
+-- A call adds at most one decision to one list. If there is no clone, its list is empty.
 use Rattle.std.proofs.Common.{ℕ, zero, suc, ◌+◌, ◌≤◌, List}
 use Rattle.std.proofs.Common.{[], ◌∷◌, ◌++◌, arith, length, length-append, slice_set, Some}
 use Rattle.sim_base.specs.Clones.{Clone, base, clone_at, clones_with_plan, clones_with_end, clones_with_fork, fork_of}
@@ -15,7 +15,7 @@ use Rattle.rolling_text.specs.WorldTraces.{AreShort}
 
 -- ---- slice_set, ◌++◌
 
--- a clone in place of another leaves the lists as short, where its own is
+-- replacing a clone by another with a short list keeps all lists short
 set_within : (n : ℕ) (cs : List Clone) (c : ℕ) (x : Clone) → ((k : ℕ) → length (clone_at cs k).plans ≤ n)
     → length x.plans ≤ n → (k : ℕ) → length (clone_at (slice_set cs c x) k).plans ≤ n
 set_within n [] c x h l k = h k
@@ -24,7 +24,7 @@ set_within n (y ∷ ys) zero x h l (suc k) = h (suc k)
 set_within n (y ∷ ys) (suc c) x h l zero = h zero
 set_within n (y ∷ ys) (suc c) x h l (suc k) = set_within n ys c x (λ j. h (suc j)) l k
 
--- and so does one clone more
+-- adding a clone with a short list does so as well
 push_within : (n : ℕ) (cs : List Clone) (x : Clone) → ((k : ℕ) → length (clone_at cs k).plans ≤ n)
     → length x.plans ≤ n → (k : ℕ) → length (clone_at (cs ++ x ∷ []) k).plans ≤ n
 push_within n [] x h l zero = l
@@ -49,7 +49,7 @@ forked_within n cs new old h k =
     let l = push_within n cs (fork_of (clone_at cs old) new) h (h old) k in
     omega (arith, l)
 
--- an end leaves the lists as they are
+-- an end leaves the lists unchanged
 ended_within : (n : ℕ) (cs : List Clone) (c at : ℕ) → ((k : ℕ) → length (clone_at cs k).plans ≤ n) → (k : ℕ)
     → length (clone_at (clones_with_end cs c at) k).plans ≤ n + 1
 ended_within n cs c at h k =
@@ -58,7 +58,7 @@ ended_within n cs c at h k =
 
 -- ---- clones_after, clones_after_calls
 
--- a decision makes lists longer by one at most
+-- a decision makes lists longer by at most one
 after_within : (net : Net) (n : ℕ) (cs : List Clone) (d : Decision) → ((k : ℕ) → length (clone_at cs k).plans ≤ n)
     → (k : ℕ) → length (clone_at (clones_after net cs d) k).plans ≤ n + 1
 after_within net n cs (Fork new old) h k = forked_within n cs new (clone_place old cs) h k
@@ -66,7 +66,7 @@ after_within net n cs (Set who at station change) h k =
     added_within n cs (clone_place who cs) (plan_of_set net at station change) h k
 after_within net n cs (End who at) h k = ended_within n cs (clone_place who cs) at h k
 
--- and so many calls by as many
+-- n calls make lists longer by at most n
 calls_within : (net : Net) (calls : List Call) (n : ℕ) (cs : List Clone)
     → ((k : ℕ) → length (clone_at cs k).plans ≤ n) → (k : ℕ)
     → length (clone_at (clones_after_calls net cs calls) k).plans ≤ n + length calls
@@ -83,7 +83,7 @@ none_of_base : (k : ℕ) → length (clone_at (base ∷ []) k).plans ≤ 0
 none_of_base zero = omega arith
 none_of_base (suc k) = omega arith
 
--- after few calls each clone has few decisions
+-- after at most 2^21 calls each clone has few decisions
 pub short_after_calls : (net : Net) (calls : List Call) → length calls ≤ WORD_NUMBERS
     → AreShort (clones_after_calls net (base ∷ []) calls)
 short_after_calls net calls l k there = let h = calls_within net calls 0 (base ∷ []) none_of_base k in

@@ -11,7 +11,7 @@ use Rattle.rolling_text.proofs.Puts.{left_fits, put_cut, put_on}
 
 -- ---- MayPut
 
--- the beginning of a span may be put
+-- the first part of a span may be put
 pub MayPut-begin : (traces : WorldTracesView) (span : TextSpan) (texts : Texts) (t : ℕ) → span.from ≤ t →
     MayPut traces span texts → MayPut traces (record span { until = t }) texts
 MayPut-begin traces span texts t order may = record {
@@ -33,20 +33,20 @@ module _ (traces : WorldTracesView) (span : TextSpan) (t : ℕ) (old mid : Texts
 
   -- ---- IsSpanPut, IsSpanCutOff
 
-  -- where the rest is put, the span is
+  -- if the rest is put, the span is
   pub IsSpanPut-then : (new : Texts) (x : SinkView) →
       IsSpanPut traces (record span { from = t }) mid.page new.page w x →
       IsSpanPut traces span old.page new.page v x
   IsSpanPut-then new x rest = put_on span.keeps _ _ _ _ _ _ _ _ _ put rest
 
-  -- where the rest is cut off, the span is
+  -- if the rest is cut off, the span is
   pub IsSpanCutOff-then : (x : SinkView) → IsSpanCutOff traces (record span { from = t }) w x →
       IsSpanCutOff traces span v x
   IsSpanCutOff-then x cut = put_cut span.keeps _ _ _ _ _ _ _ put cut
 
   -- ---- PutsSpan
 
-  -- the put of the rest is that of the span
+  -- the result of putting the rest is that of the span
   pub PutsSpan-then : {E : Type 0} (new : Texts) (x : SinkView) (result : Result (Unit {0}) E) →
       PutsSpan traces (record span { from = t }) mid new w x result → PutsSpan traces span old new v x result
   PutsSpan-then new x result rest = record {
@@ -55,15 +55,15 @@ module _ (traces : WorldTracesView) (span : TextSpan) (t : ℕ) (old mid : Texts
     can = rest.can;
   }
 
--- ---- IsUpTo: a part of a span that is ready comes just before what is left of the span
+-- ---- IsUpTo: a part of a span that is ready comes just before the rest of the span
 
 module _ (traces : WorldTracesView) (span left ready : TextSpan) (left_is : left ≡ record span { from = left.from })
     (up : IsUpTo left ready) where
-  -- what is ready and what is left are a part of the span
+  -- the ready part and the rest together are a part of the span
   both_left : record left { from = ready.from } ≡ record span { from = ready.from }
   both_left = ap (λ (s : TextSpan). record s { from = ready.from }) left_is
 
-  -- what is ready is one
+  -- the ready part is a span
   ready_is : ready ≡ record span { from = ready.from; until = left.from }
   ready_is = up.same ∙ ap (λ (s : TextSpan). record s { from = ready.from; until = left.from }) left_is
 
@@ -75,49 +75,49 @@ module _ (traces : WorldTracesView) (span left ready : TextSpan) (left_is : left
       both_may = let order = up.order in subst (λ s. MayPut traces s mid) (sym both_left)
           (MayPut-rest traces span ready.from old mid v w put (omega (arith, order, within)) can may)
 
-      -- and so may what is ready
+      -- the ready part may be put next
       pub ready_may : MayPut traces ready mid
       ready_may = let order = up.order in subst (λ s. MayPut traces s mid) (sym ready_is)
           (MayPut-begin traces (record span { from = ready.from }) mid left.from order
           (MayPut-rest traces span ready.from old mid v w put (omega (arith, order, within)) can may))
 
-    -- where both are put, the span is
+    -- if both are put, the span is
     pub both_put : {E : Type 0} (new : Texts) (x : SinkView) (result : Result (Unit {0}) E) →
         PutsSpan traces (record left { from = ready.from }) mid new w x result →
         PutsSpan traces span old new v x result
     both_put new x result h = PutsSpan-then traces span ready.from old mid v w put new x result
         (subst (λ s. PutsSpan traces s mid new w x result) both_left h)
 
-    -- where what is ready is cut off, the span is
+    -- if the ready part is cut off, the span is
     pub ready_cut : (x : SinkView) → IsSpanCutOff traces ready w x → IsSpanCutOff traces span v x
     ready_cut x h = IsSpanCutOff-then traces span ready.from old mid v w put x
         (subst (λ s. IsSpanCutOff traces s w x) ready_is h)
 
     module _ (new : Texts) (x : SinkView) (done : IsSpanPut traces ready mid.page new.page w x) where
-      -- where it is put, the span is up to what is left
+      -- if it is put, the span is put up to the rest
       pub put_so_far : IsSpanPut traces (record span { until = left.from }) old.page new.page v x
       put_so_far = IsSpanPut-then traces (record span { until = left.from }) ready.from old mid v w put new x
           (subst (λ s. IsSpanPut traces s mid.page new.page w x) ready_is done)
 
-      -- and what is left may be put
+      -- the rest may then be put
       pub left_may : left.from ≤ span.until → CanPut traces.net new → MayPut traces span old → MayPut traces left new
       left_may within can may = subst (λ s. MayPut traces s new) (sym left_is)
           (MayPut-rest traces span left.from old new v x put_so_far within can may)
 
-      -- where that is put too, the span is
+      -- if the rest is put too, the span is
       pub left_put : {E : Type 0} (last : Texts) (y : SinkView) (result : Result (Unit {0}) E) →
           PutsSpan traces left new last x y result → PutsSpan traces span old last v y result
       left_put last y result h = PutsSpan-then traces span left.from old new v x put_so_far last y result
           (subst (λ s. PutsSpan traces s new last x y result) left_is h)
 
--- what is ready next is the beginning of what is left
+-- the next ready part is the first part of the rest
 module _ (span left next : TextSpan) (left_is : left ≡ record span { from = left.from })
     (begin : next ≡ record left { until = next.until }) where
   -- it begins there
   pub next_from : next.from ≡ left.from
   next_from = ap (λ (s : TextSpan). s.from) begin
 
-  -- it comes just before what is left then
+  -- it comes just before the new rest
   pub next_up : next.from ≤ next.until → IsUpTo (record span { from = next.until }) next
   next_up order = record {
     same = begin ∙ ap (λ (s : TextSpan). record s { until = next.until }) left_is

@@ -43,7 +43,7 @@ clone_at-in_order cs places i d there =
 
 -- ---- clones_by
 
--- there are as many texts as clones
+-- there is one text for each clone
 pub length-clones_by : (order : TextOrder) (cs : List Clone) → IsOrderOf order cs →
     length (clones_by order cs) ≡ length cs
 length-clones_by AsMade cs is = refl
@@ -62,14 +62,14 @@ clones_by-place (By places) cs is c there =
       clone_at-in_order cs places.items c 0 below,
     )
 
--- the clone of a text that is seen is one of the clones
+-- the clone of a text that contracts see is one of the clones
 pub place_seen : (net : Net) (order : TextOrder) (cs : List Clone) (view : WorldTracesView) →
     record { net = net; clones = clones_by order cs } ≡ view → IsOrderOf order cs → (c : ℕ) →
     c < length view.clones → (k : ℕ) × (k < length cs) × (clone_at (clones_by order cs) c ≡ clone_at cs k)
 place_seen net order cs view seen is c there =
     clones_by-place order cs is c (subst (λ (v : WorldTracesView). c < length v.clones) (sym seen) there)
 
--- they are in the network too
+-- these clones are also in the network
 pub clones_by-in_net : (net : Net) (order : TextOrder) (cs : List Clone) → IsOrderOf order cs → AreInNet net cs →
     AreInNet net (clones_by order cs)
 clones_by-in_net net order cs is in_net = record {

@@ -1,4 +1,4 @@
--- Spans of a text that a crew makes, a batch at a time.
+-- Spans of a text that a crew makes in batches.
 use Rattle.std.specs.Prelude.{◌≡◌, ℕ, ◌<◌, ◌≤◌, List, [], ◌∷◌, length, Option, IfSome}
 use Rattle.std.specs.List.{flat_map}
 use Rattle.std.specs.declared.vec.Vec.{Vec}
@@ -10,16 +10,16 @@ use Rattle.rolling_text.specs.TextSpans.{span_of}
 use Rattle.rolling_text.specs.WorldTraces.{WorldTracesView}
 use Rattle.rolling_text.specs.declared.text_span.TextSpan.{TextSpan}
 
--- the bytes of some buffers, one after the other
+-- the bytes of some buffers, joined
 abbrev pub bytes_of : {Z : Type 0} → List (Vec ℕ Z) → List ℕ
 bytes_of buffers = flat_map (λ b. b.items) buffers
 
--- the spans are of this clone and come one after the other: the first begins at a time, and the last ends at another
+-- the spans are consecutive spans of this clone: the first begins at one time, and the last ends at the other
 abbrev pub AreJoined : ℕ → ℕ → List TextSpan → ℕ → Type 0
 AreJoined c from [] until = from ≡ until
 AreJoined c from (s ∷ ss) until = (s.c ≡ c) × (s.from ≡ from) × (from ≤ s.until) × AreJoined c s.until ss until
 
--- the lines of each span are made, at its place
+-- each buffer has the lines of the span at its place
 pub record AreMade {Z : Type 0} (traces : WorldTracesView) (spans : List TextSpan) (buffers : List (Vec ℕ Z)) :
     Type 0 where
   pub count : length buffers ≡ length spans
@@ -32,11 +32,11 @@ pub record BatchView : Type 0 where
   pub from : ℕ
   pub until : ℕ
 
--- the span that its spans are together
+-- the span that all its spans form
 abbrev pub batch_span : BatchView → Span
 batch_span b = span_between b.traces b.c b.from b.until
 
--- it is of these traces, and has the beginning of a span
+-- the batch is of these traces, and covers a beginning of the span
 pub record IsBatchOf (traces : WorldTracesView) (span : TextSpan) (b : BatchView) : Type 0 where
   pub traces_are : b.traces ≡ traces
   pub clone : b.c ≡ span.c
@@ -44,11 +44,11 @@ pub record IsBatchOf (traces : WorldTracesView) (span : TextSpan) (b : BatchView
   pub further : span.from < b.until
   pub within : b.until ≤ span.until
 
--- the makers, if there are any, make the lines of these traces
+-- the makers, if any, make the lines of these traces
 abbrev pub MakeFor : WorldTracesView → Option WorldTracesView → Type 0
 MakeFor traces makers = IfSome makers (λ m. m ≡ traces)
 
--- a call of the crew for these traces has such spans, and a next one may have so many
+-- a call of the crew for these traces has consecutive spans of this clone, and the next may have at most `most`
 pub record IsUnderWay (traces : WorldTracesView) (call : CallView WorldTracesView TextSpan) (c from until most : ℕ) :
     Type 0 where
   pub work : call.work ≡ traces

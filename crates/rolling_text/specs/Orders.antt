@@ -1,37 +1,37 @@
--- What makers are asked for, and what the caller of them has out.
+-- The spans of lines that makers make.
 use Rattle.std.specs.Prelude.{◌≡◌, ℕ, ◌<◌, ◌≤◌, List, ◌++◌, length}
 use Rattle.sim_base.specs.Clones.{Clone, clone_at}
 use Rattle.net_model.specs.Net.{Net}
 use Rattle.rolling_text.specs.Texts.{rest}
 use Rattle.rolling_text.specs.WorldTraces.{WorldTracesView}
 
--- the lines of a clone from a time on and before another
+-- the lines of a clone from one time up to another
 pub record Span : Type 0 where
   pub net : Net
   pub list : Clone
   pub from : ℕ
   pub until : ℕ
 
--- one of these clones, by its place, and a time with another that is no earlier
+-- the place of one of these clones, and two times in order
 pub record HasSpan (traces : WorldTracesView) (c from until : ℕ) : Type 0 where
   pub there : c < length traces.clones
   pub order : from ≤ until
 
--- the lines of one of these clones from a time on and before another
+-- the lines of one of these clones from one time up to another
 abbrev pub span_between : WorldTracesView → ℕ → ℕ → ℕ → Span
 span_between traces c from until =
     record { net = traces.net; list = clone_at traces.clones c; from = from; until = until }
 
--- these are the lines of a span: with what comes then they are all from its begin on
+-- these are the lines of a span: followed by the lines from its end on, they are the lines from its beginning on
 abbrev pub IsMade : Span → List ℕ → Type 0
 IsMade span lines = lines ++ rest span.net span.list span.until ≡ rest span.net span.list span.from
 
--- a span up to another time
+-- the part of a span up to another time
 abbrev pub span_until : Span → ℕ → Span
 span_until span time =
     record { net = span.net; list = span.list; from = span.from; until = time }
 
--- and from another time on
+-- the part of a span from another time on
 abbrev pub span_since : Span → ℕ → Span
 span_since span time =
     record { net = span.net; list = span.list; from = time; until = span.until }

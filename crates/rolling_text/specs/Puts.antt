@@ -1,4 +1,4 @@
--- The put of a text in parts.
+-- Putting a text in parts.
 use Rattle.std.specs.Prelude.{◌≡◌, ℕ, ◌+◌, ◌≤◌, Bool, List, [], ◌∷◌, ◌++◌, length, Option, if◌then◌else◌}
 use Rattle.std.specs.List.{concat}
 use Rattle.sim_outer.specs.Bytes.{IsAppended, IsPrefixAppended}
@@ -6,7 +6,7 @@ use Rattle.sim_outer.specs.Counts.{AreCounted, IsCounted, HasRisen}
 use Rattle.sim_outer.specs.Views.{SinkView}
 use Rattle.rolling_text.specs.Pages.{PageView}
 
--- this much of a text was taken, whose put goes on
+-- a part of a text was taken, and the call continues
 pub record IsPartPut (part : List ℕ) (old new : SinkView) : Type 0 where
   pub bytes : IsAppended old.bytes part new.bytes
   pub later : old.faults ≤ new.faults
@@ -18,14 +18,14 @@ pub record IsPut (text : List ℕ) (old new : SinkView) : Type 0 where
   pub later : old.faults ≤ new.faults
   pub counted : IsCounted old.calls new.calls
 
--- a text was cut off, which is one call too
+-- a text was cut off, which also counts as one call
 pub record IsCutOff (text : List ℕ) (old new : SinkView) : Type 0 where
   pub bytes : IsPrefixAppended old.bytes text new.bytes
   pub failed : HasRisen old.faults new.faults
   pub later : old.faults ≤ new.faults
   pub counted : IsCounted old.calls new.calls
 
--- texts were cut off: those before one were put, each in one call, and that one was cut off in the last call
+-- texts were cut off: some first texts were put, each in one call, and the next was cut off in the last call
 pub record AreCut (texts : List (List ℕ)) (old new : SinkView) : Type 0 where
   pub whole : List (List ℕ)
   pub text : List ℕ
@@ -37,7 +37,7 @@ pub record AreCut (texts : List (List ℕ)) (old new : SinkView) : Type 0 where
   pub failed : HasRisen old.faults new.faults
   pub calls : AreCounted (length whole + 1) old.calls new.calls
 
--- of what is to be put this is left; what was taken stands behind the page where it is kept
+-- a first part of the lines is put, and these are left; the page has that part if it is kept
 pub record IsPutTo (keeps : Bool) (all left : List ℕ) (page page_now : PageView) (old new : SinkView) : Type 0 where
   pub done : List ℕ
   pub parts : done ++ left ≡ all

@@ -10,33 +10,33 @@ use Rattle.rolling_text.specs.WorldTraces.{WorldTracesView}
 use Rattle.rolling_text.specs.declared.text_span.TextSpan.{TextSpan}
 use Rattle.rolling_text.specs.declared.texts.Texts.{Texts}
 
--- its clone and its times
+-- the span of its clone and its times
 abbrev pub span_of : WorldTracesView → TextSpan → Span
 span_of traces span = span_between traces span.c span.from span.until
 
--- a span of the same clone comes just before this one
+-- one span of the same clone ends where the other begins
 pub record IsUpTo (span before : TextSpan) : Type 0 where
   pub same : before ≡ record span { from = before.from; until = span.from }
   pub order : before.from ≤ span.from
 
--- it may be put: its clone is there, and a page that keeps it has free bytes for it and for all lines after it
+-- the span may be put: its clone exists, and a page that keeps it has room for it and for all lines after it
 pub record MayPut (traces : WorldTracesView) (span : TextSpan) (texts : Texts) : Type 0 where
   pub has_span : HasSpan traces span.c span.from span.until
   pub can : CanPut traces.net texts
   pub fits : span.keeps ≡ true → length texts.page.text
       + length (rest traces.net (clone_at traces.clones span.c) span.from) ≤ texts.page.reserved
 
--- it is put, and the lines after it are left
+-- the span is put, and the lines after it are left
 abbrev pub IsSpanPut : WorldTracesView → TextSpan → PageView → PageView → SinkView → SinkView → Type 0
 IsSpanPut traces span page page_now old new = IsPutTo span.keeps
     (rest traces.net (clone_at traces.clones span.c) span.from)
     (rest traces.net (clone_at traces.clones span.c) span.until) page page_now old new
 
--- it is cut off, or the lines after it are
+-- the span is cut off, or the lines after it are
 abbrev pub IsSpanCutOff : WorldTracesView → TextSpan → SinkView → SinkView → Type 0
 IsSpanCutOff traces span old new = IsCutOff (rest traces.net (clone_at traces.clones span.c) span.from) old new
 
--- what the put of a span leaves: it is put, or cut off, and in any case the texts can put more
+-- the result of putting a span: it is put, or cut off, and either way the memory can be used for more
 pub record PutsSpan {E : Type 0} (traces : WorldTracesView) (span : TextSpan) (old_texts new_texts : Texts)
     (old_sink new_sink : SinkView) (result : Result (Unit {0}) E) : Type 0 where
   pub ok : OnOk result (IsSpanPut traces span old_texts.page new_texts.page old_sink new_sink)

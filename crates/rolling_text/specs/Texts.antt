@@ -1,4 +1,4 @@
--- The texts of clones, each made of the one before it.
+-- The texts of clones, each made from the previous one.
 use Rattle.std.specs.Prelude.{◌≡◌, ℕ, zero, suc, ◌+◌, ◌-◌, ◌<◌, ◌≤◌, List, [], ◌++◌, length, codes}
 use Rattle.std.specs.Prelude.{map, Result, OnOk, OnErr}
 use Rattle.std.specs.List.{flat_map}
@@ -31,7 +31,7 @@ text_after net name before entries =
 unfoldable pub body : Net → Clone → List ℕ
 body net c = flat_map (entry_line net) (trace_of net c)
 
--- those from a time on
+-- the lines of a clone from a time on
 unfoldable pub rest : Net → Clone → ℕ → List ℕ
 rest net c t = flat_map (entry_line net) (entries_from (simulation net) t (trace_of net c))
 
@@ -40,46 +40,47 @@ abbrev pub body_before : Net → List Clone → ℕ → List ℕ
 body_before net cs zero = []
 body_before net cs (suc c) = body net (clone_at cs c)
 
--- the time before which a clone and the one before it have one trace
+-- the time before which a clone and the previous one have the same trace
 abbrev pub parting_with_last : Net → List Clone → ℕ → ℕ
 parting_with_last net cs c = parting_of (simulation net) same_plan (clone_at cs (c - 1)) (clone_at cs c)
 
--- from which time on a clone's lines are its own: all of them, where there is no clone before it
+-- the time from which a clone's lines are its own: 0 if there is no clone before it
 abbrev pub parting_at : Net → List Clone → ℕ → ℕ
 parting_at net cs zero = 0
 parting_at net cs (suc c) = parting_with_last net cs (suc c)
 
--- how much of the lines of the clone before it follows there
+-- the length of the previous clone's lines from that time on
 abbrev pub dropped_at : Net → List Clone → ℕ → ℕ
 dropped_at net cs zero = 0
 dropped_at net cs (suc c) = length (rest net (clone_at cs (suc c - 1)) (parting_with_last net cs (suc c)))
 
--- the lines that are kept of the clone before this one are its first, and so many bytes of them are dropped
+-- these are first lines of the previous clone; their last `dropped` bytes are not shared with this clone
 pub record AreLeft (net : Net) (cs : List Clone) (c dropped : ℕ) (lines : List ℕ) : Type 0 where
   pub others : List ℕ
   pub before : lines ++ others ≡ body_before net cs c
   pub drops : dropped + length others ≡ dropped_at net cs c
 
--- no line of these entries is too long
+-- each line of these entries is at most `MOST_LINE` bytes
 pub record HaveShortLines (net : Net) (es : List (Entry Msg Line)) : Type 0 where
   pub each : (e : Entry Msg Line) → In e es → length (entry_line net e) ≤ MOST_LINE
 
--- the lines of each clone fit in so many bytes, with a margin before
+-- the lines of each clone, and a margin, fit into the reserved bytes
 abbrev pub AllFit : Net → List Clone → ℕ → Type 0
 AllFit net cs reserved = (c : ℕ) → c < length cs → MARGIN + length (body net (clone_at cs c)) ≤ reserved
 
--- a cursor has free places for all logs, and the piece has the bytes of a line
+-- the cursor has room for all logs, and the piece for a line
 pub record CanPut (net : Net) (texts : Texts) : Type 0 where
   pub walk : IsWalk net texts.walk
   pub line : MOST_LINE ≤ length texts.piece.items
 
--- all that the texts of these clones need is there: a buffer that fits the longest, too
+-- all memory for the texts of these clones is allocated, with a buffer that fits the longest
 pub record AreTextsReady (net : Net) (cs : List Clone) (texts : Texts) : Type 0 where
   pub fits : AllFit net cs texts.page.reserved
   pub margin : length texts.page.text ≡ MARGIN
   pub can : CanPut net texts
 
--- what the put of all texts leaves: each is put, in one call, or those before one, and a prefix of it in the last call
+-- the result of putting all texts: each text was put in one call, or a prefix of one in the last call, after all texts
+-- before it
 pub record PutsAll {E : Type 0} (traces : WorldTracesView) (old new : SinkView) (result : Result (Unit {0}) E) :
     Type 0 where
   pub ok : OnOk result (IsAppended old.bytes (clone_texts traces.net traces.clones) new.bytes)

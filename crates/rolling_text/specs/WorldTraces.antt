@@ -29,7 +29,7 @@ pub record WorldTracesView : Type 0 where
   pub net : Net
   pub clones : List Clone
 
--- each clone has few enough decisions for their numbers to fit a word
+-- each clone has few enough decisions for their numbers to fit 64 bits
 abbrev pub AreShort : List Clone → Type 0
 AreShort cs = (k : ℕ) → k < length cs → length (clone_at cs k).plans ≤ WORD_NUMBERS
 
@@ -47,7 +47,7 @@ pub record IsOverWith (world : WorldView) (c : ℕ) : Type 0 where
   pub over : IsOver world
   pub there : c < length world.clones
 
--- a world at the horizon, and what its lines are made with: the stations' names
+-- a world at the horizon, and the stations' names for its lines
 pub record MayTrace (world : WorldView) (names : List Slot) : Type 0 where
   pub over : IsOver world
   pub names_are : AreNames world.net names
@@ -57,6 +57,6 @@ pub record MayTraceBy (order : TextOrder) (world : WorldView) (names : List Slot
   pub may_trace : MayTrace world names
   pub order_is : IsOrderOf order world.clones
 
--- a cursor has free places for the logs of all stations
+-- a cursor has room for the logs of all stations
 abbrev pub IsWalk : Net → CursorView → Type 0
 IsWalk net walk = walk.most ≡ length net.sites

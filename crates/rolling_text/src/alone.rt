@@ -1,4 +1,4 @@
-//! The text of a clone that ran by itself, whose trace stands in one log.
+//! The text of a clone that ran alone, whose trace is in one log.
 ghost use Rattle.std.specs.Prelude.{◌≡◌, ◌<◌, ◌≤◌, ◌++◌, length, take, codes, OnOk, OnErr};
 ghost use Rattle.std.specs.List.{flat_map};
 ghost use Rattle.trace_report.specs.Slots.{AreNames};
@@ -14,8 +14,8 @@ use sim_base::Name;
 use sim_outer::{PutFailed, Sink};
 use trace_report::{MOST_LINE, Names, write_stored};
 
-// Makes lines of the next entries of a walk, `left` of them, while the piece has free bytes for one more, and counts
-// them down. Returns how many bytes they have.
+// Writes the lines of the next entries of a walk into a piece, while a line fits and `left` of them remain. Updates
+// `left`, and returns the number of bytes written.
 fn make_piece(
     walk: &mut Walk<'_>,
     left: &mut u64,
@@ -26,14 +26,14 @@ fn make_piece(
     requires names { AreNames model.now names.now }
     requires left { left.old ≡ length walk.old }
     requires free { MOST_LINE ≤ length piece.old }
-    // the lines in the piece, and then those of what is left, are all lines of the walk
+    // the lines in the piece, and then those of the remaining entries, are all lines of the walk
     ensures text { take result piece.new ++ flat_map (entry_line model.now) walk.new
         ≡ flat_map (entry_line model.now) walk.old }
     ensures within { result ≤ length piece.new }
-    // so many entries are left, fewer than before where there was one
+    // this number of entries remains, fewer than before if there were any
     ensures left { left.new ≡ length walk.new }
     ensures fewer { 1 ≤ left.old → left.new < left.old }
-    // what is kept: how long the piece is
+    // the length of the piece is unchanged
     ensures size { length piece.new ≡ length piece.old }
 {
     let mut at = 0;
@@ -83,7 +83,7 @@ fn put_log<O: Sink>(model: &Model, log: &Log, out: &mut O) -> Result<(), PutFail
     Ok(())
 }
 
-// Puts these bytes and then the lines of a log as parts of a text.
+// Puts these bytes, and then the lines of a log, as parts of a text.
 fn put_body<O: Sink>(model: &Model, before: &[u8], log: &Log, out: &mut O) -> Result<(), PutFailed>
     ensures ok { OnOk result (IsPartPut (before.now ++ flat_map (entry_line model.now) log.now)
         (O.view out.old) (O.view out.new)) }
@@ -100,10 +100,10 @@ fn put_body<O: Sink>(model: &Model, before: &[u8], log: &Log, out: &mut O) -> Re
     }
 }
 
-/// Puts the text of a clone of this name: its name line, the bytes `before`, and the lines of what a log has, in one
-/// call whose parts are put as they are made. It takes no memory.
+/// Puts the text of a clone of this name in one call, in parts as they are made: its name line, the bytes `before`, and
+/// the lines of a log. It allocates nothing.
 ///
-/// With no bytes `before`, it is the trace text of a clone that handled what the log has.
+/// If `before` is empty, this is the trace text of a clone that handled the messages of the log.
 pub fn put_alone<O: Sink>(
     model: &Model,
     name: &Name,

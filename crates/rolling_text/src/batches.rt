@@ -1,4 +1,4 @@
-//! Batches of spans: a crew makes the lines of one batch while its caller puts those of the batch before.
+//! Batches of spans: a crew makes the lines of one batch while its caller puts those of the previous batch.
 ghost use Rattle.std.specs.Prelude.{◌≡◌, ◌<◌, ◌≤◌, length, IfOk, IfSome};
 ghost use Rattle.crew_pool.specs.declared.crew.TheConstants.{MOST_TASKS};
 ghost use Rattle.rolling_text.specs.Batches.{AreJoined, AreMade, IsBatchOf, batch_span, bytes_of};
@@ -19,13 +19,13 @@ use std::sync::ledger::{Blank, Ledger};
 use std::sync::{Arc, Wait};
 use std::thread::Threads;
 
-// A batch has this number of spans for each worker, so the spans that end last are a small part of it.
+// Spans of a batch for each worker. With several, the spans that finish last are a small part of the batch.
 const SPANS_OF_A_WORKER: usize = 8;
 
-// A crew begins if some text has this number of lines. For shorter texts, starting threads costs more than it saves.
+// A crew starts if some text has this number of lines. For shorter texts, starting threads costs more than it saves.
 const LONG_TEXT: u64 = 32_768;
 
-/// The caller of a crew that makes lines, between two batches. Contracts see the traces that the lines are of.
+/// The caller of a crew that makes lines, between two batches. Contracts see the traces whose lines it makes.
 #[derive(Drop)]
 pub(crate) struct Makers<'t> {
     lines: Arc<Lines<'t>>,
@@ -46,10 +46,10 @@ impl<'t> std::marker::Model for Makers<'t> {
     ghost invariant = { λ m. (1 ≤ m.spans) × (m.spans ≤ MOST_TASKS) };
 }
 
-/// The members of a crew that makes lines, apart from its caller.
+/// The members of a crew that makes lines, except its caller.
 pub(crate) type LineMembers<'g, 't> = Vec<Member<'g, Lines<'t>, NoGate>>;
 
-/// The members, and the bell that ends them.
+/// The members, and the bell that dismisses them.
 #[derive(Drop)]
 pub(crate) struct Others<'t> {
     /// The members.
@@ -58,8 +58,8 @@ pub(crate) struct Others<'t> {
     pub bell: Arc<Bell>,
 }
 
-/// A batch that the crew is making: spans of a clone, one after the other. Contracts see the traces, the clone, and the
-/// times at which the first span begins and the last one ends.
+/// A batch that the crew is making: consecutive spans of a clone. Contracts see the traces, the clone, the time at
+/// which the first span begins, and the time at which the last one ends.
 #[derive(Drop)]
 pub(crate) struct Batch<'t> {
     lines: Arc<Lines<'t>>,
@@ -80,7 +80,7 @@ impl<'t> std::marker::Model for Batch<'t> {
     ghost invariant = { λ b. IsUnderWay b.lines.value b.started b.c b.from b.until b.spans };
 }
 
-// Begins a crew of this number of workers, of whom the caller is one.
+// Begins a crew of this number of workers. The caller is one of them.
 fn begin<'t>(
     alloc: Global,
     traces: &'t WorldTraces<'t>,
@@ -95,7 +95,7 @@ fn begin<'t>(
     Ok((Makers { lines, crew, spans }, Others { members, bell }))
 }
 
-// Whether some text has many lines of its own: a hint.
+// Whether some text has many lines that it does not share: a hint.
 fn is_any_long(traces: &WorldTraces<'_>) -> bool {
     for c in 0..traces.len() {
         let from = parting_at(traces, c);
@@ -107,7 +107,7 @@ fn is_any_long(traces: &WorldTraces<'_>) -> bool {
     false
 }
 
-/// Begins a crew of this number of workers, if some text is long. `None` also if an allocation fails.
+/// Begins a crew of this number of workers, if some text is long. `None` if none is, or if an allocation fails.
 pub(crate) fn begin_if_long<'t>(
     alloc: Global,
     traces: &'t WorldTraces<'t>,
@@ -122,7 +122,7 @@ pub(crate) fn begin_if_long<'t>(
     begin(alloc, traces, workers).ok()
 }
 
-/// Runs the members until the bell has ended, if that was not done yet.
+/// Runs the members until the bell rings, unless they have run already.
 pub(crate) fn serve_once<R: Threads + Wait + Sync>(
     rt: &R,
     alloc: Global,
@@ -134,8 +134,8 @@ pub(crate) fn serve_once<R: Threads + Wait + Sync>(
     }
 }
 
-// Cuts `most` spans off the beginning of a span, or fewer if they reach its end. Returns them and the time at which the
-// last one ends.
+// Cuts `most` spans from the beginning of a span, or fewer if they reach its end. Returns them and the time at which
+// the last one ends.
 fn cut_spans<'t>(
     alloc: Global,
     traces: &WorldTraces<'t>,
@@ -165,7 +165,7 @@ fn cut_spans<'t>(
     Ok((spans, from))
 }
 
-// Finishes the call of a crew. Nobody reads the counter of its steps.
+// Finishes the call of a crew. Its step counter is not used.
 fn finish_counted<'t, L: Ledger, R: Wait>(
     rt: &R,
     alloc: Global,
@@ -182,9 +182,9 @@ fn finish_counted<'t, L: Ledger, R: Wait>(
 }
 
 impl<'t> Makers<'t> {
-    /// Starts a batch of spans, which are cut off the beginning of this one.
+    /// Starts a batch of spans, cut from the beginning of this one.
     ///
-    /// Errors: out of memory. Then the crew is lost.
+    /// Errors: out of memory. The crew is then lost.
     pub(crate) fn start(
         self,
         alloc: Global,
@@ -220,7 +220,7 @@ impl<'t> Batch<'t> {
 
     /// Makes what no member has begun, and returns the crew with the lines of all spans, in order.
     ///
-    /// Errors: out of memory. Then the crew is lost.
+    /// Errors: out of memory. The crew is then lost.
     pub(crate) fn finish<R: Wait>(
         self,
         rt: &R,

@@ -1,4 +1,4 @@
-//! The lines of a clone in a span of time, put by the caller alone or together with the members of a crew.
+//! Puts the lines of a clone in a span of time, by the caller alone or together with the members of a crew.
 ghost use Rattle.std.specs.Prelude.{◌<◌, ◌≤◌, length, IfSome};
 ghost use Rattle.rolling_text.specs.Batches.{IsBatchOf, MakeFor, bytes_of};
 ghost use Rattle.rolling_text.specs.Orders.{HasSpan, IsMade};
@@ -18,28 +18,28 @@ use sim_outer::{PutFailed, Sink};
 use std::alloc::Global;
 use std::sync::Wait;
 
-// The caller alone puts a span with fewer lines than this: with members it would take as long.
+// The caller alone puts a span with fewer lines than this; members would not make it faster.
 const LONG_SPAN: u64 = 8_192;
 
-/// The crew that makes the lines of long texts, if there is one, and the memory that it takes.
+/// The crew that makes the lines of long texts, if there is one, and its allocator.
 #[derive(Drop)]
 pub(crate) struct Help<'t> {
-    /// The memory.
+    /// The allocator.
     pub alloc: Global,
     /// Its caller: `None` if there is no crew, or once an allocation failed.
     pub makers: Option<Makers<'t>>,
 }
 
-/// Lines of a span that are made and not put yet.
+/// Lines of a span, ready to be put.
 #[derive(Drop)]
 pub(crate) struct ReadyLines {
     /// The span.
     pub span: TextSpan,
-    /// Its lines, in one buffer after the other.
+    /// Its lines, in consecutive buffers.
     pub lines: Vec<Vec<u8>>,
 }
 
-// Puts lines that are ready. Only the contract reads the traces.
+// Puts ready lines. Only the contract reads the traces.
 fn put_ready<O: Sink>(
     _traces: &WorldTraces<'_>,
     texts: &mut Texts<'_>,
@@ -60,7 +60,7 @@ fn put_ready<O: Sink>(
 }
 
 // Starts the next batch: spans from the beginning of this one. `None` if there is no crew, or an allocation fails. The
-// batch has the makers until it is finished.
+// batch holds the makers until it is finished.
 fn start_batch<'t>(
     traces: &WorldTraces<'t>,
     help: &mut Help<'t>,
@@ -77,7 +77,7 @@ fn start_batch<'t>(
     makers.start(help.alloc, cuts, span).ok()
 }
 
-// Finishes a batch and returns its lines. `None` if an allocation fails: then there is no crew any more.
+// Finishes a batch and returns its lines. `None` if an allocation fails; then there is no crew any more.
 fn finish_batch<'t, R: Wait>(
     rt: &R,
     traces: &WorldTraces<'t>,
@@ -99,7 +99,7 @@ fn finish_batch<'t, R: Wait>(
     Some(ReadyLines { span, lines })
 }
 
-// Puts lines that are ready, and then what is left, which the caller makes.
+// Puts ready lines, and then the rest, which the caller makes.
 fn put_last<'t, O: Sink>(
     traces: &WorldTraces<'t>,
     texts: &mut Texts<'t>,
@@ -120,8 +120,8 @@ fn put_last<'t, O: Sink>(
     }
 }
 
-// Puts a span batch by batch: members make the lines of a batch while the caller puts those of the batch before. Once
-// an allocation fails, the caller puts what is left alone, and takes no memory.
+// Puts a span batch by batch: members make the lines of a batch while the caller puts those of the previous batch. If
+// an allocation fails, the caller puts the rest alone, and allocates nothing.
 fn put_by_makers<'t, O: Sink, R: Wait>(
     rt: &R,
     traces: &WorldTraces<'t>,
@@ -173,10 +173,10 @@ fn is_short(traces: &WorldTraces<'_>, span: TextSpan) -> bool
     all.saturating_sub(count_from(traces.world, place, span.until)) < LONG_SPAN
 }
 
-/// The caller, together with the members of a crew that run in threads.
+/// Puts spans together with the members of a crew that run in threads.
 #[derive(Drop)]
 pub(crate) struct WithCrew<'r, 't, R: Wait> {
-    /// What the caller waits with.
+    /// The caller's handle for waiting.
     pub rt: &'r R,
     /// The crew.
     pub help: Help<'t>,
@@ -187,7 +187,7 @@ impl<'r, 't, R: Wait> SpanPutter<'t> for WithCrew<'r, 't, R> {
 
     ghost puts_for = { λ p traces. MakeFor traces p.help.makers };
 
-    // with the crew if there is one and the span is long, else by the caller alone
+    // with the crew if there is one and the span is long, otherwise by the caller alone
     fn put_lines<O: Sink>(
         &mut self,
         traces: &WorldTraces<'t>,

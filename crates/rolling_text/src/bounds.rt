@@ -1,8 +1,8 @@
-//! How many bytes texts have at most, told before any is made.
+//! Bounds on the lengths of texts, known before any text is made.
 //!
-//! No line is longer than `MOST_LINE`, since its numbers are words and names have at most 16 bytes. A clone's entries
-//! from where it parts from the one before it are met once each, which shows it of them; those before are the other
-//! clone's.
+//! No line is longer than `MOST_LINE`, since its numbers have 64 bits and names have at most 16 bytes. The entries of a
+//! clone after it parts from the previous clone are visited once each, which proves this for them. The earlier entries
+//! are the previous clone's.
 ghost use Rattle.std.specs.Prelude.{◌≡◌, ℕ, ◌<◌, ◌≤◌, length};
 ghost use Rattle.sim_base.specs.Clones.{clone_at};
 ghost use Rattle.stations.specs.Runs.{simulation, trace_of};
@@ -20,7 +20,7 @@ use net_model::Model;
 use trace_report::{MOST_LINE, Names, line_len};
 use world_core::World;
 
-// Meets the entries of a log from a time on: no line of theirs is too long.
+// Recalls for each entry of a log from a time on that its line is at most `MOST_LINE` bytes.
 fn meet_log(model: &Model, names: &Names, log: &Log, from: u64)
     requires names { AreNames model.now names.now }
     requires rises { RiseByTime log.now }
@@ -32,7 +32,7 @@ fn meet_log(model: &Model, names: &Names, log: &Log, from: u64)
     }
 }
 
-// The same of all that a clone handled from a time on.
+// The same for all entries of a clone from a time on.
 fn meet_rest(world: &World, names: &Names, c: u32, from: u64)
     requires may_trace { MayTrace world.now names.now }
     requires there { c < length world.now.clones }
@@ -45,7 +45,7 @@ fn meet_rest(world: &World, names: &Names, c: u32, from: u64)
     }
 }
 
-// How many bytes the lines of a clone have at most, by how many they are.
+// An upper bound of the bytes in the lines of a clone, from the number of lines.
 fn bound_of(world: &World, c: u32) -> usize
     requires clone { IsOverWith world.now c }
     requires short { HaveShortLines world.now.net (trace_of world.now.net (clone_at world.now.clones c)) }
@@ -59,7 +59,7 @@ fn bound_of(world: &World, c: u32) -> usize
     bound
 }
 
-/// From which time on the lines of a clone differ from those of the one before it: all of them, where there is none.
+/// The time from which the lines of a clone differ from those of the previous one: 0 if there is none.
 pub(crate) fn parting_at(traces: &WorldTraces<'_>, c: u32) -> u64
     requires there { c < length traces.now.clones }
     ensures value { result ≡ parting_at' traces.now.net traces.now.clones c }
@@ -70,7 +70,7 @@ pub(crate) fn parting_at(traces: &WorldTraces<'_>, c: u32) -> u64
     traces.parting_with_last(c)
 }
 
-/// How many bytes the lines of each clone have at most.
+/// An upper bound of the bytes in the lines of each clone.
 pub(crate) fn greatest_bound(traces: &WorldTraces<'_>) -> usize
     ensures bound { (c : ℕ) → c < length traces.now.clones
         → length (body traces.now.net (clone_at traces.now.clones c)) ≤ result }

@@ -5,11 +5,11 @@ use crate::logs::{Busiest, busiest_of};
 use crate::text_order::place_in;
 use crate::world_traces::WorldTraces;
 
-// A span has about this number of lines: its task costs little compared to them, and its buffer stays in the cache.
+// The approximate number of lines of a span: its task costs little compared to them, and its buffer stays in the cache.
 const LINES_OF_A_SPAN: u64 = 2_048;
 
-/// What is left of a text, cut into pieces by the log of the station that handles most of it. Where a piece ends is a
-/// hint: no text depends on it.
+/// The rest of a text, cut into pieces by the log of the station that handles most of it. Where a piece ends is a hint:
+/// no text depends on it.
 #[derive(Drop)]
 pub(crate) struct Cuts<'a> {
     busiest: Busiest<'a>,
@@ -19,7 +19,7 @@ pub(crate) struct Cuts<'a> {
 }
 
 impl<'a> Cuts<'a> {
-    /// What a clone handled from a time on and before another.
+    /// Cuts what a clone handled from one time up to another.
     pub(crate) fn new(traces: &WorldTraces<'a>, c: u32, from: u64, until: u64) -> Cuts<'a>
         requires there { c < length traces.now.clones }
     {
@@ -34,7 +34,7 @@ impl<'a> Cuts<'a> {
         }
     }
 
-    /// When the next piece ends, which begins at a time: later than that, and no later than the last one ends.
+    /// The end of the next piece, which begins at a time: later than that time, and at most the end of the rest.
     pub(crate) fn next_end(
         &mut self,
         traces: &WorldTraces<'a>,
@@ -47,7 +47,7 @@ impl<'a> Cuts<'a> {
         ensures later { from < result }
         ensures within { result ≤ until }
     {
-        // the station that handles most may have done so before most of the others
+        // the busiest station may have handled its messages before most of the others did
         if self.piece.saturating_add(1) >= self.pieces && self.from < from {
             *self = Cuts::new(traces, c, from, until);
         }

@@ -7,7 +7,7 @@ ghost use Rattle.decision_book.specs.declared.call.Call.{Call};
 ghost use Rattle.world_core.specs.Taking.{clones_after_calls};
 ghost use Rattle.rolling_text.specs.WorldTraces.{AreShort};
 
-/// A call adds one decision to one list at most, so after 2^21 calls at most the lists are short enough for texts.
+/// A call adds at most one decision to one list. So after at most 2^21 calls the lists are short enough for texts.
 pub fn lists_stay_short()
     ensures short { (net : Net) (calls : List Call) → length calls ≤ WORD_NUMBERS
         → AreShort (clones_after_calls net (base ∷ []) calls) }

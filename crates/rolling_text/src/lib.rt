@@ -1,8 +1,8 @@
 //! The texts of all clones, put one after the other, each in parts.
 //!
-//! A clone's text is a name line and a line for each message that the clone handled. Clones that branch off one
-//! another have most lines in common. So each text begins with lines of the text before it, in its bytes: the lines
-//! that both have are kept, and only what comes after the time at which the two decision lists part is made.
+//! A clone's text is a name line and a line for each message that the clone handled. Clones that branch from one
+//! another share most lines. So each text reuses the bytes of the lines that it shares with the previous text. Only the
+//! lines after the time at which the two decision lists part are made.
 //!
 //! ```text
 //!                      a margin    lines
@@ -17,29 +17,29 @@
 //! put_texts(rt, alloc, &traces, workers, texts, out)?;    // one call for each clone
 //! ```
 //!
-//! A text is put in one call, whose parts are put as they are made: the name line and what is kept of the text before
-//! it, and then its own lines, 16 KiB at a time. The lines that the next text has too are kept, in a buffer for which
-//! `prepare` reserves 256 bytes a line; no line is longer. Memory that nothing kept reaches is never touched, so a
-//! text that no other follows takes hardly any. A line that is not kept costs its entry from the stations' logs, merged
-//! by key, and its bytes. `put_alone` puts the text of one log in the same way.
+//! A text is put in one call, in parts as they are made. First come the name line and the lines kept from the previous
+//! text, and then its own lines, 16 KiB at a time. The lines that the next text shares are kept in a buffer, for which
+//! `prepare` reserves 256 bytes a line; no line is longer. Pages of the buffer that hold no kept line are never
+//! touched, so a text without a successor needs almost no memory. A line that is not kept costs the merge of its entry
+//! from the stations' logs, and its bytes. `put_alone` puts the text of one log in the same way.
 //!
 //! If a run has a long text, a crew of workers makes the lines of long texts. It is begun once for all texts. A text is
-//! cut into spans of about 2,048 lines, and each span is a task of the crew: it merges what comes in the span, and
-//! makes its lines in a buffer of its own. Eight spans for each worker are a batch, at most 64. The members make one
-//! batch while the caller puts the lines of the batch before, and then the caller makes what no member has begun:
+//! cut into spans of about 2,048 lines, and each span is a task of the crew: it merges the entries of the span, and
+//! writes their lines into a buffer. Eight spans for each worker are a batch, at most 64. The members make one batch
+//! while the caller puts the lines of the previous batch. Then the caller makes what no member has begun:
 //!
 //! ```text
 //!   caller     start 2 | put the lines of batch 1 | make spans of 2 | start 3 | put the lines of batch 2 | ..
 //!   members              make spans of 2 ........................ |   make spans of 3 ..
 //! ```
 //!
-//! Where a span ends is a hint, and no text depends on it. Once memory runs out, the caller puts what is left alone,
-//! and takes none. Only tests show that the threads run at the same time. `put_texts_sequentially` is the same without
-//! a crew: it waits for no other thread, so its clauses promise that it returns.
+//! Where a span ends is a hint, and no text depends on it. If memory runs out, the caller puts the rest alone, and
+//! allocates nothing. Only tests show that the threads run concurrently. `put_texts_sequentially` is the same without a
+//! crew: it never waits for another thread, so its contract promises that it returns.
 //!
-//! The promise that it carries: **each text is the trace of its clone simulated alone**, byte for byte, and the texts
-//! come in the order that was asked for. The texts need no memory once the first part is put, so out of memory comes
-//! before any output.
+//! The promise: **each text is the trace of its clone simulated alone**, byte for byte, and the texts are in the
+//! requested order. The texts need no memory once the first part is put, so out of memory can occur only before any
+//! output.
 #![tactic(auto)]
 
 mod alone;

@@ -1,4 +1,4 @@
-//! The lines of the entries that a clone's logs have, merged, and made piece by piece.
+//! The lines of the entries in a clone's logs, merged and made piece by piece.
 ghost use Rattle.std.specs.Prelude.{◌≡◌, ◌+◌, ◌<◌, ◌≤◌, true, length, take, drop, ◌++◌, OnOk, OnErr};
 ghost use Rattle.std.specs.List.{flat_map};
 ghost use Rattle.sim_base.specs.Clones.{clone_at};
@@ -19,7 +19,7 @@ use trace_cursor::Cursor;
 use trace_report::{MOST_LINE, Names, write_stored};
 use world_core::World;
 
-/// Gives a cursor what the logs of a clone have from a time on. Returns how many entries that is.
+/// Fills a cursor with the entries of a clone's logs from a time on. Returns the number of entries.
 pub(crate) fn fill_cursor<'a>(cursor: &mut Cursor<'a>, world: &'a World, c: u32, time: u64) -> u64
     requires clone { IsOverWith world.now c }
     requires most { cursor.old.most ≡ length world.now.net.sites }
@@ -39,8 +39,8 @@ pub(crate) fn fill_cursor<'a>(cursor: &mut Cursor<'a>, world: &'a World, c: u32,
     count
 }
 
-// Makes lines of the next entries of a cursor, `left` of them, while the piece has free bytes for one more, and counts
-// them down. Returns how many bytes they have.
+// Writes the lines of the next entries of a cursor into a piece, while a line fits and `left` of them remain. Updates
+// `left`, and returns the number of bytes written.
 fn make_piece(
     cursor: &mut Cursor<'_>,
     left: &mut u64,
@@ -51,11 +51,11 @@ fn make_piece(
     requires names { AreNames model.now names.now }
     requires left { left.old ≤ length cursor.old.left }
     requires free { MOST_LINE ≤ length piece.old }
-    // the lines of what the cursor has less than before
+    // the lines in the piece are those of the entries that the cursor has passed
     ensures text { take result piece.new ++ flat_map (entry_line model.now) cursor.new.left
         ≡ flat_map (entry_line model.now) cursor.old.left }
     ensures within { result ≤ length piece.new }
-    // of which there are fewer left, if any were
+    // fewer remain, if there were any
     ensures left { left.new ≤ length cursor.new.left }
     ensures behind { drop left.new cursor.new.left ≡ drop left.old cursor.old.left }
     ensures fewer { 1 ≤ left.old → left.new < left.old }
@@ -71,7 +71,7 @@ fn make_piece(
     at
 }
 
-/// Writes the lines of the next entries of a cursor, so many of them, behind the bytes.
+/// Appends the lines of the next `count` entries of a cursor to the bytes.
 ///
 /// Errors: out of memory.
 pub(crate) fn add_entries(
@@ -87,7 +87,7 @@ pub(crate) fn add_entries(
         ≡ bytes.old.items ++ flat_map (entry_line model.now) cursor.old.left) }
     ensures left { OnOk result (cursor.new.left ≡ drop count cursor.old.left) }
 {
-    // beside the buffer, since a line's pieces reach past its end
+    // a separate buffer, since pieces of a line may write past its end
     let mut piece = [0; PIECE];
     let mut left = count;
     while left > 0 {
@@ -100,7 +100,7 @@ pub(crate) fn add_entries(
     Ok(())
 }
 
-/// Puts the lines of the next entries of a cursor, so many of them, and keeps them on a page if that is asked for.
+/// Puts the lines of the next `count` entries of a cursor, and keeps them on a page if `keeps` is set.
 pub(crate) fn put_entries<O: Sink>(
     cursor: &mut Cursor<'_>,
     count: u64,
@@ -116,15 +116,15 @@ pub(crate) fn put_entries<O: Sink>(
     requires free { MOST_LINE ≤ length piece.old }
     requires fits { keeps ≡ true → length page.old.text + length (flat_map (entry_line model.now) cursor.old.left)
         ≤ page.old.reserved }
-    // the lines are put, and stand on the page where they are kept
+    // the lines are put, and the page has them if they are kept
     ensures ok { OnOk result (IsPutTo keeps (flat_map (entry_line model.now) cursor.old.left)
         (flat_map (entry_line model.now) cursor.new.left) page.old page.new (O.view out.old) (O.view out.new)) }
     // or they are cut off
     ensures err { OnErr result (IsCutOff (flat_map (entry_line model.now) cursor.old.left)
         (O.view out.old) (O.view out.new)) }
-    // where they are put, the cursor is so many entries further on
+    // if they are put, the cursor has passed `count` entries
     ensures left { OnOk result (cursor.new.left ≡ drop count cursor.old.left) }
-    // what is kept: how long the piece is, and how many logs the cursor may have
+    // the length of the piece and the capacity of the cursor are unchanged
     ensures size { length piece.new ≡ length piece.old }
     ensures most { cursor.new.most ≡ cursor.old.most }
 {

@@ -1,4 +1,4 @@
-//! How long the lines of a clone are, and how many, out of the logs of a world at the horizon.
+//! The number and the lengths of a clone's lines, from the logs of a world at the horizon.
 ghost use Rattle.std.specs.Prelude.{◌≡◌, ◌+◌, ◌*◌, ◌<◌, ◌≤◌, length, sum_by};
 ghost use Rattle.sim_base.specs.Clones.{clone_at};
 ghost use Rattle.log_chain.specs.Times.{RiseByTime, from_time};
@@ -17,7 +17,7 @@ use net_model::Model;
 use trace_report::{Names, line_len};
 use world_core::World;
 
-// How long the lines of a log from a time on and before another are.
+// The length of the lines of a log from one time up to another.
 fn log_len(model: &Model, names: &Names, log: &Log, from: u64, until: u64) -> usize
     requires names { AreNames model.now names.now }
     requires rises { RiseByTime log.now }
@@ -38,7 +38,7 @@ fn log_len(model: &Model, names: &Names, log: &Log, from: u64, until: u64) -> us
     sum
 }
 
-/// How long the lines of a clone from a time on and before another are.
+/// The length of the lines of a clone from one time up to another.
 pub(crate) fn len_between(world: &World, names: &Names, c: u32, from: u64, until: u64) -> usize
     requires may_trace { MayTrace world.now names.now }
     requires there { c < length world.now.clones }
@@ -55,7 +55,7 @@ pub(crate) fn len_between(world: &World, names: &Names, c: u32, from: u64, until
     sum
 }
 
-/// How many messages the clone handled from a time on.
+/// The number of messages that the clone handled from a time on.
 pub(crate) fn count_from(world: &World, c: u32, time: u64) -> u64
     requires clone { IsOverWith world.now c }
     ensures value { result ≡ length (entries_from (simulation world.now.net) time
@@ -69,7 +69,7 @@ pub(crate) fn count_from(world: &World, c: u32, time: u64) -> u64
     count
 }
 
-// The time of an entry, or another where there is none.
+// The time of an entry, or `other` if there is none.
 fn time_at(log: &Log, place: u64, other: u64) -> u64 {
     match log.walk_from(place).key() {
         Some(key) => key.time,
@@ -77,17 +77,17 @@ fn time_at(log: &Log, place: u64, other: u64) -> u64 {
     }
 }
 
-/// Where most was handled in a span of time.
+/// The log of the busiest station in a span of time.
 #[derive(Drop)]
 pub(crate) struct Busiest<'a> {
     log: Option<&'a Log>,
     place: u64,
     count: u64,
-    /// How many messages all stations handled then: a hint.
+    /// The number of messages that all stations handled in the span: a hint.
     pub all: u64,
 }
 
-/// The station that handled most of what a clone handled from a time on and before another.
+/// Finds the station that handled most messages of a clone from one time up to another.
 pub(crate) fn busiest_of<'a>(world: &'a World, c: u32, from: u64, until: u64) -> Busiest<'a>
     requires clone { IsOverWith world.now c }
 {
@@ -112,7 +112,8 @@ pub(crate) fn busiest_of<'a>(world: &'a World, c: u32, from: u64, until: u64) ->
 }
 
 impl<'a> Busiest<'a> {
-    /// When it had done so many of so many equal pieces, or another time where nothing was handled. It is a hint.
+    /// The time at which it had handled `piece` of `pieces` equal parts, or `other` if it handled nothing. It is a
+    /// hint.
     pub(crate) fn time_of(&self, piece: u64, pieces: u64, other: u64) -> u64 {
         let done = self.count.saturating_mul(piece) / pieces.max(1);
         match self.log {

@@ -1,4 +1,4 @@
-//! The work of the crew that makes lines: each of its tasks makes those of a span, in a buffer of its own.
+//! The work of the crew that makes lines: each task writes the lines of a span into a buffer.
 use crate::text_span::TextSpan;
 use crate::world_traces::WorldTraces;
 use crate::writing::make_lines;
@@ -7,7 +7,7 @@ use sim_base::{NoMemory, Steps};
 use std::alloc::Global;
 use std::sync::ledger::Ledger;
 
-/// The lines of the clones of a world. Contracts see the traces that they are made of.
+/// The work of making lines. Contracts see the traces whose lines are made.
 #[derive(Drop)]
 pub(crate) struct Lines<'t> {
     traces: &'t WorldTraces<'t>,

@@ -1,4 +1,4 @@
-//! A buffer whose memory is taken once, and written forward.
+//! A buffer that is allocated once, and written forward.
 ghost use Rattle.std.specs.Prelude.{◌≡◌, ◌+◌, ◌^◌, ◌<◌, ◌≤◌, ◌++◌, [], true, if◌then◌else◌};
 ghost use Rattle.std.specs.Prelude.{length, take, drop, IfOk, OnOk, OnErr};
 ghost use Rattle.rolling_text.specs.Puts.{IsPartPut, IsPutTo, IsCutOff};
@@ -7,7 +7,7 @@ use sim_base::NoMemory;
 use sim_outer::{PutFailed, Sink};
 use std::alloc::Global;
 
-/// Text in a buffer that never grows. Its memory is touched as far as there was text.
+/// A text buffer that never grows. Its memory is touched only as far as text was written.
 #[derive(Drop)]
 pub struct Page {
     bytes: Vec<u8>,
@@ -23,7 +23,7 @@ impl std::marker::Model for Page {
 }
 
 impl Page {
-    /// A text of so many spaces, with memory for so many bytes.
+    /// Makes a text of `text` spaces, with `reserved` bytes of memory.
     pub fn new(alloc: Global, text: usize, reserved: usize) -> Result<Page, NoMemory>
         requires within { text ≤ reserved }
         ensures text { IfOk result (λ p. length p.text ≡ text) }
@@ -34,7 +34,7 @@ impl Page {
         Ok(Page { bytes })
     }
 
-    /// How long the text is.
+    /// The length of the text.
     pub fn len(&self) -> usize
         ensures value { result ≡ length self.now.text }
         ensures short { result < 2 ^ 63 }
@@ -60,7 +60,7 @@ impl Page {
         overwrite(&mut self.bytes, at, piece);
     }
 
-    // Writes bytes behind the text, if that is asked for.
+    // Appends bytes to the text, if they are to be kept.
     fn keep(&mut self, piece: &[u8], keeps: bool)
         requires fits { keeps ≡ true → length self.old.text + length piece.now ≤ self.old.reserved }
         ensures text { self.new.text ≡ self.old.text ++ (if keeps then piece.now else []) }
@@ -75,7 +75,7 @@ impl Page {
         }
     }
 
-    /// Puts a part of a text, and keeps it behind this text if that is asked for.
+    /// Puts a part of a text, and appends it to this text if `keeps` is set.
     pub fn put_part<O: Sink>(
         &mut self,
         part: &[u8],

@@ -1,4 +1,4 @@
-//! Texts into a sink, one after the other.
+//! Puts the texts of all clones into a sink, one after the other.
 ghost use Rattle.std.specs.Prelude.{◌≡◌, ◌+◌, ◌<◌, ◌≤◌, ◌++◌, true, length, drop, map, codes};
 ghost use Rattle.std.specs.Prelude.{IfOk, IfSome, OnOk, OnErr};
 ghost use Rattle.rolling_text.specs.Batches.{MakeFor};
@@ -29,7 +29,7 @@ use std::alloc::Global;
 use std::sync::Wait;
 use std::thread::{Threads, join_mut};
 
-// Puts a clone's name line before its lines, at the end of the margin there, and returns where it begins.
+// Writes a clone's name line at the end of the margin, just before its lines. Returns where it begins.
 fn put_head(page: &mut Page, name: &Name) -> usize
     requires margin { MARGIN ≤ length page.old.text }
     ensures text { drop result page.new.text
@@ -47,20 +47,20 @@ fn put_head(page: &mut Page, name: &Name) -> usize
     at - 6
 }
 
-// Cuts the page to the lines that a clone has in common with the one before it, from which it parts at a time, so that
-// so many bytes are dropped, and puts its name line before them. Returns where that begins.
+// Begins the text of a clone: drops the last `dropped` bytes of the page, which keeps the lines before the time at
+// which it parts from the previous clone. Then writes its name line before them. Returns where that begins.
 fn begin_text(traces: &WorldTraces<'_>, c: u32, time: u64, dropped: usize, page: &mut Page) -> usize
     requires there { c < length traces.now.clones }
     requires time { time ≡ parting_at' traces.now.net traces.now.clones c }
     requires margin { MARGIN ≤ length page.old.text }
     requires left { AreLeft traces.now.net traces.now.clones c dropped (drop MARGIN page.old.text) }
-    // from what it returns on, the page has the text of the clone up to the time
+    // from the returned place on, the page has the text of the clone up to the time
     ensures text { drop result page.new.text ++ rest traces.now.net (clone_at traces.now.clones c) time
         ≡ clone_text traces.now.net (clone_at traces.now.clones c) }
-    // behind the margin, its lines up to the time
+    // after the margin, the page has its lines up to the time
     ensures lines { drop MARGIN page.new.text ++ rest traces.now.net (clone_at traces.now.clones c) time
         ≡ body traces.now.net (clone_at traces.now.clones c) }
-    // what is kept: the margin, and what is reserved
+    // the margin and the reserved memory are unchanged
     ensures margin { MARGIN ≤ length page.new.text }
     ensures start { result ≤ MARGIN }
     ensures reserved { page.new.reserved ≡ page.old.reserved }
@@ -71,8 +71,8 @@ fn begin_text(traces: &WorldTraces<'_>, c: u32, time: u64, dropped: usize, page:
     put_head(page, &traces.name(c))
 }
 
-// Puts the lines of a clone from where it parts from the one before it: a span up to the time at which the next one
-// parts from it, which is kept, and then all others.
+// Puts the lines of a clone after it parts from the previous one. First comes the span up to the time at which the next
+// clone parts from it, which the page keeps, and then the rest.
 fn put_rest<'t, O: Sink, P: SpanPutter<'t>>(
     traces: &WorldTraces<'t>,
     putter: &mut P,
@@ -86,7 +86,7 @@ fn put_rest<'t, O: Sink, P: SpanPutter<'t>>(
     // all of these lines are put
     ensures ok { OnOk result (IsPartPut (rest traces.now.net (clone_at traces.now.clones kept.c) kept.from)
         (O.view out.old) (O.view out.new)) }
-    // and the page keeps those before the next one parts
+    // the page keeps those before the next clone parts
     ensures page { OnOk result (texts.new.page.text ++ rest traces.now.net (clone_at traces.now.clones kept.c) kept.until
         ≡ texts.old.page.text ++ rest traces.now.net (clone_at traces.now.clones kept.c) kept.from) }
     ensures longer { OnOk result (length texts.old.page.text ≤ length texts.new.page.text) }
@@ -113,7 +113,7 @@ fn put_rest<'t, O: Sink, P: SpanPutter<'t>>(
     }
 }
 
-// How long the lines of a clone are from a time on and before another.
+// The length of the lines of a clone from one time up to another.
 fn bytes_between(traces: &WorldTraces<'_>, c: u32, from: u64, until: u64) -> usize
     requires there { c < length traces.now.clones }
     requires order { from ≤ until }
@@ -124,8 +124,8 @@ fn bytes_between(traces: &WorldTraces<'_>, c: u32, from: u64, until: u64) -> usi
     len_between(traces.world, &traces.names, place, from, until)
 }
 
-// Puts the text of a clone. The page has lines of the clone before it, whose last `dropped` bytes are dropped. Returns
-// how many bytes of what is kept the next one drops.
+// Puts the text of a clone. The page has lines of the previous clone; their last `dropped` bytes do not belong to this
+// clone. Returns the number of kept bytes that the next clone drops.
 fn put_text<'t, O: Sink, P: SpanPutter<'t>>(
     traces: &WorldTraces<'t>,
     putter: &mut P,
@@ -145,7 +145,7 @@ fn put_text<'t, O: Sink, P: SpanPutter<'t>>(
         (O.view out.old) (O.view out.new)) }
     ensures err { OnErr result (IsCutOff (clone_text traces.now.net (clone_at traces.now.clones c))
         (O.view out.old) (O.view out.new)) }
-    // what the page has of it for the next one, if there is one
+    // what the page holds for the next clone, if there is one
     ensures left { IfOk result (λ n. c + 1 < length traces.now.clones →
         AreLeft traces.now.net traces.now.clones (c + 1) n (drop MARGIN texts.new.page.text)) }
     ensures margin { OnOk result (MARGIN ≤ length texts.new.page.text) }
@@ -155,7 +155,7 @@ fn put_text<'t, O: Sink, P: SpanPutter<'t>>(
 {
     let clones = traces.len();
     let time = parting_at(traces, c);
-    // if there is no next clone, nobody asks what it drops
+    // the result for the last clone is not used
     let next = parting_at(traces, (c + 1).min(clones - 1));
     let late = time.max(next);
     let start = begin_text(traces, c, time, dropped, &mut texts.page);
@@ -224,7 +224,7 @@ fn put_and_end<'r, 't, O: Sink, R: Wait>(
     done
 }
 
-// Puts the text of each clone while the members of the crew run in threads. They end after the last text.
+// Puts the text of each clone while the members of the crew run in threads, which end after the last text.
 fn put_beside<'t, O: Sink, R: Threads + Wait + Sync>(
     rt: &R,
     traces: &WorldTraces<'t>,
@@ -249,7 +249,7 @@ fn put_beside<'t, O: Sink, R: Threads + Wait + Sync>(
     done
 }
 
-// Puts the text of each clone with the crew that has begun, or by the caller alone.
+// Puts the text of each clone with the crew, if one has begun, or by the caller alone.
 fn put_with<'t, O: Sink, R: Threads + Wait + Sync>(
     rt: &R,
     alloc: Global,
@@ -274,17 +274,17 @@ fn put_with<'t, O: Sink, R: Threads + Wait + Sync>(
     put_beside(rt, traces, &mut help, members, &bell, &mut texts, out)
 }
 
-/// Puts the text of each clone, its name line and its lines, in one call whose parts are put as they are made, in the
-/// caller's thread. It waits for no other thread, and takes no memory.
+/// Puts the text of each clone, its name line and its lines, in one call, in parts as they are made. It runs in the
+/// caller's thread, never waits for another thread, and allocates nothing.
 ///
-/// The lines that a clone shares with the one before it are kept, and not made again.
+/// The lines that a clone shares with the previous one are kept, and not made again.
 pub fn put_texts_sequentially<'a, O: Sink>(
     traces: &WorldTraces<'a>,
     texts: Texts<'a>,
     out: &mut O,
 ) -> Result<(), PutFailed>
     requires ready { AreTextsReady traces.now.net traces.now.clones texts }
-    // all texts, each in one call, or those before one, and a prefix of it in the last call, which failed
+    // each text was put in one call, or a prefix of one in the last call, which failed, after all texts before it
     ensures ok { OnOk result (IsAppended (O.view out.old).bytes (clone_texts traces.now.net traces.now.clones)
         (O.view out.new).bytes) }
     ensures each { OnOk result (AreCounted (length traces.now.clones) (O.view out.old).calls (O.view out.new).calls) }
@@ -296,10 +296,10 @@ pub fn put_texts_sequentially<'a, O: Sink>(
     put_all(traces, &mut Alone, &mut texts, out)
 }
 
-/// The same with a crew: if there is a long text, and memory for it, a crew of `workers` workers makes the lines of
-/// long texts. Without a crew no memory is taken.
+/// The same with a crew. If there is a long text, and memory for it, a crew of `workers` workers makes the lines of
+/// long texts. Without a crew nothing is allocated.
 ///
-/// With one worker it does what `put_texts_sequentially` does, which is promised to return.
+/// With one worker it does what `put_texts_sequentially` does, which is proved to return.
 pub fn put_texts<'a, O: Sink, R: Threads + Wait + Sync>(
     rt: &R,
     alloc: Global,
@@ -309,7 +309,7 @@ pub fn put_texts<'a, O: Sink, R: Threads + Wait + Sync>(
     out: &mut O,
 ) -> Result<(), PutFailed>
     requires ready { AreTextsReady traces.now.net traces.now.clones texts }
-    // all texts, each in one call, or those before one, and a prefix of it in the last call, which failed
+    // each text was put in one call, or a prefix of one in the last call, which failed, after all texts before it
     ensures ok { OnOk result (IsAppended (O.view out.old).bytes (clone_texts traces.now.net traces.now.clones)
         (O.view out.new).bytes) }
     ensures each { OnOk result (AreCounted (length traces.now.clones) (O.view out.old).calls (O.view out.new).calls) }
@@ -320,7 +320,7 @@ pub fn put_texts<'a, O: Sink, R: Threads + Wait + Sync>(
     if workers <= 1 {
         return put_texts_sequentially(traces, texts, out);
     }
-    // lent again, since the crew lives shorter than what the traces lend
+    // reborrowed, since the crew must not outlive the traces' borrow
     let crew = begin_if_long(alloc, &*traces, workers);
     put_with(rt, alloc, &*traces, crew, texts, out)
 }

@@ -1,4 +1,4 @@
-//! Who puts the lines of a clone in a span of time: the caller alone, or the caller with the members of a crew.
+//! How the lines of a clone in a span of time are put: by the caller alone, or with the members of a crew.
 ghost use Rattle.rolling_text.specs.TextSpans.{MayPut, PutsSpan};
 ghost use Rattle.rolling_text.specs.WorldTraces.{WorldTracesView};
 
@@ -8,7 +8,7 @@ use crate::world_traces::WorldTraces;
 use crate::writing::put_span;
 use sim_outer::{PutFailed, Sink};
 
-/// What puts spans.
+/// The strategy that puts spans.
 pub(crate) trait SpanPutter<'t> {
     // it may put spans of these traces
     ghost puts_for: { Self → WorldTracesView → Type 0 };
@@ -27,7 +27,7 @@ pub(crate) trait SpanPutter<'t> {
         ensures puts_for { puts_for self.new traces.now };
 }
 
-/// The caller alone. It waits for nobody, and takes no memory.
+/// Puts spans by the caller alone. It never waits, and allocates nothing.
 #[derive(Clone, Copy, Debug)]
 pub(crate) struct Alone;
 

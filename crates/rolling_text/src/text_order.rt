@@ -1,20 +1,20 @@
-//! The order in which the clones of a world have their texts.
+//! The order of the clones' texts.
 ghost use Rattle.std.specs.Prelude.{◌≡◌, ◌<◌, length};
 ghost use Rattle.sim_base.specs.Clones.{Clone, clone_at};
 ghost use Rattle.rolling_text.specs.WorldTraces.{IsOrderOf, clones_by};
 
 use world_core::World;
 
-/// In which order the clones of a world have their texts.
+/// The order of the clones' texts.
 #[derive(Drop)]
 pub(crate) enum TextOrder {
-    /// In the order in which they were made.
+    /// In creation order.
     AsMade,
-    /// In that of these places: the first text is that of the clone at the first place.
+    /// In the order of these places: the first text is that of the clone at the first place.
     By(Vec<u32>),
 }
 
-/// The place in the world of the clone whose text has a place among the texts.
+/// The place in the world of the clone whose text is at place `c` among the texts.
 pub(crate) fn place_in(world: &World, order: &TextOrder, c: u32) -> u32
     requires order { IsOrderOf order.now world.now.clones }
     requires there { c < length (clones_by order.now world.now.clones) }

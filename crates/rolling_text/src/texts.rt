@@ -11,31 +11,30 @@ use std::alloc::Global;
 use trace_cursor::Cursor;
 use trace_report::MOST_LINE;
 
-/// The bytes before the lines, at the end of which a name line stands: `clone `, at most 16 bytes and a line feed.
+/// The bytes before the lines. The name line is at their end: `clone `, at most 16 bytes and a line feed.
 pub(crate) const MARGIN: usize = 32;
 
-/// Where the line feed of a name line stands: at the last place of the margin.
+/// The place of the name line's line feed: the last one of the margin.
 pub(crate) const FEED: usize = MARGIN - 1;
 
-/// How many bytes of lines are made at once: they stay near the processor from when they are made to when they are
-/// taken.
+/// The number of bytes of lines that are made at a time, small enough to stay in the cache until they are put.
 pub(crate) const PIECE: usize = 16_384;
 
-/// The most bytes that the lines of a clone have: each station of the longest model has a log as long as one may be.
+/// The maximum number of bytes in the lines of a clone: all logs of the largest model are full.
 pub const MOST_TEXT: usize = MOST_STATIONS * MOST_LIMIT as usize * MOST_LINE;
 
-/// All that the texts of clones need: a buffer for what texts have in common, a cursor, and a buffer for some lines.
+/// All memory for the texts of clones: a buffer for shared lines, a cursor, and a buffer for new lines.
 #[derive(Drop)]
 pub struct Texts<'a> {
-    /// What texts have in common, with a margin before it.
+    /// The shared lines, with a margin before them.
     pub(crate) page: Page,
     /// Merges the logs of a clone.
     pub(crate) walk: Cursor<'a>,
-    /// Some lines, as they are made.
+    /// Lines that were just made.
     pub(crate) piece: Vec<u8>,
 }
 
-/// Takes all memory that the texts need. Writing them needs no more.
+/// Allocates all memory that the texts need. Writing them needs no more.
 pub fn prepare<'a>(alloc: Global, traces: &WorldTraces<'a>) -> Result<Texts<'a>, NoMemory>
     ensures ready { IfOk result (λ texts. AreTextsReady traces.now.net traces.now.clones texts) }
 {

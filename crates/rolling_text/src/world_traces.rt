@@ -1,4 +1,4 @@
-//! The traces of all clones of a world, out of the logs of its stations.
+//! The traces of all clones of a world, from the logs of its stations.
 ghost use Rattle.std.specs.Prelude.{◌≡◌, ◌<◌, ◌≤◌, length};
 ghost use Rattle.sim_base.specs.Clones.{clone_at};
 ghost use Rattle.sim_base.specs.declared.lists.TheConstants.{MOST_CLONES};
@@ -17,14 +17,14 @@ use sim_base::Name;
 use trace_report::Names;
 use world_core::World;
 
-/// The traces of the clones of a world that has come to the horizon.
+/// The traces of the clones of a world at the horizon.
 #[derive(Drop)]
 pub struct WorldTraces<'a> {
     /// The world, at the horizon.
     pub(crate) world: &'a World,
     /// The stations' names.
     pub(crate) names: Names,
-    /// In which order the clones have their texts.
+    /// The order of the clones' texts.
     pub(crate) order: TextOrder,
 }
 
@@ -38,7 +38,7 @@ impl<'a> std::marker::Model for WorldTraces<'a> {
     ghost invariant = { λ t. MayTraceBy t.order t.world.now t.names };
 }
 
-// The time before which two clones of a world have one trace.
+// The time before which two clones of a world have the same trace.
 fn parting_of(world: &World, first: u32, second: u32) -> u64
     requires first { first < length world.now.clones }
     requires second { second < length world.now.clones }
@@ -57,7 +57,7 @@ fn parting_of(world: &World, first: u32, second: u32) -> u64
 }
 
 impl<'a> WorldTraces<'a> {
-    // The traces of a world at the horizon, in an order.
+    // Makes the traces of a world at the horizon, in an order.
     fn by(world: &'a World, order: TextOrder) -> WorldTraces<'a>
         requires done { world.now.front ≡ world.now.net.horizon }
         requires short { AreShort world.now.clones }
@@ -74,7 +74,7 @@ impl<'a> WorldTraces<'a> {
         }
     }
 
-    /// The traces of a world at the horizon, in the order in which its clones were made.
+    /// Makes the traces of a world at the horizon, in creation order of its clones.
     pub fn of(world: &'a World) -> WorldTraces<'a>
         requires done { world.now.front ≡ world.now.net.horizon }
         requires short { AreShort world.now.clones }
@@ -83,8 +83,8 @@ impl<'a> WorldTraces<'a> {
         WorldTraces::by(world, TextOrder::AsMade)
     }
 
-    /// The traces of a world at the horizon, in the order of these places: the first text is that of the clone at the
-    /// first place.
+    /// Makes the traces of a world at the horizon, in the order of these places: the first text is that of the clone at
+    /// the first place.
     pub fn in_order(world: &'a World, order: Vec<u32>) -> WorldTraces<'a>
         requires done { world.now.front ≡ world.now.net.horizon }
         requires short { AreShort world.now.clones }
@@ -94,7 +94,7 @@ impl<'a> WorldTraces<'a> {
         WorldTraces::by(world, TextOrder::By(order))
     }
 
-    /// How many clones there are.
+    /// The number of clones.
     pub fn len(&self) -> u32
         ensures value { result ≡ length self.now.clones }
         ensures few { result ≤ MOST_CLONES }
@@ -113,7 +113,7 @@ impl<'a> WorldTraces<'a> {
         self.world.lists().name(place)
     }
 
-    /// The time before which a clone and the one before it have one trace.
+    /// The time before which a clone and the previous one have the same trace.
     pub fn parting_with_last(&self, c: u32) -> u64
         requires some { 1 ≤ c }
         requires there { c < length self.now.clones }

@@ -1,4 +1,4 @@
-//! The lines of a clone in a span of time: put, or in a buffer of their own.
+//! The lines of a clone in a span of time: put, or written into a new buffer.
 ghost use Rattle.std.specs.Prelude.{◌≡◌, ◌≤◌, length, drop, IfOk};
 ghost use Rattle.sim_base.specs.Clones.{clone_at};
 ghost use Rattle.stations.specs.Runs.{simulation, trace_of};
@@ -19,7 +19,7 @@ use std::alloc::Global;
 use trace_cursor::Cursor;
 use trace_report::MOST_LINE;
 
-// Gives a cursor what a clone handled from a time on. Returns how many of these entries come before another time.
+// Fills a cursor with what a clone handled from a time on. Returns the number of these entries before `until`.
 fn gather_span<'a>(
     traces: &WorldTraces<'a>,
     walk: &mut Cursor<'a>,
@@ -29,26 +29,26 @@ fn gather_span<'a>(
 ) -> u64
     requires span { HasSpan traces.now c from until }
     requires walk { IsWalk traces.now.net walk.old }
-    // what it gives: in the cursor, what the clone handled from the time on
+    // the cursor has what the clone handled from the time on
     ensures left { walk.new.left ≡ entries_from (simulation traces.now.net) from
         (trace_of traces.now.net (clone_at traces.now.clones c)) }
-    // behind so many of these entries, what it handled from the other time on
+    // after this number of entries, it has what the clone handled from `until` on
     ensures behind { drop result walk.new.left ≡ entries_from (simulation traces.now.net) until
         (trace_of traces.now.net (clone_at traces.now.clones c)) }
     ensures within { result ≤ length walk.new.left }
-    // what is kept: how many logs the cursor may have
+    // the capacity of the cursor is unchanged
     ensures walk { IsWalk traces.now.net walk.new }
 {
     let place = place_in(traces.world, &traces.order, c);
     let all = fill_cursor(walk, traces.world, place, from);
-    // nothing comes from the horizon on, where the last span of a text ends
+    // the last span of a text ends at the horizon, and no entry is later
     if until >= traces.world.model().horizon() {
         return all;
     }
     all - count_from(traces.world, place, until)
 }
 
-/// The lines of a clone from a time on and before another, in a buffer of their own and with a cursor of its own.
+/// Makes the lines of a clone from one time up to another, in a new buffer and with a new cursor.
 ///
 /// Errors: out of memory.
 pub(crate) fn make_lines(

@@ -1,20 +1,18 @@
-//! Models that the tests of several crates read, each as the text of a model file, two scripts, and a journal that they
-//! expect.
+//! Models that the tests of several crates read. Some come with scripts and an expected journal.
 //!
-//! They stand here once, so that the tests of a lower and of a higher crate speak of the same network, and a change of
-//! it reaches them all:
+//! The tests of lower and higher crates use the same constants, so a change of a network reaches all of them:
 //!
 //! ```text
 //! ONE_DESK       gate -> desk -> out               the worked example
-//! NO_ROOM        three sources -> desk -> out      jobs that come at one time are lost
-//! DRAWN_GATE     gate -> out                       interarrival times that are drawn
+//! NO_ROOM        three sources -> desk -> out      jobs that arrive at one time are lost
+//! DRAWN_GATE     gate -> out                       random interarrival times
 //! FAN_BY_TURN    gate -> fan -> slow -> out        a router by turn, whose second link goes to the sink
 //! CLASSES        two sources -> desk -> out        a server that serves by class
 //! BUSY           gate -> out                       windows that more than one thread steps
 //! CLINIC         examples/clinic.toml              a planner's model
 //! ```
 //!
-//! A test takes one as it stands, or with one piece of its text replaced:
+//! A test takes a text unchanged, or with one piece of it replaced:
 //!
 //! ```text
 //! let model = read_model(alloc, ONE_DESK.as_bytes())?;
@@ -45,7 +43,7 @@ name = "out"
 kind = "sink"
 "#;
 
-/// Three sources, whose jobs reach a desk at one time, where nobody can wait, and a sink.
+/// Three sources, whose jobs reach a desk without a waiting room at one time, and a sink.
 pub const NO_ROOM: &str = r#"lookahead = 2
 horizon = 20
 [[station]]
@@ -78,7 +76,7 @@ name = "out"
 kind = "sink"
 "#;
 
-/// A source that draws its times, and a sink.
+/// A source with random interarrival times, and a sink.
 pub const DRAWN_GATE: &str = r#"lookahead = 2
 horizon = 20
 seed = 42
@@ -94,7 +92,7 @@ name = "out"
 kind = "sink"
 "#;
 
-/// A router that takes its links by turn, with a delay behind the first.
+/// A router that takes its links by turn, with a delay after the first.
 pub const FAN_BY_TURN: &str = r#"lookahead = 2
 horizon = 20
 seed = 42
@@ -165,8 +163,8 @@ name = "out"
 kind = "sink"
 "#;
 
-/// A walk-in clinic where one patient of four is x-rayed: `examples/clinic.toml` at the top of the repository, byte
-/// for byte.
+/// A walk-in clinic where one patient in four is x-rayed: `examples/clinic.toml` at the top of the repository, byte for
+/// byte.
 pub const CLINIC: &str = r#"# A walk-in clinic; times in minutes
 lookahead = 1
 horizon = 10000
@@ -221,12 +219,12 @@ set a at 8 desk service 2 2
 set b at 8 desk service 2 2
 ";
 
-/// The own script of its `b`.
+/// The own script of clone `b` in [`EQUAL_SCRIPT`].
 pub const OWN_SCRIPT_OF_B: &str = "fork b from base
 set b at 8 desk service 2 2
 ";
 
-/// The journal of [`ONE_DESK`] where nobody decides and nobody looks: its fronts alone.
+/// The journal of [`ONE_DESK`] without decisions and looks: only its fronts.
 pub const QUIET_JOURNAL: &str = "journal 0 7
 # front 5
 # front 7

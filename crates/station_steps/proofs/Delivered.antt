@@ -1,4 +1,4 @@
--- What the stations sent is delivered: each clone takes its own messages of those to its station.
+-- After delivery of what the stations sent, each clone takes its own messages from those to its station.
 use Rattle.std.proofs.Common.{◌≡◌, ℕ, zero, suc, ◌+◌, ◌==◌, Bool, true, false, cond, List, [], ◌∷◌, ◌++◌}
 use Rattle.std.proofs.Common.{inl, inr, sym, ap, ◌∙◌, subst, map, append_assoc, append-nil}
 use Rattle.std.proofs.Common.{eqb-true, eq-eqb}
@@ -26,7 +26,7 @@ use Rattle.station_steps.proofs.Places.{by_number}
 -- ---- sent_to and with_mail
 
 module _ (net : Net) (ends : ℕ → ℕ) where
-  -- messages given one after the other
+  -- messages delivered one after the other
   pub given_so_far : (ms msgs : MarkedMessages) (new done : List StationCopy)
       → SoFarGiven (simulation net) has ends msgs new done
       → SoFarGiven (simulation net) has ends (msgs ++ ms) new (with_mail ms done)
@@ -69,7 +69,7 @@ module _ (net : Net) (ends : ℕ → ℕ) where
         ]
   ]
 
-  -- and what a clone takes of all messages, of those to its station
+  -- of all messages, a clone takes those to its station
   to_taken : (i c : ℕ) (ms : MarkedMessages) (z : Msg) → In z (messages_taken (simulation net) has ends c ms)
       → z.to ≡ i + 1
       → In z (messages_taken (simulation net) has ends c (sent_to i ms))
@@ -118,7 +118,7 @@ module _ (net : Net) (ends : ℕ → ℕ) (c : ℕ) (z : Msg) where
         | inr a ↦ let r = from_all fs a in (suc r.0, r.1)
       ]
 
-  -- and what it sent is among all of it
+  -- and what a station sent is among it
   in_all : (flows : List Flow) (j : ℕ) → In z (messages_taken (simulation net) has ends c (sent_at flows j))
       → In z (messages_taken (simulation net) has ends c (all_sent flows))
   in_all [] j h = absurd h

@@ -1,4 +1,4 @@
--- Messages given to stations, one after the other.
+-- Messages delivered to stations, one after the other.
 use Rattle.std.proofs.Common.{◌≡◌, ℕ, ◌+◌, ◌==◌, ◌<◌, Bool, true, false, cond}
 use Rattle.std.proofs.Common.{List, [], ◌∷◌, ◌++◌, inl, inr, refl, sym, ap, ◌∙◌}
 use Rattle.std.proofs.Common.{subst, arith, length, length-set, map, get_or, slice_get, slice_set, eq-eqb}
@@ -15,7 +15,7 @@ use Rattle.run_laws.proofs.Lists.{slice_get-set_same, slice_get-set_other}
 
 -- ---- AllDelivered by one message
 
--- nothing is for a station: it stays
+-- without messages for it, a station is unchanged
 IsDeliveredTo-none : (ms : MarkedMessages) (p : ProcView) → ms ≡ [] → IsDeliveredTo ms p p
 IsDeliveredTo-none ms p none = record {
   copies = sym (ap (λ l. with_mail l p.copies) none);
@@ -25,15 +25,15 @@ IsDeliveredTo-none ms p none = record {
   proc = λ net h. h;
 }
 
--- none of one message is for a station that it is not to
+-- a message is not for other stations
 pub sent_to-other : (m : Msg) (k : CloneSet) (i : ℕ) → (m.to ≡ i + 1 → ⊥) → sent_to i ((m, k) ∷ []) ≡ []
 sent_to-other m k i n = ap (λ b. cond b ((m, k) ∷ []) []) (ne_eqb m.to (i + 1) n)
 
--- and all of it is for the station that it is to
+-- a message is for the station that it names
 pub sent_to-own : (m : Msg) (k : CloneSet) (i : ℕ) → m.to ≡ i + 1 → sent_to i ((m, k) ∷ []) ≡ (m, k) ∷ []
 sent_to-own m k i e = ap (λ b. cond b ((m, k) ∷ []) []) (eq-eqb m.to (i + 1) e)
 
--- a message for no station
+-- a message to no station
 pub AllDelivered-none : (m : Msg) (k : CloneSet) (procs : List ProcView)
     → ((i : ℕ) → i < length procs → m.to ≡ i + 1 → ⊥) → AllDelivered ((m, k) ∷ []) procs procs
 AllDelivered-none m k procs n = record {
@@ -72,7 +72,7 @@ AllDelivered-one m k procs j old new l to is copies station living once proc = r
   ];
 }
 
--- the stations are in the order of their numbers as before
+-- the stations are still in the order of their numbers
 pub AreStationsInOrder-delivered : (ms : MarkedMessages) (olds news : List ProcView) → AreStationsInOrder olds
     → AllDelivered ms olds news → AreStationsInOrder news
 AreStationsInOrder-delivered ms olds news h d = λ i q got.
@@ -82,7 +82,7 @@ AreStationsInOrder-delivered ms olds news h d = λ i q got.
 
 -- ---- AllDelivered by more messages
 
--- what is for a station of two lists together is what is of the first, and then what is of the second
+-- the messages of two lists for a station are those of the first, and then those of the second
 pub sent_to-append : (i : ℕ) (xs ys : MarkedMessages) → sent_to i (xs ++ ys) ≡ sent_to i xs ++ sent_to i ys
 sent_to-append i [] ys = refl
 sent_to-append i (x ∷ xs) ys = by (sent_to-append i xs ys) (x.0.to == i + 1)
@@ -93,7 +93,7 @@ sent_to-append i (x ∷ xs) ys = by (sent_to-append i xs ys) (x.0.to == i + 1)
     by h true = ap (λ l. x ∷ l) h
     by h false = h
 
--- copies given two lists together are given the first, and then the second
+-- delivering two lists together is delivering the first, and then the second
 pub with_mail-append : (xs ys : MarkedMessages) (copies : List StationCopy)
     → with_mail (xs ++ ys) copies ≡ with_mail ys (with_mail xs copies)
 with_mail-append [] ys copies = refl

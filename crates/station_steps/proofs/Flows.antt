@@ -1,4 +1,4 @@
--- What a station's step gives, by its place in the list of stations.
+-- The result of a station's step, by its place in the list of stations.
 use Rattle.std.proofs.Common.{◌≡◌, ℕ, ◌+◌, ◌<◌, List, [], Option, Some, sym, ap, ◌∙◌, arith, length, option_map}
 use Rattle.std.proofs.Common.{slice_get, subst, unwrap_or}
 use Rattle.std.proofs.lemmas.List.{length-map}
@@ -14,24 +14,24 @@ use Rattle.station_steps.proofs.Places.{got_map, got_within}
 
 -- ---- copies_at, done_at, sent_at
 
--- the copies at a place are those of the station that stands there
+-- the copies at a place are those of the station there
 pub copies_at-got : (procs : List ProcView) (i : ℕ) (p : ProcView) → slice_get procs i ≡ Some p
     → copies_at procs i ≡ p.copies
 copies_at-got procs i p got = ap (λ o. unwrap_or (option_map (λ (p : ProcView). p.copies) o) []) got
 
--- the copies that a task answers at a place are those of the answer there
+-- the copies in a task's result at a place are those of the result there
 pub done_at-got : (flows : List Flow) (i : ℕ) (flow : Flow) → slice_get flows i ≡ Some flow
     → done_at flows i ≡ flow.done.copies
 done_at-got flows i flow got = ap (λ o. unwrap_or (option_map (λ (f : Flow). f.done.copies) o) []) got
 
--- and so is what they sent
+-- the same for what they sent
 pub sent_at-got : (flows : List Flow) (i : ℕ) (flow : Flow) → slice_get flows i ≡ Some flow
     → sent_at flows i ≡ flow.sent.items
 sent_at-got flows i flow got = ap (λ o. unwrap_or (option_map (λ (f : Flow). f.sent.items) o) []) got
 
 -- ---- IsFlow
 
--- what a step gives for a station is what the task of its place answers
+-- the result of a station's step is that of the task at its place
 pub is_flow : (net : Net) (ends : ℕ → ℕ) (bound i : ℕ) (old : ProcView) (flow : Flow) → old.station ≡ i + 1
     → HasAdvanced net old.station ends bound old flow.done flow.sent.items flow.over flow.handled
     → IsFlow net ends bound i old flow
@@ -40,7 +40,7 @@ is_flow net ends bound i old flow number h =
 
 -- ---- AllFlow
 
--- answers for these bounds are answers for bounds that are the same at each station
+-- results for these bounds are results for bounds that agree at each station
 pub AllFlow-bounds : (net : Net) (ends bounds others : ℕ → ℕ) (procs : List ProcView) (flows : List Flow)
     → ((i : ℕ) → i < length procs → bounds i ≡ others i) → AllFlow net ends bounds procs flows
     → AllFlow net ends others procs flows
@@ -49,7 +49,7 @@ AllFlow-bounds net ends bounds others procs flows same all = λ i p flow got the
 
 -- ---- AreStations, MayGiveAll
 
--- stations that were stepped are stations still
+-- stations that were stepped are still stations
 pub AreStations-stepped : (net : Net) (ends bounds : ℕ → ℕ) (procs news : List ProcView) (sent : MarkedMessages)
     (over : Option (ℕ × ℕ)) (steps0 steps : ℕ) → AreStations net procs
     → AllStepped net ends bounds procs news sent over steps0 steps → AreStations net news
@@ -64,7 +64,7 @@ AreStations-stepped net ends bounds procs news sent over steps0 steps all s = re
       subst (IsNumbered net i) f.2 (record { proc = flow.proc; number = flow.number });
 }
 
--- so they may be given what the others sent to them
+-- so what the others sent may be delivered to them
 pub MayGiveAll-stepped : (net : Net) (ends bounds : ℕ → ℕ) (procs news : List ProcView) (sent : MarkedMessages)
     (over : Option (ℕ × ℕ)) (steps0 steps : ℕ) → AreStations net procs
     → AllStepped net ends bounds procs news sent over steps0 steps → MayGiveAll news

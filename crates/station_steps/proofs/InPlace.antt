@@ -20,7 +20,7 @@ use Rattle.run_laws.proofs.Lists.{slice_get-push}
 
 -- ---- IsFlow
 
--- the result of a station with nothing due is the station as it is
+-- a station with nothing due is its own result
 IsFlow-idle : (net : Net) (ends : ℕ → ℕ) (bound i : ℕ) (p : ProcView) (flow : Flow) → IsNumbered net i p
     → IsLowerBoundOfAll bound p.copies →
     AreShared p.living p.copies → flow.done ≡ p → flow.sent.items ≡ [] → flow.over ≡ empty → flow.handled ≡ 0 →
@@ -41,13 +41,13 @@ IsFlow-idle net ends bound i p flow h late shared done sent over handled =
 
 -- ---- slice_get of append
 
--- what stands in the first of two lists stands there in both together
+-- an element of the first of two lists is at the same place in both together
 pub slice_get-append : {X : Type 0} (xs ys : List X) (i : ℕ) → i < length xs → slice_get (xs ++ ys) i ≡ slice_get xs i
 slice_get-append [] ys i l = absurd (omega (arith, l))
 slice_get-append (x ∷ xs) ys zero l = refl
 slice_get-append (x ∷ xs) ys (suc i) l = slice_get-append xs ys i (omega (arith, l))
 
--- one more at the end comes after the others
+-- one more element is after the others
 pub slice_get-last : {X : Type 0} (xs : List X) (x : X) (i : ℕ) → length xs ≡ i → slice_get (xs ++ x ∷ []) i ≡ Some x
 slice_get-last [] x zero e = refl
 slice_get-last [] x (suc i) e = absurd (omega (arith, e))
@@ -56,7 +56,7 @@ slice_get-last (y ∷ ys) x (suc i) e = slice_get-last ys x i (omega (arith, e))
 
 -- ---- IsFirstOver, NoneOver
 
--- the first over the limit stays the first with an answer more
+-- the first over the limit stays the first with one more result
 pub IsFirstOver-push : (flows : List Flow) (f : Flow) (i who : ℕ) → IsFirstOver flows i who
     → IsFirstOver (flows ++ f ∷ []) i who
 IsFirstOver-push flows f i who h = record {
@@ -69,7 +69,7 @@ IsFirstOver-push flows f i who h = record {
   ];
 }
 
--- where none was over the limit, an answer that is over it is the first
+-- if none was over the limit, a new result over it is the first
 pub IsFirstOver-new : (flows : List Flow) (f : Flow) (i who : ℕ) → length flows ≡ i → NoneOver flows
     → IsFirst f.over who → IsFirstOver (flows ++ f ∷ []) i who
 IsFirstOver-new flows f i who many none first = record {
@@ -82,7 +82,7 @@ IsFirstOver-new flows f i who many none first = record {
   ];
 }
 
--- where none was over the limit, and an answer more is not, none is
+-- if none was over the limit, and a new result is not, none is
 pub NoneOver-push : (flows : List Flow) (f : Flow) → NoneOver flows → f.over ≡ empty → NoneOver (flows ++ f ∷ [])
 NoneOver-push flows f none over = λ i g got. elim (slice_get-push flows f g i got) [
   | inl e ↦ none i g e
@@ -112,7 +112,7 @@ SteppedAt-flow net ends bound i olds news before after p flow got is there other
 -- ---- SteppedTo, AllStepped
 
 module _ (net : Net) (ends bounds : ℕ → ℕ) (olds : List ProcView) where
-  -- at first no station has answered
+  -- at first no station is stepped
   pub SteppedTo-none : (steps : ℕ) → SteppedTo net ends bounds 0 olds olds [] None steps steps
   SteppedTo-none steps = record {
     flows = [];
@@ -129,7 +129,7 @@ module _ (net : Net) (ends bounds : ℕ → ℕ) (olds : List ProcView) where
       none_got : (flow : Flow) → None ≡ Some flow → ⊥
       none_got flow e = absurd (cc)
 
-  -- where the first n have answered and now the next has, the first n + 1 have
+  -- if the first n were stepped, and now the next one is, the first n + 1 are
   pub SteppedTo-next : (n : ℕ) (news after : List ProcView) (sent now : MarkedMessages) (over0 over1 : Option (ℕ × ℕ))
       (over : CloneSet) (handled steps0 steps steps1 : ℕ) → n < length olds →
       SteppedTo net ends bounds n olds news sent over0 steps0 steps
@@ -177,7 +177,7 @@ module _ (net : Net) (ends bounds : ℕ → ℕ) (olds : List ProcView) where
           below : (i : ℕ) → i < n + 1 → (i ≡ n → ⊥) → i < n
           below i less ne = grind (arith, less)
 
-  -- a station with nothing due was stepped by leaving it as it is
+  -- a station with nothing due is stepped by leaving it unchanged
   pub SteppedTo-idle : (n : ℕ) (news : List ProcView) (sent : MarkedMessages) (over : Option (ℕ × ℕ)) (steps0 steps : ℕ)
       (p : ProcView) (flow : Flow) → n < length olds → SteppedTo net ends bounds n olds news sent over steps0 steps
       → slice_get news n ≡ Some p → IsNumbered net n p → IsLowerBoundOfAll (bounds n) p.copies → AreShared p.living p.copies
@@ -195,7 +195,7 @@ module _ (net : Net) (ends bounds : ℕ → ℕ) (olds : List ProcView) where
       still None flows f e h = NoneOver-push flows f h e
       still (Some q) flows f e h = IsFirstOver-push flows f q.0 q.1 h
 
-  -- and where as many as there are have answered, all have
+  -- if the number of stepped stations is that of all, all are
   pub SteppedTo-all : (n : ℕ) (news : List ProcView) (sent : MarkedMessages) (over : Option (ℕ × ℕ)) (steps0 steps : ℕ)
       → n ≡ length olds →
       SteppedTo net ends bounds n olds news sent over steps0 steps

@@ -1,4 +1,4 @@
--- The least times of what clones take of the mail.
+-- The least times of the mail that clones take.
 use Rattle.std.proofs.Common.{◌≡◌, ◌≢◌, ℕ, ◌<◌, ◌≤◌, ◌==◌, ◌&&◌, not, Bool, true, false, ◌⊎◌, List, [], ◌∷◌, ◌++◌}
 use Rattle.std.proofs.Common.{inl, inr, Option, Some, refl, sym, ap, ◌∙◌, subst, arith, nat_lt, IfSome, eqb-true, eq-eqb, if◌then◌else◌}
 use Rattle.std.specs.List.{AllByRecursion}
@@ -32,7 +32,7 @@ use Rattle.station_steps.proofs.TakenMail.{least_earliest}
 -- ---- IsMailTaken, of two lists together
 
 module _ (ends : ℕ → ℕ) (clones : CloneSet) (xs ys : MarkedMessages) where
-  -- what is taken of the first is taken of both
+  -- what is taken from the first is taken from both
   of_first : (m : Msg) → IsMailTaken ends clones xs m → IsMailTaken ends clones (xs ++ ys) m
   of_first m q = record {
     clone = q.clone;
@@ -43,7 +43,7 @@ module _ (ends : ℕ → ℕ) (clones : CloneSet) (xs ys : MarkedMessages) where
     in_time = q.in_time;
   }
 
-  -- what is taken of the second too
+  -- what is taken from the second is taken from both
   of_second : (m : Msg) → IsMailTaken ends clones ys m → IsMailTaken ends clones (xs ++ ys) m
   of_second m q = record {
     clone = q.clone;
@@ -54,7 +54,7 @@ module _ (ends : ℕ → ℕ) (clones : CloneSet) (xs ys : MarkedMessages) where
     in_time = q.in_time;
   }
 
-  -- and nothing else
+  -- nothing else is taken from both
   of_either : (m : Msg) → IsMailTaken ends clones (xs ++ ys) m
       → IsMailTaken ends clones xs m ⊎ IsMailTaken ends clones ys m
   of_either m q = elim (in_append xs ys (m, q.marks) q.is_mail) [
@@ -76,18 +76,18 @@ module _ (ends : ℕ → ℕ) (clones : CloneSet) (xs ys : MarkedMessages) where
     })
   ]
 
-  -- the earlier of a time and of one list, and then of another, is that of both
+  -- the earlier of a time and one list, and then of another list, is that of both
   pub earliest-append : (a b c : Option ℕ) → IsEarliest a (IsMailTaken ends clones xs) b
       → IsEarliest b (IsMailTaken ends clones ys) c → IsEarliest a (IsMailTaken ends clones (xs ++ ys)) c
   earliest-append a b c h k = IsEarliest-then a b c (IsMailTaken ends clones xs) (IsMailTaken ends clones ys)
       (IsMailTaken ends clones (xs ++ ys)) of_first of_second of_either h k
 
--- of no messages none is taken
+-- from no messages none is taken
 pub earliest-nil : (ends : ℕ → ℕ) (clones : CloneSet) (a : Option ℕ)
     → IsEarliest a (IsMailTaken ends clones []) a
 earliest-nil ends clones a = IsEarliest-none a (IsMailTaken ends clones []) (λ m q. q.is_mail)
 
--- and of messages that don't come before the time none is taken before it
+-- from messages that are not before a time none is taken before it
 pub earliest-after : (ends : ℕ → ℕ) (clones : CloneSet) (ms : MarkedMessages) (a : Option ℕ) (t first : ℕ)
     → a ≡ Some t → t ≤ first → AllByRecursion (λ x. first ≤ x.0.key.time) ms
     → IsEarliest a (IsMailTaken ends clones ms) a
@@ -113,12 +113,12 @@ module _ (horizon : ℕ) (es : List (ℕ × ℕ)) (clones : CloneSet) (m : Msg) 
     | inr n ↦ absurd n
   ]
 
-  -- the time is not after it
+  -- a time that is not after the message stays
   pub one-late : (t : ℕ) → before ≡ Some t → t ≤ m.key.time → IsEarliest before Taken before
   one-late t is late = subst (λ b. IsEarliest b Taken b) (sym is)
       (IsEarliest-late t Taken (λ z q. subst (λ (u : Msg). t ≤ u.key.time) (sym (only z q)) late))
 
-  -- it does not come before the horizon
+  -- a message at the horizon or later changes nothing
   pub one-beyond : horizon ≤ m.key.time → IsEarliest before Taken before
   one-beyond late = IsEarliest-none before Taken (λ z q.
       let e = ends_in-bound horizon es q.clone in
@@ -138,7 +138,7 @@ module _ (horizon : ℕ) (es : List (ℕ × ℕ)) (clones : CloneSet) (m : Msg) 
         twice true = refl
         twice false = refl
 
-    -- no one takes it
+    -- no clone takes it
     pub one-none : ((c : ℕ) → has takers c ≡ false) → IsEarliest before Taken before
     one-none none = IsEarliest-none before Taken (λ z q.
         let l = subst (λ (u : Msg). u.key.time < ends_in horizon es q.clone) (only z q) q.in_time in
@@ -147,7 +147,7 @@ module _ (horizon : ℕ) (es : List (ℕ × ℕ)) (clones : CloneSet) (m : Msg) 
         ∙ ap (λ b. b && nat_lt m.key.time (ends_in horizon es q.clone)) q.is_in
         ∙ lt-ltb m.key.time (ends_in horizon es q.clone) l))
 
-    -- someone takes it
+    -- some clone takes it
     pub one-some : takers ≢ empty → IfSome before (λ b. m.key.time ≤ b) → IsEarliest before Taken (Some m.key.time)
     one-some some sooner =
         let c = set_has_clone takers some in
@@ -166,7 +166,7 @@ module _ (horizon : ℕ) (es : List (ℕ × ℕ)) (clones : CloneSet) (m : Msg) 
 -- ---- IsTakenBy, with mail
 
 module _ (net : Net) (ends : ℕ → ℕ) where
-  -- what a clone takes of messages is one of them, and the clone takes it
+  -- what a clone takes from messages is one of them, and the clone takes it
   in_taken : (c : ℕ) (ms : MarkedMessages) (z : Msg) → In z (messages_taken (simulation net) has ends c ms)
       → (k : CloneSet) × In (z, k) ms × (has k c ≡ true) × (z.key.time < ends c)
   in_taken c [] z i = absurd i
@@ -181,7 +181,7 @@ module _ (net : Net) (ends : ℕ → ℕ) where
         | inr h ↦ let r = in_taken c ms z h in (r.0, inr r.1, r.2, r.3)
       ]
 
-  -- and one of them that it takes is so
+  -- a message among them that the clone may take is taken
   taken_has : (c : ℕ) (ms : MarkedMessages) (x : Msg × CloneSet) → In x ms → has x.1 c ≡ true
       → x.0.key.time < ends c → In x.0 (messages_taken (simulation net) has ends c ms)
   taken_has c [] x i h l = absurd i
@@ -200,11 +200,11 @@ module _ (net : Net) (ends : ℕ → ℕ) where
 
   module _ (ms : MarkedMessages) (xs : List StationCopy) (disjoint : Disjoint has xs)
       (sorted : (a : StationCopy) → In a xs → SortedMarked msg_cmp a.pending) where
-    -- the copies, once they were given the messages
+    -- the copies after the messages were delivered
     given : SoFarGiven (simulation net) has ends ms xs (with_mail ms xs)
     given = given_so_far net ends ms [] xs xs (given_none (simulation net) has ends xs disjoint sorted)
 
-    -- what a clone took it takes still
+    -- a clone still takes what it took before
     taken_still : (c : ℕ) (m : Msg) → IsTakenBy ends xs c m → IsTakenBy ends (with_mail ms xs) c m
     taken_still c m h =
         let b = given.clones.each h.copy h.is_copy in
@@ -220,7 +220,7 @@ module _ (net : Net) (ends : ℕ → ℕ) where
               In m (messages_taken (simulation net) has ends c u.pending)) one h.is_taken));
         }
 
-    -- what it takes of the messages it takes of the copies
+    -- what a clone takes from the messages it takes from the copies
     taken_mail : (c : ℕ) (m : Msg) (k : CloneSet) → has (all_clones xs) c ≡ true → In (m, k) ms → has k c ≡ true
         → m.key.time < ends c → IsTakenBy ends (with_mail ms xs) c m
     taken_mail c m k lives i marked soon =
@@ -249,7 +249,7 @@ module _ (net : Net) (ends : ℕ → ℕ) where
 
     -- ---- IsLeast and IsLeastOf
 
-    -- the earlier of the copies' least time and that of the messages is the least once they were given
+    -- the earlier of the copies' least time and the messages' is the least time after delivery
     pub least_with_mail : (living : CloneSet) → all_clones xs ≡ living → (t u : Option ℕ) → IsLeast ends xs t
         → IsEarliest t (IsMailTaken ends living ms) u → IsLeast ends (with_mail ms xs) u
     least_with_mail living all t u h k = least_earliest t u (λ m. (c : ℕ) × IsTakenBy ends xs c m)
@@ -272,7 +272,7 @@ module _ (net : Net) (ends : ℕ → ℕ) where
         ])
         h k
 
-    -- and so for one clone
+    -- the same for one clone
     pub least_of_with_mail : (living clones : CloneSet) (c : ℕ) → all_clones xs ≡ living
         → clones ≡ meet living (one c) → ((d : ℕ) → has (one c) d ≡ (c == d)) → (t u : Option ℕ)
         → IsLeastOf ends xs c t → IsEarliest t (IsMailTaken ends clones ms) u

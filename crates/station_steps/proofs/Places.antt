@@ -5,16 +5,16 @@ use Rattle.std.proofs.lemmas.Option.{same_Some, slice_get_cases, slice_get-get_o
 
 -- ---- slice_get and get_or
 
--- an element that is read at a place within a list stands there
+-- an element that is read at a place within a list is there
 pub got_at : {X : Type 0} (xs : List X) (i : ℕ) (x : X) → i < length xs → x ≡ get_or xs i x → slice_get xs i ≡ Some x
 got_at xs i x l e = slice_get-get_or xs i x l ∙ ap Some (sym e)
 
--- at one place stands one element
+-- there is one element at a place
 pub one_got : {X : Type 0} (xs : List X) (i j : ℕ) (x y : X) → i ≡ j → slice_get xs i ≡ Some x
     → slice_get xs j ≡ Some y → x ≡ y
 one_got xs i j x y e f g = same_Some x y (sym f ∙ ap (slice_get xs) e ∙ g)
 
--- at a place within a list is an element
+-- there is an element at each place within a list
 pub got_within : {X : Type 0} (xs : List X) (i : ℕ) → i < length xs → (x : X) × (slice_get xs i ≡ Some x)
 got_within xs i l = elim (slice_get_cases xs i).1 [
   | inl found ↦ (found.0, found.2)
@@ -30,14 +30,14 @@ got_map f [] i y e = absurd (cc)
 got_map f (x ∷ xs) zero y e = (x, refl, same_Some (f x) y e)
 got_map f (x ∷ xs) (suc i) y e = got_map f xs i y e
 
--- and the image of an element stands at the same place
+-- the image of an element is at the same place
 pub map_got : {X Y : Type 0} (f : X → Y) (xs : List X) (i : ℕ) (x : X) → slice_get xs i ≡ Some x
     → slice_get (map f xs) i ≡ Some (f x)
 map_got f xs i x e = slice_get-map f xs i ∙ ap (option_map f) e
 
 -- ---- by the number of the station
 
--- what stands at a place, by the number of its station; there is no station 0
+-- a function of places, by the number of the station; there is no station 0
 abbrev pub by_number : {X : Type 0} → X → (ℕ → X) → ℕ → X
 by_number d f zero = d
 by_number d f (suc i) = f i

@@ -9,7 +9,7 @@ use Rattle.run_laws.proofs.Lists.{slice_get-set_same, slice_get-set_other}
 use Rattle.station_steps.specs.Windows.{AllDelivered, IsDeliveredTo, sent_to}
 use Rattle.station_steps.proofs.Places.{got_at, one_got}
 
--- the first n stations have what is for them, the others are as they were
+-- the first n stations have their messages, and the others are unchanged
 pub record PostedTo (ms : MarkedMessages) (n : ℕ) (olds news : List ProcView) : Type 0 where
   pub count : length news ≡ length olds
   pub each : (i : ℕ) (p q : ProcView) → i < n → slice_get olds i ≡ Some p → slice_get news i ≡ Some q
@@ -24,7 +24,7 @@ PostedTo-none ms olds = record {
   others = λ i l. refl;
 }
 
--- with the next station posted to, one station more is
+-- after posting to the next station, n + 1 have
 pub PostedTo-next : (ms : MarkedMessages) (n : ℕ) (olds news : List ProcView) (was now : ProcView)
     → PostedTo ms n olds news → n < length olds → was ≡ get_or news n was → IsDeliveredTo (sent_to n ms) was now
     → PostedTo ms (n + 1) olds (slice_set news n now)
@@ -47,7 +47,7 @@ PostedTo-next ms n olds news was now h l is post = record {
     below : (i : ℕ) → i < n + 1 → (i ≡ n → ⊥) → i < n
     below i less ne = grind (arith, less)
 
--- where as many are posted to as there are, all are
+-- if all stations were posted to, all have their messages
 pub PostedTo-all : (ms : MarkedMessages) (n : ℕ) (olds news : List ProcView) → length olds ≤ n
     → PostedTo ms n olds news → AllDelivered ms olds news
 PostedTo-all ms n olds news l h = record {
@@ -55,7 +55,7 @@ PostedTo-all ms n olds news l h = record {
   each = λ i p q a b. let k = slice_get_within olds i p a in h.each i p q (omega (arith, k, l)) a b;
 }
 
--- what stands at the next place is as it was
+-- the next station is unchanged so far
 pub PostedTo-others : (ms : MarkedMessages) (n : ℕ) (olds news : List ProcView) (p : ProcView)
     → PostedTo ms n olds news → n < length olds → p ≡ get_or news n p → slice_get olds n ≡ Some p
 PostedTo-others ms n olds news p h l is = sym (h.others n (omega arith))

@@ -1,4 +1,4 @@
--- What mail makes of the copies of a station: what is pending, what is not new, and the least times.
+-- The copies of a station after mail: their pending messages, what is unchanged, and the least times.
 use Rattle.std.proofs.Common.{◌≡◌, ℕ, ◌+◌, ◌<◌, ◌≤◌, ◌==◌, Bool, true, false, cond, ◌⊎◌, List, [], ◌∷◌, ◌++◌}
 use Rattle.std.proofs.Common.{inl, inr, Option, Some, None, refl, sym, ap, ap₂, ◌∙◌, subst, arith, map, drop, get_or, eq-eqb, eqb-true}
 use Rattle.std.proofs.Common.{take, length, IfSome}
@@ -28,7 +28,7 @@ use Rattle.station_steps.proofs.Delivering.{with_mail-append}
 
 -- ---- lists of lists
 
--- the elements of one list more come after those of the lists before
+-- the elements of one more list come after those of the lists before
 pub flat_map-next : {X Y : Type 0} (f : X → List Y) (xs : List X) (i : ℕ) (x : X) → i < length xs → x ≡ get_or xs i x
     → flat_map f (take (i + 1) xs) ≡ flat_map f (take i xs) ++ f x
 flat_map-next f xs i x l is = ap (flat_map f) (take_next xs i x l is) ∙ flat_map-append f (take i xs) (x ∷ [])
@@ -36,7 +36,7 @@ flat_map-next f xs i x l is = ap (flat_map f) (take_next xs i x l is) ∙ flat_m
 
 -- ---- mail_for
 
--- what is for a station of two lists together is what is of the first, and then what is of the second
+-- the messages of two lists for a station are those of the first, and then those of the second
 pub mail_for-append : (s : ℕ) (xs ys : MarkedMessages) → mail_for s (xs ++ ys) ≡ mail_for s xs ++ mail_for s ys
 mail_for-append s xs ys = filter-append (λ x. x.0.to == s) xs ys
 
@@ -48,14 +48,14 @@ mail_for-own s x e = ap (λ b. cond b (x ∷ []) []) (eq-eqb x.0.to s e)
 pub mail_for-other : (s : ℕ) (x : Msg × CloneSet) → (x.0.to ≡ s → ⊥) → mail_for s (x ∷ []) ≡ []
 mail_for-other s x n = ap (λ b. cond b (x ∷ []) []) (ne_eqb x.0.to s n)
 
--- what is for a station of one message more
+-- the messages for a station, with one more message
 pub mail_for-next : (s : ℕ) (ms : MarkedMessages) (i : ℕ) (x : Msg × CloneSet) → i < length ms → x ≡ get_or ms i x
     → mail_for s (take (i + 1) ms) ≡ mail_for s (take i ms) ++ mail_for s (x ∷ [])
 mail_for-next s ms i x l is = ap (mail_for s) (take_next ms i x l is) ∙ mail_for-append s (take i ms) (x ∷ [])
 
 -- ---- IsDeliveredTo
 
--- where nothing is for a station, it stays as it is
+-- without messages for it, a station is unchanged
 pub IsDeliveredTo-same : (ms : MarkedMessages) (p : ProcView) → ms ≡ [] → IsDeliveredTo ms p p
 IsDeliveredTo-same ms p none = record {
   copies = sym (ap (λ l. with_mail l p.copies) none);
@@ -76,7 +76,7 @@ IsDeliveredTo-then xs ys first second third a b = record {
   proc = λ net h. b.proc net (a.proc net h);
 }
 
--- a station that was given what is for it of the mail is the station with its own mail
+-- a station to which its messages were delivered is the station with its own mail
 pub given_is : (ms : MarkedMessages) (p q : ProcView) → IsDeliveredTo (mail_for p.station ms) p q
     → q ≡ with_own_mail ms p
 given_is ms p q h = λ j. record {
@@ -86,14 +86,14 @@ given_is ms p q h = λ j. record {
   copies = h.copies j;
 }
 
--- what a station is once it has taken the mail that it kept is what clauses say of it
+-- a station that has taken its mail equals its view before
 pub taken_is : (ms took : MarkedMessages) (raw p q v : ProcView) → IsDeliveredTo (mail_for p.station took) p q
     → took ≡ ms → p ≡ raw → with_own_mail ms raw ≡ v → q ≡ v
 taken_is ms took raw p q v h e f is = given_is took p q h ∙ ap₂ with_own_mail e f ∙ is
 
 -- ---- but_pending and view_of_copy
 
--- with a message given to each, copies differ in what is pending alone
+-- after a message is delivered to each, copies differ only in their pending messages
 pub but_pending-mail : (ms : MarkedMessages) (xs : List StationCopy)
     → map but_pending (with_mail ms xs) ≡ map but_pending xs
 but_pending-mail [] xs = refl
@@ -103,7 +103,7 @@ but_pending-mail (x ∷ ms) xs = but_pending-mail ms (map (with_message x.0 x.1)
     same [] = refl
     same (y ∷ ys) = ap (λ l. but_pending y ∷ l) (same ys)
 
--- and a reader sees the same
+-- a reader sees the same
 pub view_of_copy-mail : (ms : MarkedMessages) (xs : List StationCopy)
     → map view_of_copy (with_mail ms xs) ≡ map view_of_copy xs
 view_of_copy-mail [] xs = refl
@@ -113,7 +113,7 @@ view_of_copy-mail (x ∷ ms) xs = view_of_copy-mail ms (map (with_message x.0 x.
     same [] = refl
     same (y ∷ ys) = ap (λ l. view_of_copy y ∷ l) (same ys)
 
--- the copies share out the living clones as before
+-- the copies still partition the living clones
 pub AreShared-mail : (ms : MarkedMessages) (p : ProcView) → AreShared p.living p.copies
     → AreShared (with_own_mail ms p).living (with_own_mail ms p).copies
 AreShared-mail ms p h = (shares_same p.station 0 p.living p.copies (with_own_mail ms p).copies
@@ -121,7 +121,7 @@ AreShared-mail ms p h = (shares_same p.station 0 p.living p.copies (with_own_mai
 
 -- ---- IsProc
 
--- copies of a station are so with what is for it
+-- copies of a station are still so with its messages
 fits_with : (net : Net) (s : ℕ) (ms : MarkedMessages) (xs : List StationCopy) → AllByRecursion (IsCopy net s) xs
     → AllByRecursion (IsCopy net s) (with_mail (mail_for s ms) xs)
 fits_with net s [] xs f = f
@@ -141,7 +141,7 @@ IsProc-mail ms p net h = record {
   copies = fits_with net p.station ms p.copies h.copies;
 }
 
--- a station with its own mail was given what is for it
+-- a station with its own mail is one to which its messages were delivered
 pub IsDeliveredTo-own : (ms : MarkedMessages) (p : ProcView)
     → IsDeliveredTo (mail_for p.station ms) p (with_own_mail ms p)
 IsDeliveredTo-own ms p = record {
@@ -152,13 +152,13 @@ IsDeliveredTo-own ms p = record {
   proc = IsProc-mail ms p;
 }
 
--- a copy of a station of some network is one of this, where another that differs in what is pending is
+-- a copy of a station of some network is one of this network, if a copy that differs only in its pending messages is
 fits_back : (n net : Net) (s : ℕ) (a b : StationCopy) → but_pending b ≡ but_pending a → IsCopy n s a → IsCopy net s b
     → IsCopy net s a
 fits_back n net s a b e g f = IsCopy-like net s b a f (sym (ap (λ (u : StationCopy). u.state) e))
     (sym (ap (λ (u : StationCopy). u.log) e)) g.inhabited g.sorted g.targets g.marks
 
--- and so for lists of copies
+-- the same for lists of copies
 all_fit_back : (n net : Net) (s : ℕ) (xs ys : List StationCopy) → map but_pending ys ≡ map but_pending xs
     → AllByRecursion (IsCopy n s) xs → AllByRecursion (IsCopy net s) ys → AllByRecursion (IsCopy net s) xs
 all_fit_back n net s [] ys e g f = tt
@@ -168,7 +168,7 @@ all_fit_back n net s (x ∷ xs) (y ∷ ys) e g f = (
   all_fit_back n net s xs ys (ap (λ l. drop 1 l) e) g.1 f.1,
 )
 
--- a station of some network is one of this, where with its own mail it is one
+-- a station of some network is one of this network, if it is with its own mail
 pub IsProc-before : (ms : MarkedMessages) (p : ProcView) (n net : Net) → IsProc n p → IsProc net (with_own_mail ms p)
     → IsProc net p
 IsProc-before ms p n net g h = record {
@@ -180,7 +180,7 @@ IsProc-before ms p n net g h = record {
 
 -- ---- IsLowerBoundOfAll
 
--- with messages that don't come before the time, nothing is pending before it
+-- with messages that are not before the time, no message is pending before it
 lower_with : (t : ℕ) (ms : MarkedMessages) (xs : List StationCopy) → AllByRecursion (λ x. t ≤ x.0.key.time) ms
     → IsLowerBoundOfAll t xs → IsLowerBoundOfAll t (with_mail ms xs)
 lower_with t [] xs late f = f
@@ -189,11 +189,11 @@ lower_with t (x ∷ ms) xs late f = let l = late.0 in lower_with t ms (map (with
 
 -- ---- KeepsMail
 
--- with no mail a station keeps what it is
+-- without mail a station is unchanged
 pub KeepsMail-none : (bound : ℕ) (p : ProcView) → IsLowerBoundOfAll bound p.copies → KeepsMail bound [] p
 KeepsMail-none bound p lower = record { lower = lower; proc = λ net h. h }
 
--- and so with mail that does not come before the bound
+-- the same with mail that is not before the bound
 pub KeepsMail-post : (n : Net) (bound first low : ℕ) (ms : MarkedMessages) (p : ProcView) → IsProc n p
     → low ≤ bound → low ≤ first → IsFirstFor p.station ms first → IsLowerBoundOfAll bound p.copies
     → KeepsMail low ms p
@@ -209,7 +209,7 @@ KeepsMail-post n bound first low ms p is below soon h lower = record {
 -- ---- IsNoted and IsFirstFor
 
 module _ (firsts : List ℕ) (s : ℕ) where
-  -- no message for the station comes before what is noted
+  -- no message for the station is before its recorded first time
   noted_first : (ms : MarkedMessages) → AllByRecursion (IsNoted firsts) ms
       → AllByRecursion (λ x. get_or firsts s 0 ≤ x.0.key.time) (mail_for s ms)
   noted_first [] h = tt
@@ -220,7 +220,7 @@ module _ (firsts : List ℕ) (s : ℕ) where
       by true e rest = (subst (λ n. get_or firsts n 0 ≤ x.0.key.time) (eqb-true x.0.to s e) h.0.first, rest)
       by false e rest = rest
 
-  -- where nothing is noted, nothing is for it
+  -- if no first time is recorded, there is no message for it
   noted_none : (ms : MarkedMessages) → AllByRecursion (IsNoted firsts) ms → NO_MAIL ≤ get_or firsts s 0
       → mail_for s ms ≡ []
   noted_none [] h is = refl
@@ -231,12 +231,12 @@ module _ (firsts : List ℕ) (s : ℕ) where
           omega (arith, l, is))
       by false e rest = rest
 
-  -- what is noted for a station is a first time for it
+  -- the recorded time for a station is a first time for it
   pub IsFirstFor-noted : (ms : MarkedMessages) → AllByRecursion (IsNoted firsts) ms
       → IsFirstFor s ms (get_or firsts s 0)
   IsFirstFor-noted ms h = record { first = noted_first ms h; none = noted_none ms h }
 
--- the lesser of the first times of two lists is one of both together
+-- the lesser of the first times of two lists is a first time for both together
 pub IsFirstFor-append : (s : ℕ) (xs ys : MarkedMessages) (t u low : ℕ) → low ≤ t → low ≤ u
     → IsFirstFor s xs t → IsFirstFor s ys u → IsFirstFor s (xs ++ ys) low
 IsFirstFor-append s xs ys t u low a b f g = record {
@@ -258,17 +258,17 @@ IsFirstFor-append s xs ys t u low a b f g = record {
 
 -- ---- IsEarliest
 
--- what holds of no message leaves the time
+-- a property of no message leaves the time unchanged
 pub IsEarliest-none : (before : Option ℕ) (Q : Msg → Type 0) → ((m : Msg) → Q m → ⊥) → IsEarliest before Q before
 IsEarliest-none None Q none = (refl, none)
 IsEarliest-none (Some t) Q none = (inl refl, omega arith, λ m q. absurd (none m q))
 
--- and so where it holds of no message before the time
+-- the same for a property of no message before the time
 pub IsEarliest-late : (t : ℕ) (Q : Msg → Type 0) → ((m : Msg) → Q m → t ≤ m.key.time)
     → IsEarliest (Some t) Q (Some t)
 IsEarliest-late t Q late = (inl refl, omega arith, late)
 
--- what holds of one message alone, which comes before the time
+-- a property of one message only, which is before the time
 pub IsEarliest-one : (before : Option ℕ) (m : Msg) (Q : Msg → Type 0) → IfSome before (λ b. m.key.time ≤ b) → Q m
     → ((z : Msg) → Q z → z ≡ m) → IsEarliest before Q (Some m.key.time)
 IsEarliest-one before m Q sooner is only = (
@@ -277,7 +277,7 @@ IsEarliest-one before m Q sooner is only = (
   λ z q. subst (λ (u : Msg). m.key.time ≤ u.key.time) (sym (only z q)) (omega arith),
 )
 
--- the earlier of the time and one kind of messages, and then of another kind, is that of both kinds
+-- the earlier of the time and messages of one kind, and then of another, is that of both kinds
 pub IsEarliest-then : (a b c : Option ℕ) (P Q R : Msg → Type 0) → ((m : Msg) → P m → R m) → ((m : Msg) → Q m → R m)
     → ((m : Msg) → R m → P m ⊎ Q m) → IsEarliest a P b → IsEarliest b Q c → IsEarliest a R c
 IsEarliest-then a b None P Q R f g e h k =
@@ -301,7 +301,7 @@ IsEarliest-then a b (Some t) P Q R f g e h k = (
     least None h l m p = absurd (h.1 m p)
     least (Some u) h l m p = let n = h.2 m p in omega (arith, n, l)
 
--- the earlier of a least time and of another kind of messages is the least time of both kinds
+-- the earlier of a least time and messages of another kind is the least time of both kinds
 pub least_earliest : (t u : Option ℕ) (P Q R : Msg → Type 0) → ((m : Msg) → P m → R m) → ((m : Msg) → Q m → R m)
     → ((m : Msg) → R m → P m ⊎ Q m) → IsLeastTime P t → IsEarliest t Q u → IsLeastTime R u
 least_earliest t None P Q R f g e h k =

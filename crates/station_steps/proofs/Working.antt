@@ -1,4 +1,4 @@
--- The tasks of a window and what they are answered by, place by place.
+-- The tasks of a window and their results, place by place.
 use Rattle.std.proofs.Common.{◌≡◌, ◌∙◌, ◌++◌, ℕ, List, [], ◌∷◌, Some, None, ap, arith, get_or, inl, inr, length, refl}
 use Rattle.std.proofs.Common.{subst, sym}
 use Rattle.std.proofs.lemmas.List.{length_push}
@@ -42,14 +42,14 @@ steps_may_run net procs bounds tasks are all bounded = record {
 
 -- ---- AreSteps
 
--- no station has no task
+-- without stations there are no tasks
 pub AreSteps-none : (bounds : List ℕ) → AreSteps [] bounds []
 AreSteps-none bounds = record { count = refl; each = λ i p got. absurd (none_got p got) }
   where
     none_got : (p : ProcView) → None ≡ Some p → ⊥
     none_got p e = absurd (cc)
 
--- one station more, to the bound of its place
+-- one more station, to the bound at its place
 pub AreSteps-push : (procs : List ProcView) (bounds : List ℕ) (tasks : List StationTask) (p : ProcView) (bound : ℕ)
     → AreSteps procs bounds tasks → bound ≡ bound_of bounds (length tasks)
     → AreSteps (procs ++ p ∷ []) bounds (tasks ++ step_task p bound ∷ [])
@@ -69,7 +69,7 @@ AreSteps-push procs bounds tasks p bound h is = record {
 
 -- ---- EachAt
 
--- answers to steps are what the steps give
+-- the results of tasks are those of steps
 pub steps_answered : (net : Net) (ends : ℕ → ℕ) (procs : List ProcView) (bounds : List ℕ) (tasks : List StationTask)
     (flows : List Flow) → AreSteps procs bounds tasks
     → EachAt (AnswersTo (λ i (task : StationTask) flow. IsFlow net ends task.bound i task.proc flow) tasks) flows

@@ -7,7 +7,7 @@ use Rattle.stations.specs.Runs.{simulation}
 use Rattle.run_laws.specs.Copies.{IsForked}
 use Rattle.phys_proc.specs.Procs.{ProcView, IsProc}
 
--- the new clone has joined the old one at this station, and nothing else is new
+-- the new clone has joined the old one at this station, and nothing else changed
 pub record HasForked (old new : ℕ) (p q : ProcView) : Type 0 where
   pub copies : (net : Net) (ends : ℕ → ℕ) → IsProc net p
       → AllZip (IsForked (simulation net) has ends old new) p.copies q.copies
@@ -16,7 +16,7 @@ pub record HasForked (old new : ℕ) (p q : ProcView) : Type 0 where
   pub living : q.living ≡ with p.living new
   pub once : q.handled ≡ p.handled
 
--- and so at every station
+-- the same at every station
 pub record AllForked (old new : ℕ) (olds news : List ProcView) : Type 0 where
   pub count : length news ≡ length olds
   pub each : (i : ℕ) (p q : ProcView) → slice_get olds i ≡ Some p → slice_get news i ≡ Some q → HasForked old new p q
@@ -25,6 +25,6 @@ pub record AllForked (old new : ℕ) (olds news : List ProcView) : Type 0 where
 abbrev pub LivesAtAll : ℕ → List ProcView → Type 0
 LivesAtAll c procs = (i : ℕ) (p : ProcView) → slice_get procs i ≡ Some p → has p.living c ≡ true
 
--- and at none
+-- the clone lives at no station
 abbrev pub LivesNowhere : ℕ → List ProcView → Type 0
 LivesNowhere c procs = (i : ℕ) (p : ProcView) → slice_get procs i ≡ Some p → has p.living c ≡ false

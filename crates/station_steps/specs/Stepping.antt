@@ -1,4 +1,4 @@
--- The result of a window at its stations, each stepped to its bound, whoever steps them.
+-- The result of a window at its stations, each stepped to its bound.
 use Rattle.std.specs.Prelude.{◌≡◌, ◌≢◌, ℕ, ◌+◌, ◌<◌, ◌≤◌, ◌++◌, List, length, map, slice_get, Option, Some, None}
 use Rattle.std.specs.Prelude.{IfSome}
 use Rattle.clone_sets.specs.Sets.{empty, IsFirst}
@@ -10,24 +10,24 @@ use Rattle.phys_proc.specs.Procs.{ProcView}
 use Rattle.station_steps.specs.declared.flow.Flow.{Flow}
 use Rattle.station_steps.specs.Windows.{AllDelivered, AllFlow, IsFlow, NoneOver, all_handled, all_sent}
 
--- the result at place i is the first with a clone over the limit, and there this clone is the first
+-- the result at place i is the first with a clone over the limit, and this clone is the first there
 pub record IsFirstOver (flows : List Flow) (i who : ℕ) : Type 0 where
   pub flow : Flow
   pub is_there : slice_get flows i ≡ Some flow
   pub first : IsFirst flow.over who
   pub none_before : (j : ℕ) (f : Flow) → j < i → slice_get flows j ≡ Some f → f.over ≡ empty
 
--- the first station with a clone over the limit, by its place, and there the first clone, if there is one
+-- the place of the first station with a clone over the limit, and the first such clone there, if any
 abbrev pub FirstOver : List Flow → Option (ℕ × ℕ) → Type 0
 FirstOver flows None = NoneOver flows
 FirstOver flows (Some p) = IsFirstOver flows p.0 p.1
 
--- the place, if there is one, is one that a station may have
+-- the place, if any, is less than the greatest number of stations
 abbrev pub IsPlaceOfOver : Option (ℕ × ℕ) → Type 0
 IsPlaceOfOver over = IfSome over (λ p. p.0 < MOST_STATIONS)
 
--- the station at place i was stepped, what it sent comes after what the others sent before, and the others are as they
--- were
+-- the station at place i was stepped, what it sent is appended to what the others sent before, and the other stations
+-- are unchanged
 pub record SteppedAt (net : Net) (ends : ℕ → ℕ) (bound i : ℕ) (olds news : List ProcView)
     (before after : MarkedMessages)
     (over : CloneSet) (handled : ℕ) : Type 0 where
@@ -40,7 +40,7 @@ pub record SteppedAt (net : Net) (ends : ℕ → ℕ) (bound i : ℕ) (olds news
   pub over_is : over ≡ flow.over
   pub handled_is : handled ≡ flow.handled
 
--- the first n stations were stepped: what they sent, the first over the limit, and the steps that they took
+-- the first n stations were stepped: what they sent, the first over the limit, and the number of steps
 pub record SteppedTo (net : Net) (ends bounds : ℕ → ℕ) (n : ℕ) (olds news : List ProcView) (sent : MarkedMessages)
     (over : Option (ℕ × ℕ)) (steps0 steps : ℕ) : Type 0 where
   pub flows : List Flow

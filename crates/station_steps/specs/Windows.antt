@@ -23,16 +23,16 @@ pub record IsNumbered (net : Net) (i : ℕ) (p : ProcView) : Type 0 where
   pub proc : IsProc net p
   pub number : p.station ≡ i + 1
 
--- and so at every place
+-- the same at every place
 abbrev pub AreProcsInOrder : Net → List ProcView → Type 0
 AreProcsInOrder net procs = (i : ℕ) (p : ProcView) → slice_get procs i ≡ Some p → IsNumbered net i p
 
--- the copies of stations of a network, no more stations than there may be, in the order of their numbers
+-- the copies of a network's stations, in the order of their numbers, and at most as many as the limit on stations
 pub record AreStations (net : Net) (procs : List ProcView) : Type 0 where
   pub few : length procs ≤ MOST_STATIONS
   pub procs_in_order : AreProcsInOrder net procs
 
--- a bound for each of the stations, none past the horizon
+-- a bound for each station, none past the horizon
 pub record AreBounds (net : Net) (procs : List ProcView) (bounds : List ℕ) : Type 0 where
   pub count : length bounds ≡ length procs
   pub early : All (λ b. b ≤ net.horizon) bounds
@@ -41,8 +41,9 @@ pub record AreBounds (net : Net) (procs : List ProcView) (bounds : List ℕ) : T
 abbrev pub bound_of : List ℕ → ℕ → ℕ
 bound_of bounds i = slice_index bounds i
 
--- the copies of station s have come to the bound, and count messages were handled: for each clone the result of its own
--- window, and if some clone goes over the limit just those clones; what was handled is what the copies gained
+-- the copies of station s are stepped to the bound, and count messages were handled: each clone has the result of its
+-- own window unless some clone is over the limit; `full` has just the clones over the limit; the count is what the
+-- copies gained
 pub record HasAdvanced (net : Net) (s : ℕ) (ends : ℕ → ℕ) (bound : ℕ) (old new : ProcView) (sent : MarkedMessages)
     (full : CloneSet) (count : ℕ) : Type 0 where
   pub windows : full ≡ empty → IsStepped (simulation net) has ends s bound old.copies new.copies sent
@@ -67,11 +68,11 @@ AllFlow net ends bounds procs flows = (i : ℕ) (p : ProcView) (flow : Flow) →
 abbrev pub all_handled : List Flow → ℕ
 all_handled flows = sum_by (λ f. f.handled) flows
 
--- what all stations sent, station after station
+-- the messages that all stations sent, station after station
 abbrev pub all_sent : List Flow → MarkedMessages
 all_sent flows = flat_map (λ f. f.sent.items) flows
 
--- those for the station at place i
+-- the messages for the station at place i
 abbrev pub sent_to : ℕ → MarkedMessages → MarkedMessages
 sent_to i ms = mail_for (i + 1) ms
 
@@ -83,7 +84,7 @@ copies_at procs i = unwrap_or (option_map (λ p. p.copies) (slice_get procs i)) 
 abbrev pub done_at : List Flow → ℕ → List StationCopy
 done_at flows i = unwrap_or (option_map (λ f. f.done.copies) (slice_get flows i)) []
 
--- and what they sent
+-- the messages that the copies at place i sent
 abbrev pub sent_at : List Flow → ℕ → MarkedMessages
 sent_at flows i = unwrap_or (option_map (λ f. f.sent.items) (slice_get flows i)) []
 
@@ -99,12 +100,12 @@ NoneOver flows = (i : ℕ) (flow : Flow) → slice_get flows i ≡ Some flow →
 abbrev pub AreStationsInOrder : List ProcView → Type 0
 AreStationsInOrder procs = (i : ℕ) (p : ProcView) → slice_get procs i ≡ Some p → p.station ≡ i + 1
 
--- stations may be given what the others sent to them: they are no more than there may be, in the order of their numbers
+-- messages may be delivered to these stations: they are in the order of their numbers, and not too many
 pub record MayGiveAll (procs : List ProcView) : Type 0 where
   pub few : length procs ≤ MOST_STATIONS
   pub in_order : AreStationsInOrder procs
 
--- messages were given to the copies of one station, and nothing else is new
+-- messages were delivered to the copies of one station, and nothing else changed
 pub record IsDeliveredTo (msgs : MarkedMessages) (old new : ProcView) : Type 0 where
   pub copies : new.copies ≡ with_mail msgs old.copies
   pub station : new.station ≡ old.station
@@ -112,7 +113,7 @@ pub record IsDeliveredTo (msgs : MarkedMessages) (old new : ProcView) : Type 0 w
   pub once : new.handled ≡ old.handled
   pub proc : (net : Net) → IsProc net old → IsProc net new
 
--- every station got those of the messages that are for it
+-- every station got the messages for it
 pub record AllDelivered (msgs : MarkedMessages) (old new : List ProcView) : Type 0 where
   pub count : length new ≡ length old
   pub each : (i : ℕ) (p q : ProcView) → slice_get old i ≡ Some p → slice_get new i ≡ Some q

@@ -1,4 +1,4 @@
-//! After a window each station (a logical process) gets the messages that the others sent to it.
+//! Delivery after a window: each station (a logical process) gets the messages that the others sent to it.
 ghost use Rattle.std.specs.Prelude.{◌∷◌, [], OnOk};
 ghost use Rattle.station_steps.specs.Windows.{AllDelivered, AreStationsInOrder};
 
@@ -6,11 +6,11 @@ use crate::timed_proc::TimedProc;
 use clone_sets::CloneSet;
 use sim_base::{Msg, NoMemory};
 
-/// Gives a message to its station, if there is one.
+/// Delivers a message to its station, if there is one.
 ///
 /// # Errors
 ///
-/// Out of memory, some of the station's copies may have it.
+/// Out of memory: some of the station's copies may have the message.
 pub fn deliver_to(procs: &mut Vec<TimedProc>, msg: Msg, set: CloneSet) -> Result<(), NoMemory>
     requires in_order { AreStationsInOrder procs.old.items }
     ensures given { OnOk result (AllDelivered ((msg, set) ∷ []) procs.old.items procs.new.items) }
@@ -22,12 +22,12 @@ pub fn deliver_to(procs: &mut Vec<TimedProc>, msg: Msg, set: CloneSet) -> Result
     Ok(())
 }
 
-/// Gives each station what the others sent to it, in the caller's thread: each message goes to those copies of its
-/// station that have clones in common with its own.
+/// Delivers to each station what the others sent to it, in the caller's thread. Each message goes to the copies that
+/// have one of its clones.
 ///
 /// # Errors
 ///
-/// Out of memory, some of the copies may have some of the messages.
+/// Out of memory: some of the copies may have some of the messages.
 pub fn deliver_all(procs: &mut Vec<TimedProc>, sent: &[(Msg, CloneSet)]) -> Result<(), NoMemory>
     requires in_order { AreStationsInOrder procs.old.items }
     ensures given { OnOk result (AllDelivered sent.now procs.old.items procs.new.items) }

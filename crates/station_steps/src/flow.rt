@@ -1,18 +1,18 @@
-//! The result of a station's step to the window boundary: its copies there, what they sent, and how many event
-//! executions (messages handled) that took.
+//! The result of a station's step to the window boundary: its copies there, the messages that they sent, and the number
+//! of event executions (messages handled).
 use crate::sent_list::SentList;
 use crate::timed_proc::TimedProc;
 use clone_sets::CloneSet;
 
-/// What the step of a station gives.
+/// The result of a station's step.
 #[derive(Drop)]
 pub struct Flow {
-    /// The copies at the bound; where some clone is over the limit they mean nothing.
+    /// The copies at the bound; they have no meaning if some clone is over the limit.
     pub done: TimedProc,
     /// The messages to other stations, each with the clones that send it.
     pub sent: SentList,
     /// The clones whose logs would get longer than the limit.
     pub over: CloneSet,
-    /// How many messages were handled, each once for all clones of a copy.
+    /// The number of messages handled, each counted once for all clones of a copy.
     pub handled: u64,
 }

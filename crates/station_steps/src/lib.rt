@@ -1,9 +1,9 @@
 //! The steps of all stations in a time window, and the delivery of what they sent to each other.
 //!
 //! A station (a logical process) keeps copies (physical processes), each for a set of clones. In a window each station
-//! steps its copies to a time, its bound, alone. Then each station gets the messages that the others sent to it. This
-//! crate does both for a list of stations, in the caller's thread or by a crew of workers. Each station has a bound of
-//! its own. A world whose stations share one front passes the same bound to all.
+//! steps its copies to a time, its bound, separately. Then each station gets the messages that the others sent to it.
+//! This crate does both for a list of stations, in the caller's thread or by a crew of workers. Each station has a
+//! separate bound. A world whose stations share one front passes the same bound to all.
 //!
 //! ```text
 //! stations   gate { base fast }   desk { base } { fast }   out { base fast }
@@ -21,17 +21,18 @@
 //! let stepped = step_by_crew(&rt, alloc, &mut crew, work, procs, buffers, &mut steps)?;      // the same by workers
 //! ```
 //!
-//! Cost: in place, a step looks at one time of each station, and steps the copies of those with something due. By a
-//! crew, each station is one task of one call, which takes four lists with a place for each station. Nobody sorts what
-//! the stations sent: all share it as their [`Mail`], and each takes what is for it at its next step, in the thread of
-//! the worker that steps it. The bounds and the lists of sends are kept from window to window, so their memory is taken
-//! once.
+//! Cost: in place, a step checks one time of each station, and steps the copies of those with something due. By a crew,
+//! each station is one task of one call, which needs four lists with an element for each station. The messages that
+//! stations send are not sorted. All stations share them as their [`Mail`], and each takes its messages at its next
+//! step, in the thread of the worker that steps it. The bounds and the lists of sends are kept from window to window,
+//! so they are allocated once.
 //!
-//! The promise: **whoever steps the stations, each is stepped to its bound as its clones alone would be**. The contracts
-//! of [`step_in_place`] and [`step_by_crew`] make one statement: for each clone of a copy what its own run handles and
-//! sends up to the bound, the first station and clone whose log would get longer than the limit, and the number of
-//! messages that were handled. Delivery gives each station exactly the messages for it, in the order of the senders.
-//! Clauses speak of a station as it is with its mail, whether or not its copies have taken it.
+//! The promise: **each station is stepped to its bound as its clones alone would be, in place or by a crew**. The
+//! contracts of [`step_in_place`] and [`step_by_crew`] make the same statement. For each clone of a copy it fixes what
+//! the clone's own run handles and sends up to the bound. It also fixes the number of messages handled, and the first
+//! station and clone whose log would get longer than the limit. Delivery gives each station exactly the messages for
+//! it, in the order of the senders. Contracts describe a station together with its mail, whether or not its copies have
+//! taken it.
 #![tactic(auto)]
 
 pub mod delivery;

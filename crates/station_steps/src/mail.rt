@@ -1,5 +1,5 @@
-//! The mail of a window: what all stations (logical processes) sent in it. Nobody sorts it. Each station reads what is
-//! for it out of the senders' lists, at its next step, in the thread that steps it.
+//! The mail of a window: what all stations (logical processes) sent in it, unsorted. Each station reads its own
+//! messages from the senders' lists at its next step, in the thread that steps it.
 ghost use Rattle.std.specs.Prelude.{◌≡◌, IfOk, OnOk};
 ghost use Rattle.std.specs.List.{flat_map};
 ghost use Rattle.phys_proc.specs.Ends.{ends_in};
@@ -13,7 +13,8 @@ use sim_base::NoMemory;
 use std::alloc::Global;
 use std::sync::Arc;
 
-/// What the stations sent, list by list in the order of the stations. All stations share it until each has its own.
+/// The mail of a window: the messages that all stations sent, list by list in the order of the stations. All stations
+/// share it until each has taken its own messages.
 #[derive(Drop)]
 pub struct Mail {
     lists: Vec<SentList>,
@@ -29,18 +30,18 @@ impl std::marker::Model for Mail {
 }
 
 impl Mail {
-    /// The mail of these lists, which all stations share.
+    /// Makes mail of these lists, which all stations share.
     ///
     /// # Errors
     ///
-    /// Out of memory, the lists are gone.
+    /// Out of memory: the lists are dropped.
     pub(crate) fn shared(alloc: Global, lists: Vec<SentList>) -> Result<Arc<Mail>, NoMemory>
         ensures value { IfOk result (λ m. m.value ≡ flat_map (λ l. l.items) lists.items) }
     {
         Ok(Arc::new(alloc, Mail { lists })?)
     }
 
-    /// The lists, for their room, if no station shares the mail any more.
+    /// Returns the lists, to reuse their memory, if no station shares the mail any more.
     pub(crate) fn lists_of(alloc: Global, mail: Option<Arc<Mail>>) -> Vec<SentList> {
         let Some(shared) = mail else {
             return Vec::new(alloc);
@@ -51,7 +52,7 @@ impl Mail {
         }
     }
 
-    /// A time that no message for the station comes before, [`NO_MAIL`] only if nothing is for it.
+    /// A lower bound of the times of the messages for the station; [`NO_MAIL`] only if there is none.
     pub(crate) fn first_for(&self, station: u32) -> u64
         ensures first { IsFirstFor station self.now result }
     {
@@ -62,14 +63,14 @@ impl Mail {
         first
     }
 
-    /// Gives the copies of a station what is for them.
+    /// Delivers to the copies of a station their messages.
     ///
     /// # Errors
     ///
-    /// Out of memory, some of the copies may have some of the messages.
+    /// Out of memory: some of the copies may have some of the messages.
     pub(crate) fn hand_over(&self, proc: &mut Proc) -> Result<(), NoMemory>
         ensures given { OnOk result (IsDeliveredTo (mail_for proc.old.station self.now) proc.old proc.new) }
-        // also out of memory
+        // also if out of memory
         ensures station { proc.new.station ≡ proc.old.station }
         ensures living { proc.new.living ≡ proc.old.living }
         ensures handled { proc.new.handled ≡ proc.old.handled }
@@ -80,7 +81,7 @@ impl Mail {
         Ok(())
     }
 
-    /// The earlier of a time and the least time of what is for the station and some of these clones take, each before
+    /// The earlier of a time and the least time of the station's messages that some of these clones take, each before
     /// its end.
     pub(crate) fn earlier_for(
         &self,

@@ -1,4 +1,4 @@
-//! What one station (a logical process) sent in a window, with the times that its receivers look at first.
+//! The messages that one station (a logical process) sent in a window, with a first time for each receiver.
 ghost use Rattle.std.specs.Prelude.{◌≡◌, ◌≤◌, ◌∷◌, [], ℕ, Some, IsTrue, IfSome, OnOk, IfOk, false};
 ghost use Rattle.sim_base.specs.declared.message.Msg.{Msg as Msg'};
 ghost use Rattle.clone_sets.specs.declared.set.CloneSet.{CloneSet as CloneSet'};
@@ -12,17 +12,17 @@ use phys_proc::{CloneEnds, Proc};
 use sim_base::{Msg, NoMemory};
 use std::alloc::Global;
 
-/// In place of a first time: nothing is for the station.
+/// Used as a first time if there is no message for the station.
 pub const NO_MAIL: u64 = u64::MAX;
 
 // The latest first time.
 const LATEST_FIRST: u64 = NO_MAIL - 1;
 
-// A place for each number of a station, from 0.
+// One first time for each station number, from 0.
 const PLACES: usize = MOST_STATIONS + 1;
 
-/// The messages that a station sent in a window, in their order, each with the clones that send it. For each station
-/// the list has a time that none of the messages for it comes before.
+/// The messages that a station sent in a window, in order, each with the clones that send it. For each receiver the
+/// list has a lower bound of the times of its messages.
 #[derive(Drop)]
 pub struct SentList {
     messages: Vec<(Msg, CloneSet)>,
@@ -40,7 +40,7 @@ impl std::marker::Model for SentList {
     ghost invariant = { λ l. AllByRecursion (IsNoted l.firsts.items) l.messages.items };
 }
 
-// Notes the time of a message for its station.
+// Records the time of a message for its station.
 fn note(firsts: &mut Vec<u64>, msg: Msg)
     ensures noted { (set : CloneSet') → IsNoted firsts.new.items (msg, set) }
     ensures before { (x : Msg' × CloneSet') → IsNoted firsts.old.items x → IsNoted firsts.new.items x }
@@ -86,7 +86,7 @@ fn earlier_of_message(
 }
 
 impl SentList {
-    /// Nothing was sent. It takes no memory.
+    /// An empty list. It allocates nothing.
     pub fn empty(alloc: Global) -> SentList
         ensures none { result.items ≡ [] }
     {
@@ -96,7 +96,7 @@ impl SentList {
         }
     }
 
-    /// The room of the list, for the next window: no messages, and no times.
+    /// The list's memory, emptied for the next window.
     pub(crate) fn room(self) -> (Vec<(Msg, CloneSet)>, Vec<u64>)
         ensures none { result.0.items ≡ [] }
     {
@@ -109,11 +109,11 @@ impl SentList {
         (messages, firsts)
     }
 
-    /// The list of these messages. The times are put into `firsts`, whatever it has.
+    /// Makes a list of these messages. `firsts` is overwritten with the first times.
     ///
     /// # Errors
     ///
-    /// Out of memory, the messages are gone.
+    /// Out of memory: the messages are dropped.
     pub(crate) fn of(messages: Vec<(Msg, CloneSet)>, firsts: Vec<u64>) -> Result<SentList, NoMemory>
         ensures messages { IfOk result (λ l. l.items ≡ messages.items) }
     {
@@ -126,7 +126,7 @@ impl SentList {
         Ok(SentList { messages, firsts })
     }
 
-    /// A time that no message for the station comes before, [`NO_MAIL`] only if nothing is for it.
+    /// A lower bound of the times of the messages for the station; [`NO_MAIL`] only if there is none.
     pub(crate) fn first_for(&self, station: u32) -> u64
         ensures first { IsFirstFor station self.now.items result }
     {
@@ -138,14 +138,14 @@ impl SentList {
         }
     }
 
-    /// Gives the copies of a station what is for them.
+    /// Delivers to the copies of a station their messages.
     ///
     /// # Errors
     ///
-    /// Out of memory, some of the copies may have some of the messages.
+    /// Out of memory: some of the copies may have some of the messages.
     pub(crate) fn hand_over(&self, proc: &mut Proc) -> Result<(), NoMemory>
         ensures given { OnOk result (IsDeliveredTo (mail_for proc.old.station self.now.items) proc.old proc.new) }
-        // also out of memory
+        // also if out of memory
         ensures station { proc.new.station ≡ proc.old.station }
         ensures living { proc.new.living ≡ proc.old.living }
         ensures handled { proc.new.handled ≡ proc.old.handled }
@@ -162,7 +162,7 @@ impl SentList {
         Ok(())
     }
 
-    /// The earlier of a time and the least time of what is for the station and some of these clones take, each before
+    /// The earlier of a time and the least time of the station's messages that some of these clones take, each before
     /// its end.
     pub(crate) fn earlier_for(
         &self,

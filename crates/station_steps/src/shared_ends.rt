@@ -1,4 +1,4 @@
-//! When clones end (their stop times), which the workers that stay from window to window share.
+//! When clones end (their stop times), shared with workers that hold it across windows.
 ghost use Rattle.std.specs.Prelude.{◌≡◌, ◌<◌, ◌∷◌, ◌++◌, [], IfOk, OnOk, OnErr};
 ghost use Rattle.sim_base.specs.declared.lists.TheConstants.{MOST_CLONES};
 ghost use Rattle.phys_proc.specs.Ends.{AreEndsOfClones, EndsWith};
@@ -8,8 +8,8 @@ use sim_base::NoMemory;
 use std::alloc::Global;
 use std::sync::Arc;
 
-/// When clones end, of those that have an end: a list, and the table made of it, which all windows share. A window that
-/// a worker still holds never sees the table change, since one end more makes a new table.
+/// The ends of clones: a list, and a table made from it that all windows share. A window that a worker still holds
+/// never sees the table change, since a new end makes a new table.
 #[derive(Drop)]
 pub struct SharedEnds {
     listed: Vec<(u32, u64)>,
@@ -27,7 +27,7 @@ impl std::marker::Model for SharedEnds {
     ghost invariant = { λ e. AreEndsOfClones e.listed.items × (e.made.value ≡ e.listed.items) };
 }
 
-// The ends of this list, made anew.
+// Makes the ends from a list.
 fn made_of(alloc: Global, listed: &[(u32, u64)]) -> Result<CloneEnds, NoMemory>
     requires clones { AreEndsOfClones listed.now }
     ensures value { IfOk result (λ made. made ≡ listed.now) }
@@ -40,7 +40,7 @@ fn made_of(alloc: Global, listed: &[(u32, u64)]) -> Result<CloneEnds, NoMemory>
 }
 
 impl SharedEnds {
-    /// No clone has an end.
+    /// The ends if no clone has one.
     pub fn none(alloc: Global) -> Result<SharedEnds, NoMemory>
         ensures none { IfOk result (λ ends. ends ≡ []) }
     {
@@ -50,9 +50,9 @@ impl SharedEnds {
         })
     }
 
-    /// The clone ends at that time, if it does not end before.
+    /// The clone ends at that time, unless it already ends earlier.
     ///
-    /// Out of memory leaves all unchanged.
+    /// If out of memory, nothing changes.
     pub fn end(&mut self, alloc: Global, clone: u32, at: u64) -> Result<(), NoMemory>
         requires clone { clone < MOST_CLONES }
         ensures ended { OnOk result (self.new ≡ self.old ++ (clone, at) ∷ []) }
@@ -67,14 +67,14 @@ impl SharedEnds {
         Ok(())
     }
 
-    /// When clones end.
+    /// The ends.
     pub fn ends(&self) -> &CloneEnds
         ensures value { result.now ≡ self.now }
     {
         &self.made
     }
 
-    /// One share more of it, for a window.
+    /// Another shared handle on the ends, for a window.
     pub fn share(&self) -> Result<Arc<CloneEnds>, NoMemory>
         ensures value { IfOk result (λ made. made.value ≡ self.now) }
     {

@@ -1,4 +1,4 @@
-//! The lists of the clones' decisions, of which readers are shown a copy.
+//! The lists of the clones' decisions, with a copy for readers.
 ghost use Rattle.std.specs.Prelude.{◌≡◌, ◌∷◌, [], ◌+◌, ◌^◌, ◌<◌, length, IfOk, OnOk, None};
 ghost use Rattle.sim_base.specs.Clones.{clones_with_plan, base, clone_at, clones_with_end, clones_with_fork, place_of};
 
@@ -42,7 +42,7 @@ impl SharedLists {
         &self.lists
     }
 
-    /// Gives a clone its end.
+    /// Ends a clone at a time.
     pub fn end(&mut self, c: u32, at: u64)
         requires there { c < length self.old.clones }
         requires once { (clone_at self.old.clones c).end ≡ None }
@@ -61,7 +61,7 @@ impl SharedLists {
         self.lists.add(c, plan)
     }
 
-    /// A further clone with an old one's decisions and no end.
+    /// Adds a clone with the decisions of an old one and no end.
     pub fn fork(&mut self, alloc: Global, new: Name, old: u32) -> Result<(), NoMemory>
         requires there { old < length self.old.clones }
         requires unused { place_of new self.old.clones ≡ None }
@@ -72,7 +72,7 @@ impl SharedLists {
         self.lists.fork(alloc, new, old)
     }
 
-    /// The lists to be shared with readers: one copy for all of them until the next decision.
+    /// Returns the lists for readers: one shared copy until the next decision.
     pub fn show(&mut self, alloc: Global) -> Result<Arc<Lists>, NoMemory>
         ensures value { IfOk result (λ shown. shown.value.clones ≡ self.old.clones) }
         ensures same { self.new ≡ self.old }

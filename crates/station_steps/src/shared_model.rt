@@ -1,11 +1,11 @@
-//! The model, which the workers that stay from window to window share.
+//! The model, shared with workers that hold it across windows.
 ghost use Rattle.std.specs.Prelude.{◌≡◌, IfOk};
 
 use net_model::Model;
 use sim_base::NoMemory;
 use std::sync::Arc;
 
-/// One share more of the model.
+/// Another shared handle on the model.
 ///
 /// # Errors
 ///

@@ -1,5 +1,5 @@
-//! All stations (logical processes) are stepped, each to its own bound: in place in the caller's thread, or by the
-//! workers of a crew.
+//! Steps all stations (logical processes), each to its own bound: in place in the caller's thread, or by the workers of
+//! a crew.
 ghost use Rattle.std.specs.Prelude.{◌≡◌, ◌+◌, ◌<◌, ◌≤◌, ◌++◌, ◌∷◌, []};
 ghost use Rattle.std.specs.Prelude.{Some, None, List, length, map, slice_get, IfOk, OnOk};
 ghost use Rattle.std.specs.List.{All};
@@ -30,33 +30,33 @@ use std::sync::{Arc, Wait};
 /// All stations at their bounds, and what they sent to each other.
 #[derive(Drop)]
 pub struct WindowResult {
-    /// The copies of each station at its bound, in the order of the stations; with a clone over the limit they mean
-    /// nothing.
+    /// The copies of each station at its bound, in the order of the stations. They have no meaning if some clone is
+    /// over the limit.
     pub procs: Vec<TimedProc>,
-    /// What the stations sent to others, and the bounds as they were.
+    /// The messages that the stations sent to others, and the unchanged bounds.
     pub buffers: Buffers,
-    /// The place of the first station with a clone over the limit, from 0, and the first such clone there.
+    /// The index of the first station with a clone over the limit, from 0, and the first such clone there.
     pub over: Option<(u32, u32)>,
-    /// The number of messages that were handled: a hint.
+    /// The number of messages handled: a hint.
     pub handled: u64,
 }
 
-/// The bounds of all stations, and what the stations send. They are kept from window to window, so that their memory is
-/// taken once.
+/// Memory for the bounds of all stations and for what they send. It is kept from window to window, so it is allocated
+/// once.
 #[derive(Drop)]
 pub struct Buffers {
     /// The bound of each station, in the order of the stations.
     pub bounds: Vec<u64>,
-    /// What all stations so far have sent, if they are stepped in place.
+    /// The messages of all stations that were stepped so far, if they are stepped in place.
     pub sent: Vec<(Msg, CloneSet)>,
-    /// What one station sends, before it is put with the others.
+    /// The messages of one station, before they are appended to `sent`.
     one: Vec<(Msg, CloneSet)>,
-    /// The mail of the last window that the crew stepped, for the room of its lists.
+    /// The mail of the last window that the crew stepped, kept to reuse the memory of its lists.
     last: Option<Arc<Mail>>,
 }
 
 impl Buffers {
-    /// No bounds, and nothing was sent. It takes no memory.
+    /// No bounds and no messages. It allocates nothing.
     pub fn new(alloc: Global) -> Buffers
         ensures none { result.bounds.items ≡ [] }
     {
@@ -68,11 +68,11 @@ impl Buffers {
         }
     }
 
-    /// The same bound for `count` stations.
+    /// Sets the same bound for `count` stations.
     ///
     /// # Errors
     ///
-    /// Out of memory, the bounds mean nothing.
+    /// Out of memory: the bounds have no meaning.
     pub fn bound_all(&mut self, count: usize, bound: u64) -> Result<(), NoMemory>
         ensures count { OnOk result (length self.new.bounds.items ≡ count) }
         ensures bounds { OnOk result (All (λ b. b ≡ bound) self.new.bounds.items) }
@@ -83,7 +83,7 @@ impl Buffers {
     }
 }
 
-// Adds messages at the end.
+// Appends messages.
 fn append(all: &mut Vec<(Msg, CloneSet)>, more: &[(Msg, CloneSet)]) -> Result<(), NoMemory>
     ensures both { OnOk result (all.new.items ≡ all.old.items ++ more.now) }
 {
@@ -91,7 +91,7 @@ fn append(all: &mut Vec<(Msg, CloneSet)>, more: &[(Msg, CloneSet)]) -> Result<()
     Ok(())
 }
 
-// The first station over the limit so far, and there the first clone, if the station at place i comes next.
+// The first station over the limit so far, and its first clone there, if the station at place i is next.
 fn first_so_far(before: Option<(u32, u32)>, i: u32, over: CloneSet) -> Option<(u32, u32)>
     requires few { i < MOST_STATIONS }
     requires before { IsPlaceOfOver before }
@@ -108,7 +108,7 @@ fn first_so_far(before: Option<(u32, u32)>, i: u32, over: CloneSet) -> Option<(u
     None
 }
 
-// Steps the station at place i to its bound, in place, and adds what it sends to what the others sent.
+// Steps the station at place i to its bound, in place, and appends what it sends.
 fn step_place<L: Ledger>(
     alloc: Global,
     model: &Model,
@@ -142,12 +142,12 @@ pub fn pass_gate<G: Gate, R: Wait>(rt: &R, gate: &G, stations: u32) {
     }
 }
 
-/// Steps all stations in place, one after the other, each to its bound, in the caller's thread. Those with nothing due
-/// are passed over.
+/// Steps all stations in place, one after the other, each to its bound, in the caller's thread. Stations with nothing
+/// due are skipped.
 ///
 /// # Errors
 ///
-/// Out of memory: all stations are gone.
+/// Out of memory: all stations are dropped.
 pub fn step_in_place<L: Ledger>(
     alloc: Global,
     model: &Model,
@@ -184,7 +184,7 @@ pub fn step_in_place<L: Ledger>(
     })
 }
 
-// The copies of all stations, and the list that each sent. The stations keep these other lists for their room.
+// The copies of all stations, and the list that each sent. The stations keep these other lists to reuse their memory.
 fn take_apart(
     alloc: Global,
     flows: Vec<Flow>,
@@ -235,7 +235,7 @@ fn first_over(flows: &[Flow]) -> Option<(u32, u32)>
     None
 }
 
-// The result of a window, from the answers of all tasks: the stations share what they sent as their mail.
+// The result of a window, from the results of all tasks: the stations share what they sent as their mail.
 fn gather_flows(
     alloc: Global,
     flows: Vec<Flow>,
@@ -284,7 +284,7 @@ fn run_tasks<G: Gate, L: Ledger, R: Wait>(
     Ok(flows)
 }
 
-// Gives each station what is for it in the mail, at its next step.
+// Posts the mail to each station, which takes its messages at its next step.
 fn post_all(procs: &mut Vec<TimedProc>, mail: &Arc<Mail>) -> Result<(), NoMemory>
     requires stations { (net : Net) × AreStations net procs.old.items }
     ensures given { OnOk result (AllDelivered mail.now.value procs.old.items procs.new.items) }
@@ -295,12 +295,12 @@ fn post_all(procs: &mut Vec<TimedProc>, mail: &Arc<Mail>) -> Result<(), NoMemory
     Ok(())
 }
 
-/// Steps all stations by the crew, each to its bound: each station is a task, whether or not something is due there. If
-/// no clone is over the limit, each station gets what the others sent to it, and takes it at its next step.
+/// Steps all stations by the crew, each to its bound. Each station is a task, even if nothing is due there. If no clone
+/// is over the limit, each station gets what the others sent to it, and takes it at its next step.
 ///
 /// # Errors
 ///
-/// Out of memory: all stations are gone.
+/// Out of memory: all stations are dropped.
 pub fn step_by_crew<G: Gate, L: Ledger, R: Wait>(
     rt: &R,
     alloc: Global,

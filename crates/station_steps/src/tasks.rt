@@ -1,4 +1,4 @@
-//! What the workers of a crew are asked in a window: a task for each station (a logical process).
+//! The tasks of a crew in a window: one for each station (a logical process).
 ghost use Rattle.std.specs.Prelude.{◌≡◌, length, IfOk};
 ghost use Rattle.station_steps.specs.Tasks.{AreSteps};
 
@@ -7,14 +7,14 @@ use crew_pool::add;
 use sim_base::NoMemory;
 use std::alloc::Global;
 
-/// The copies of a station, and the time that a worker is asked to step them to, their bound.
+/// A task: the copies of a station, and the bound to which a worker steps them.
 #[derive(Drop)]
 pub struct StationTask {
     pub(crate) proc: TimedProc,
     pub(crate) bound: u64,
 }
 
-/// A step for each station, to the bound of its place.
+/// Makes a task for each station, to the bound at its place.
 pub(crate) fn steps_for(
     alloc: Global,
     procs: Vec<TimedProc>,

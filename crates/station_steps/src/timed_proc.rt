@@ -1,5 +1,5 @@
-//! The copies (physical processes) of a station (a logical process), with a time that no event in their future event
-//! lists is before, and with the mail that they are yet to take.
+//! The copies (physical processes) of a station (a logical process), with a lower bound of the times in their future
+//! event lists. They may have mail that they have not taken.
 ghost use Rattle.std.specs.Prelude.{◌≡◌, ◌<◌, ◌≤◌, ◌+◌, [], true, false, IfOk, OnOk, IsTrue, map, length};
 ghost use Rattle.sim_base.specs.declared.lists.TheConstants.{MOST_CLONES};
 ghost use Rattle.clone_sets.specs.Sets.{has};
@@ -26,20 +26,19 @@ use std::mem;
 use std::sync::Arc;
 use std::sync::ledger::Ledger;
 
-/// The copies of one station, with a lower bound of the times of their pending messages. So one comparison shows that
-/// a station has nothing due, and little is moved when the station is handed to a worker.
+/// The copies of one station, with a lower bound of the times of their pending messages. One comparison with it shows
+/// that a station has nothing due. Boxing the copies makes a station cheap to move to a worker.
 ///
-/// What the other stations sent in the last window may wait in the mail, which all stations share. The copies take
-/// what is for them before they do anything else. Clauses speak of the copies as they are with it.
+/// The messages from the last window may wait in the mail, which all stations share. The copies take their messages
+/// before they do anything else. Contracts describe the copies as if they had taken them.
 #[derive(Drop)]
 pub struct TimedProc {
     proc: Box<Proc>,
-    // nothing is pending before it, in the mail neither
+    // no pending message is earlier, in the copies or in the mail
     lower_bound: u64,
-    // what the copies don't have yet is in it, if there is any
+    // holds the messages that the copies have not taken, if any
     mail: Option<Arc<Mail>>,
-    // for what the station sends in a window: it is kept from window to window, so that its memory is taken once, and
-    // no clause speaks of it
+    // memory for what the station sends in a window, kept so that it is allocated once; its content has no meaning
     buffer: SentList,
 }
 
@@ -54,10 +53,10 @@ impl std::marker::Model for TimedProc {
     ghost invariant = { λ t. KeepsMail t.lower_bound (mail_in t.mail) t.proc.value };
 }
 
-// Gives the copies what is for them in the mail, if there is any.
+// Delivers to the copies their messages from the mail, if any.
 fn take_mail(proc: &mut Proc, mail: Option<Arc<Mail>>) -> Result<(), NoMemory>
     ensures given { OnOk result (IsDeliveredTo (mail_for proc.old.station (mail_in mail)) proc.old proc.new) }
-    // also out of memory
+    // also if out of memory
     ensures station { proc.new.station ≡ proc.old.station }
     ensures living { proc.new.living ≡ proc.old.living }
     ensures handled { proc.new.handled ≡ proc.old.handled }
@@ -68,7 +67,7 @@ fn take_mail(proc: &mut Proc, mail: Option<Arc<Mail>>) -> Result<(), NoMemory>
     }
 }
 
-// The earlier of a time and the least time of what is for the station in the mail and some of these clones take.
+// The earlier of a time and the least time of the station's messages in the mail that some of these clones take.
 fn earlier_in_mail(
     mail: &Option<Arc<Mail>>,
     station: u32,
@@ -87,7 +86,7 @@ fn earlier_in_mail(
 }
 
 impl TimedProc {
-    /// The copies, with the lower bound that they have.
+    /// Wraps the copies, with their lower bound.
     pub fn of(alloc: Global, proc: Proc) -> Result<TimedProc, NoMemory>
         ensures same { IfOk result (λ timed. timed ≡ proc) }
     {
@@ -100,7 +99,7 @@ impl TimedProc {
         })
     }
 
-    /// The room for what the station sends: that of the list that it keeps.
+    /// Lends the memory of the list that the station keeps, for what it sends.
     pub(crate) fn lend(&mut self, alloc: Global) -> (Vec<(Msg, CloneSet)>, Vec<u64>)
         ensures none { result.0.items ≡ [] }
         ensures same { self.new ≡ self.old }
@@ -108,29 +107,29 @@ impl TimedProc {
         mem::replace(&mut self.buffer, SentList::empty(alloc)).room()
     }
 
-    /// The station keeps the list for its room, whatever is in it.
+    /// Keeps a list to reuse its memory, whatever its content.
     pub(crate) fn keep(&mut self, buffer: SentList)
         ensures same { self.new ≡ self.old }
     {
         self.buffer = buffer;
     }
 
-    /// Whether nothing is pending before the bound.
+    /// Whether no message is pending before the bound.
     pub fn is_idle(&self, bound: u64) -> bool
         ensures lower { IsTrue result → IsLowerBoundOfAll bound self.now.copies }
         ensures shared { AreShared self.now.living self.now.copies }
     {
-        // for its clause: the copies share out the living clones
+        // recalls a clause: the copies partition the living clones
         let _copies = self.proc.copies();
         bound <= self.lower_bound
     }
 
-    /// Steps the copies to the bound in place. What they send to other stations is put into `sent`, which is empty
-    /// before. If some clone is over the limit, the copies mean nothing.
+    /// Steps the copies to the bound in place. Appends what they send to other stations to `sent`, which must be empty.
+    /// The copies have no meaning afterwards if some clone is over the limit.
     ///
     /// # Errors
     ///
-    /// Out of memory, the copies mean nothing.
+    /// Out of memory: the copies have no meaning.
     pub fn advance<L: Ledger>(
         &mut self,
         alloc: Global,
@@ -148,7 +147,7 @@ impl TimedProc {
         ensures counted { IfOk result (λ g. steps.new ≡ steps.old + g.handled) }
         ensures station { self.new.station ≡ self.old.station }
     {
-        // also where memory is refused
+        // set first, so that it also holds if an allocation fails
         self.lower_bound = 0;
         take_mail(&mut self.proc, self.mail.take())?;
         let gain = self.proc.advance(alloc, model, ends, bound, sent, steps)?;
@@ -156,7 +155,7 @@ impl TimedProc {
         Ok(gain)
     }
 
-    /// The lesser of a time that was found before and the least time at which something is due to any clone here.
+    /// The lesser of an earlier result and the least time at which something is due for any clone here.
     pub fn with_least(&self, model: &Model, ends: &CloneEnds, before: Option<u64>) -> Option<u64>
         requires proc { IsProc model.now self.now }
         ensures least { IsWithLeast (ends_in model.now.horizon ends.now) self.now.copies before result }
@@ -177,7 +176,7 @@ impl TimedProc {
         earlier(before, here)
     }
 
-    /// The least time at which something is due to the clone, below its end; None exactly if nothing is.
+    /// The least time at which something is due for the clone, below its end; None exactly if nothing is.
     pub fn least_of(&self, model: &Model, ends: &CloneEnds, c: u32) -> Option<u64>
         requires proc { IsProc model.now self.now }
         requires clone { c < MOST_CLONES }
@@ -193,9 +192,9 @@ impl TimedProc {
         )
     }
 
-    /// Gives a message to those of its clones that are in the set.
+    /// Delivers a message to those of its clones that are in the set.
     ///
-    /// Out of memory, some of the copies may have it; nothing else of them has changed.
+    /// Out of memory: some of the copies may have it; nothing else of them has changed.
     pub fn deliver(&mut self, msg: Msg, set: CloneSet) -> Result<(), NoMemory>
         requires target { msg.to ≡ self.old.station }
         ensures given { OnOk result (self.new.copies ≡ map (with_message msg set) self.old.copies) }
@@ -205,7 +204,7 @@ impl TimedProc {
         ensures handled { self.new.handled ≡ self.old.handled }
     {
         let lower_bound = self.lower_bound.min(msg.key.time);
-        // also where memory is refused
+        // set first, so that it also holds if an allocation fails
         self.lower_bound = 0;
         take_mail(&mut self.proc, self.mail.take())?;
         self.proc.deliver(msg, set)?;
@@ -213,12 +212,11 @@ impl TimedProc {
         Ok(())
     }
 
-    /// The copies take what is for them in the mail, before or at their next step. What they were sent before, they take
-    /// at once.
+    /// Posts mail: the copies take their messages from it before or at their next step. They take earlier mail now.
     ///
     /// # Errors
     ///
-    /// Out of memory, some of the copies may have some of what they were sent before.
+    /// Out of memory: some of the copies may have some of the earlier messages.
     pub(crate) fn post(&mut self, mail: &Arc<Mail>) -> Result<(), NoMemory>
         requires proc { (net : Net) × IsProc net self.old }
         ensures given { OnOk result (IsDeliveredTo (mail_for self.old.station mail.now.value) self.old self.new) }
@@ -228,7 +226,7 @@ impl TimedProc {
             return Ok(());
         }
         let lower_bound = self.lower_bound.min(first);
-        // also where memory is refused
+        // set first, so that it also holds if an allocation fails
         self.lower_bound = 0;
         take_mail(&mut self.proc, self.mail.take())?;
         self.mail = Some(mail.clone()?);
@@ -240,7 +238,7 @@ impl TimedProc {
     ///
     /// # Errors
     ///
-    /// Out of memory, some of the copies may have some of what they were sent.
+    /// Out of memory: some of the copies may have some of the messages in the mail.
     pub fn fork(&mut self, old: u32, new: u32) -> Result<(), NoMemory>
         requires old { has self.old.living old ≡ true }
         requires new { has self.old.living new ≡ false }
@@ -248,7 +246,7 @@ impl TimedProc {
         ensures forked { OnOk result (HasForked old new self.old self.new) }
     {
         let lower_bound = self.lower_bound;
-        // also where memory is refused
+        // set first, so that it also holds if an allocation fails
         self.lower_bound = 0;
         take_mail(&mut self.proc, self.mail.take())?;
         self.proc.fork(old, new);
@@ -256,9 +254,9 @@ impl TimedProc {
         Ok(())
     }
 
-    /// What a reader sees of the station: the copies at the front, and the lists of the clones that they stand for.
+    /// What a reader sees of the station: the copies at the front, and the lists of the clones that they represent.
     ///
-    /// The station is unchanged, also out of memory.
+    /// The station is unchanged, even if out of memory.
     pub fn rack(
         &mut self,
         alloc: Global,
@@ -283,14 +281,14 @@ impl TimedProc {
         Ok(rack)
     }
 
-    /// How many messages were handled, each once for all clones of a copy.
+    /// The number of messages handled, each counted once for all clones of a copy.
     pub fn handled(&self) -> u64
         ensures value { result ≡ self.now.handled }
     {
         self.proc.handled()
     }
 
-    /// The copies, some of which may not have some of the pending messages.
+    /// The copies; some may lack messages that are still in the mail.
     pub fn copies(&self) -> &[PhysCopy]
         ensures same { map but_pending result.now ≡ map but_pending self.now.copies }
     {

@@ -1,4 +1,4 @@
-//! The tasks of a window, as work for a crew: a task steps the copies (physical processes) of one station (a logical
+//! The tasks of a window, as work for a crew. A task steps the copies (physical processes) of one station (a logical
 //! process).
 ghost use Rattle.std.specs.Prelude.{◌≡◌, ◌+◌, ◌≤◌, IfOk};
 ghost use Rattle.phys_proc.specs.Ends.{ends_in};
@@ -18,8 +18,8 @@ use std::alloc::Global;
 use std::sync::Arc;
 use std::sync::ledger::Ledger;
 
-/// A window of all stations: task i owns the copies of station i + 1, and steps them to the bound that it has. It has
-/// a share of the model and of the clones' ends, since a worker may hold it for longer than the call.
+/// A window of all stations: task i owns the copies of station i + 1, and steps them to its bound. The window shares
+/// the model and the clones' ends, since a worker may hold it for longer than the call.
 #[derive(Drop)]
 pub struct Window {
     model: Arc<Model>,
@@ -35,7 +35,7 @@ impl std::marker::Model for Window {
 }
 
 impl Window {
-    /// The window, which shares the model and the ends, and which workers share.
+    /// Makes the window, which workers share, from the model and the ends.
     ///
     /// # Errors
     ///

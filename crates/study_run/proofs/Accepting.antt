@@ -19,7 +19,7 @@ use Rattle.world_core.proofs.Accepted.{accepted_at}
 use Rattle.study_run.specs.Accepted.{AcceptedIsTaken, IsAcceptedJournal, EachAccepted}
 
 -- ---- AreAccepted
--- calls that a world may take, and one more that it may take behind them
+-- calls that a world may take, and one more that it may take after them
 accepted_more : (net : Net) (cs : List Clone) (calls : List Call) (call : Call) → AreAccepted net cs 0 calls
     → IsAccepted net (clones_after_calls net cs calls) 0 call.decision
     → AreAccepted net cs 0 (calls ++ call ∷ [])
@@ -28,7 +28,7 @@ accepted_more net cs (c ∷ calls) call h one =
     (h.0, accepted_more net (clones_after net cs c.decision) calls call h.1 one)
 
 -- ---- clones_after_calls
--- the clones that calls and one more leave
+-- the clones after calls and one more
 clones_more : (net : Net) (cs : List Clone) (calls : List Call) (call : Call)
     → clones_after_calls net cs (calls ++ call ∷ []) ≡ clones_after net (clones_after_calls net cs calls) call.decision
 clones_more net cs [] call = refl
@@ -39,7 +39,7 @@ clones_more net cs (c ∷ calls) call = clones_more net (clones_after net cs c.d
 pub none_asked : (net : Net) (events : List Event) → events ≡ [] → IsAcceptedJournal net events
 none_asked net events e = subst (IsAcceptedJournal net) (sym e) (record { front = refl; accepted = tt; clones = refl })
 
--- one decision more that is accepted
+-- one more accepted decision
 pub asked_more : (net : Net) (events more : List Event) (caller : ℕ) (d : Decision)
     → reply (after net events) d ≡ Accepted → more ≡ journal_with net events caller d
     → after net more ≡ after_decision (after net events) d → IsAcceptedJournal net events → IsAcceptedJournal net more
@@ -67,7 +67,7 @@ asked_more net events more caller d is same on all =
     }
 
 -- ---- journal_with
--- an accepted call behind these events is what asking for its decision makes of them
+-- appending an accepted call to these events is the same as asking for its decision
 asked_as : (net : Net) (before : List Event) (call : Call) → IsRightCall net before call → call.reply ≡ Accepted
     → before ++ NewCall call ∷ [] ≡ journal_with net before call.caller call.decision
 asked_as net before call h is =
@@ -81,7 +81,7 @@ asked_as net before call h is =
     ap (λ c. before ++ NewCall c ∷ []) same ∙ ap (with_reply before call.caller call.decision) (sym (sym h.answer ∙ is))
 
 -- ---- AcceptedIsTaken
--- accepted calls behind accepted calls
+-- accepted calls after other accepted calls
 accepted_on : (net : Net) (before events : List Event) → EachAfter (MayFollow net) before events
     → fronts_of events ≡ [] → EachAccepted (calls_of events)
     → IsAcceptedJournal net before → IsAcceptedJournal net (before ++ events)
@@ -95,6 +95,6 @@ accepted_on net before (NewCall call ∷ es) h none each all =
     subst (IsAcceptedJournal net) (append_assoc before (NewCall call ∷ []) es)
     (accepted_on net (before ++ NewCall call ∷ []) es h.1 none each.1 more)
 
--- a right journal without fronts, where every call was accepted, is one that a world may take
+-- a right journal without fronts, if every call was accepted, is one that a world may take
 pub accepted_is_taken : AcceptedIsTaken
 accepted_is_taken net events right none each = accepted_on net [] events right none each (none_asked net [] refl)

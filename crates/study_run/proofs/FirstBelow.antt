@@ -1,17 +1,17 @@
--- The first of several values that is there.
+-- The first of several optional values that is not None.
 use Rattle.std.proofs.Common.{◌≡◌, inl, inr, ℕ, zero, suc, ◌<◌, refl, ap, ap₂, ◌∙◌, arith, Option, Some, None}
 use Rattle.std.proofs.lemmas.Bool.{cases_lt}
 use Rattle.std.specs.Option.{option_or}
 use Rattle.study_run.specs.Overs.{first_below}
 
 -- ---- option_or
--- neither is there
+-- both are None
 pub both_none : {X : Type 0} (a b : Option X) → option_or a b ≡ None → (a ≡ None) × (b ≡ None)
 both_none None b h = (refl, h)
 both_none (Some x) b h = absurd (cc)
 
 -- ---- first_below
--- x is there below n, and nothing before it
+-- x is the value at some index below n, and there is none before it
 pub record IsFirstAt {X : Type 0} (f : ℕ → Option X) (n : ℕ) (x : X) : Type 0 where
   pub place : ℕ
   pub below : place < n
@@ -19,13 +19,13 @@ pub record IsFirstAt {X : Type 0} (f : ℕ → Option X) (n : ℕ) (x : X) : Typ
   pub none_before : (j : ℕ) → j < place → f j ≡ None
 
 module _ {X : Type 0} (f : ℕ → Option X) where
-  -- none is there
+  -- if all are None, nothing is found
   pub below_none : (n : ℕ) → ((k : ℕ) → k < n → f k ≡ None) → first_below f n ≡ None
   unfolding first_below
   below_none zero h = refl
   below_none (suc n) h = ap₂ option_or (below_none n (λ k l. h k (omega (arith, l)))) (h n (omega arith))
 
-  -- one is there, and none before it
+  -- if one is not None, it is found, unless one before it is
   pub below_some : (n k : ℕ) (x : X) → k < n → f k ≡ Some x → ((j : ℕ) → j < k → f j ≡ None) → first_below f n ≡ Some x
   unfolding first_below
   below_some zero k x l e h = absurd (omega (arith, l))
@@ -36,7 +36,7 @@ module _ {X : Type 0} (f : ℕ → Option X) where
         ap₂ option_or (below_none n (λ j s. h j (omega (arith, s, is)))) (ap f is ∙ e)
   ]
 
-  -- where nothing is found, none is there
+  -- if nothing is found, all are None
   pub none_below : (n k : ℕ) → first_below f n ≡ None → k < n → f k ≡ None
   unfolding first_below
   none_below zero k h l = absurd (omega (arith, l))

@@ -1,4 +1,4 @@
--- The first log of a trace that is full, and the lengths of all.
+-- The first full log of a trace, and the lengths of all logs.
 use Rattle.std.proofs.Common.{◌≡◌, ◌⊎◌, inl, inr, ℕ, ◌<◌, ◌≤◌, ◌==◌, min, refl, ap, sym, subst}
 use Rattle.std.proofs.Common.{◌∙◌, List, [], ◌∷◌, ◌++◌, length, length-append, append-nil, Option, Some, None, arith}
 use Rattle.std.specs.List.{AllByRecursion}
@@ -42,7 +42,7 @@ module _ (limit : ℕ) where
     | inr other ↦ subst (λ l. length l ≤ limit) (sym (log_there receiver s seen e other)) (h s)
   ]
 
-  -- where the walk finds none, no log is longer
+  -- if the search finds none, no log is longer
   first_beyond-None : (seen es : List (Entry Msg Line)) → ((s : ℕ) → length (log_of receiver s seen) ≤ limit)
       → first_beyond limit seen es ≡ None
       → (s : ℕ) → length (log_of receiver s (seen ++ es)) ≤ limit
@@ -54,7 +54,7 @@ module _ (limit : ℕ) where
         (sym (beyond_later limit seen e es below) ∙ none) s)
   ]
 
-  -- the log that it finds is longer in the end
+  -- the log that it finds is longer at the end
   first_beyond-Some : (seen es : List (Entry Msg Line)) (s : ℕ) → first_beyond limit seen es ≡ Some s
       → limit < length (log_of receiver s (seen ++ es))
   first_beyond-Some seen [] s some = absurd (cc)
@@ -74,7 +74,7 @@ module _ (limit : ℕ) where
         (first_beyond-Some (seen ++ e ∷ []) es s (sym (beyond_later limit seen e es below) ∙ some))
   ]
 
-  -- the entry at which the walk ends is the first whose log is full
+  -- the entry at which the search ends is the first whose log is full
   full_at : (seen es : List (Entry Msg Line)) (s : ℕ) → ((t : ℕ) → length (log_of receiver t seen) ≤ limit)
       → first_beyond limit seen es ≡ Some s → IsFirstFull limit (seen ++ es) s
   full_at seen [] s h some = absurd (cc)
@@ -98,7 +98,7 @@ module _ (limit : ℕ) where
         (full_at (seen ++ e ∷ []) es s (log_of-push seen e h below) (sym (beyond_later limit seen e es below) ∙ some))
   ]
 
-  -- where no log is longer, the walk finds none
+  -- if no log is longer, the search finds none
   none_found : (es : List (Entry Msg Line)) (o : Option ℕ) → first_beyond limit [] es ≡ o
       → ((s : ℕ) → length (log_of receiver s es) ≤ limit) → o ≡ None
   none_found es None e h = refl
@@ -119,11 +119,11 @@ module _ (limit : ℕ) where
 
 -- ---- the laws
 
--- a log is the first that is full exactly where the walk over the trace finds its station
+-- a log is the first full one exactly if the search over the trace finds its station
 pub full_is_found : FullIsFound
 full_is_found limit es s = (found_at limit es s, λ some. full_at limit [] es s (λ t. omega arith) some)
 
--- in a trace one station's log is the first that is full
+-- at most one station's log is the first full one in a trace
 pub full_is_one : FullIsOne
 full_is_one limit es s t a b =
     let first = found_at limit es s a in
@@ -131,18 +131,18 @@ full_is_one limit es s t a b =
     let same : Some s ≡ Some t = sym first ∙ second in
     cc
 
--- and in the end it is longer than the limit
+-- at the end of the trace that log is longer than the limit
 pub full_is_longer : FullIsLonger
 full_is_longer limit es s f = first_beyond-Some limit [] es s (found_at limit es s f)
 
--- the walk finds nothing exactly where all logs are within the limit
+-- the search finds nothing exactly if all logs are within the limit
 pub within_is_not_full : WithinIsNotFull
 within_is_not_full limit es = (
   λ h. none_found limit es (first_beyond limit [] es) refl h,
   λ none. first_beyond-None limit [] es (λ s. omega arith) none,
 )
 
--- where the limit is met in a clone's run, not all of its logs are within it
+-- if the limit is met in a clone's run, not all of its logs are within it
 pub not_both_alone : NotWithinAndMetAlone
 not_both_alone net c s h m =
     let long = first_beyond-Some net.limit [] (trace_of net c) s (found_at net.limit (trace_of net c) s m.first) in
@@ -151,7 +151,7 @@ not_both_alone net c s h m =
 
 -- ---- a clone's run
 
--- the logs of a clone's run are within the limit where the walk over its trace finds none
+-- the logs of a clone's run are within the limit if the search over its trace finds none
 pub within_alone : (net : Net) (c : Clone) → first_beyond net.limit [] (trace_of net c) ≡ None → IsWithin net c
 within_alone net c none s is long =
     let short = first_beyond-None net.limit [] (trace_of net c) (λ t. omega arith) none s in
@@ -163,7 +163,7 @@ pub met_alone : (net : Net) (c : Clone) (s : ℕ) → HasStation net s
 met_alone net c s is some =
     record { is_station = is; first = full_at net.limit [] (trace_of net c) s (λ t. omega arith) some }
 
--- where decisions are for stations, the log that is full first is a station's
+-- if decisions are for stations, the first full log is a station's
 full_is_station : (net : Net) (c : Clone) (s : ℕ) → IsNet net → AreForStations (simulation net) c.plans
     → IsFirstFull net.limit (trace_of net c) s → HasStation net s
 full_is_station net c s valid there f =
@@ -174,7 +174,7 @@ full_is_station net c s valid there f =
     let is = subst (IsStation (simulation net)) f.is_for rest.0 in
     record { low = is.0; high = is.1 }
 
--- what the walk finds, or not
+-- the search finds a log or none
 either_alone : (net : Net) (c : Clone) → IsNet net → AreForStations (simulation net) c.plans → (o : Option ℕ)
     → first_beyond net.limit [] (trace_of net c) ≡ o → IsWithin net c ⊎ ((s : ℕ) × MeetsLimitAlone net c s)
 either_alone net c valid there None none = inl (within_alone net c none)

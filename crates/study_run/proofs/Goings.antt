@@ -1,4 +1,4 @@
--- The run of a study: its clones stay from window to window.
+-- The run of a study: its clones do not change from window to window.
 use Rattle.std.proofs.Common.{◌≡◌, ℕ, ◌+◌, ◌<◌, ◌∙◌, ap, arith, length, refl, subst, sym}
 use Rattle.std.proofs.Common.{Result, Ok, Err, IfOk, IfErr}
 use Rattle.net_model.specs.Net.{Net}
@@ -26,10 +26,10 @@ HasGoneOn-world net old new s t same clones come steps = record {
   steps = steps;
 }
 
--- ---- HasGoneOn, HasStopped, one window on
+-- ---- HasGoneOn, HasStopped, after one more window
 
 module _ (net : Net) (old w : WorldView) (first s t : ℕ) (gone : HasGoneOn net old w first s) where
-  -- the run has come to its front
+  -- the run has reached its front
   come_before : HasCome net old.clones w.front
   come_before = subst (λ cs. HasCome net cs w.front) gone.clones gone.under_way.come
 
@@ -58,7 +58,7 @@ module _ (net : Net) (old w : WorldView) (first s t : ℕ) (gone : HasGoneOn net
 
 -- ---- HasGoneOn, from the beginning
 
--- a run has come to the world with which it begins
+-- a run has reached its first world
 pub HasGoneOn-first : (w : WorldView) (s : ℕ) → w.front ≡ 0 → HasGoneOn w.net w w s s
 HasGoneOn-first w s first = record {
   under_way = record {
@@ -76,7 +76,7 @@ module _ (w : WorldView) (first : w.front ≡ 0) where
   none_at_first : total_handled w.net w.clones w.front ≡ 0
   none_at_first = ap (total_handled w.net w.clones) first ∙ none_handled w.net w.clones (length w.net.sites)
 
-  -- at the horizon the steps are what was handled there, and no log is too long
+  -- at the horizon the steps are what was handled there, and no log is beyond the limit
   ran_to_horizon : (v : WorldView) (s t : ℕ) → IsNet w.net → v.front ≡ v.net.horizon → HasGoneOn w.net w v s t
       → IsStudyRun w.net w.clones s t (Ok v)
   ran_to_horizon v s t valid last h =
@@ -109,7 +109,7 @@ module _ (w : WorldView) (first : w.front ≡ 0) where
         fault = h s (omega (arith, zero));
       }
 
-  -- what goes on from there to the horizon, or stops, is a study's run
+  -- a run that goes on from there to the horizon, or stops, is a study's run
   pub IsStudyRun-went : (s t : ℕ) (run : Result WorldView StudyFault) → IsNet w.net
       → IfOk run (λ v. HasGoneOn w.net w v s t) → IfErr run (λ e. HasStopped w.net w s t e)
       → IfOk run (λ v. v.front ≡ v.net.horizon) → IsStudyRun w.net w.clones s t run

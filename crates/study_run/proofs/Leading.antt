@@ -1,4 +1,4 @@
--- Runs that go on from window to window, whatever is done after each of them.
+-- Runs that advance from window to window, with any follow-up after each of them.
 use Rattle.std.proofs.Common.{◌≡◌, ℕ, ◌+◌, ◌<◌, ◌∙◌, sym, ap, subst, Option, Some, unwrap_or}
 use Rattle.std.proofs.Common.{Result, Ok, Err, IfOk, IfErr}
 use Rattle.net_model.specs.Rules.{IsNet}
@@ -11,7 +11,7 @@ use Rattle.study_run.specs.declared.fault.StudyFault.{StudyFault}
 use Rattle.study_run.proofs.OverLaws.{rises}
 
 -- ---- pairs
--- the world of a pair that was taken out
+-- the world of a pair that was taken
 pub given_world : (given taken : Option (Unit {0} × WorldView)) (w v : WorldView) (u : Unit {0})
     → given ≡ Some (tt, w) → taken ≡ given → taken ≡ Some (u, v) → w ≡ v
 given_world given taken w v u first same second =
@@ -20,7 +20,7 @@ given_world given taken w v u first same second =
 
 -- ---- IsWindow
 
--- the window of a world to its next front is what its clauses say
+-- the window of a world to its next front has this property
 pub IsWindow-made : (w : WorldView) (bound s t : ℕ) (window : Result WorldView WorldFault) → IsNet w.net
     → w.front < w.net.horizon → bound ≡ front_after w
     → IfOk window (λ v. v ≡ record w { front = bound })
@@ -50,7 +50,7 @@ pub front_after-rises : (w : WorldView) (bound : ℕ) → IsNet w.net → w.fron
     → w.front < bound
 front_after-rises w bound valid below is = subst (λ f. w.front < f) (sym is) (rises w.net w.clones valid w.front below)
 
--- what is left of a window's world is of its network, and at the bound
+-- the world after a window is of the same network, and at the bound
 pub at_front_after : (w : WorldView) (bound : ℕ) (window : Result WorldView WorldFault) (v : WorldView)
     → IfOk window (λ x. x ≡ record w { front = bound }) → IsAtItsFront window (Ok v)
     → (v.net ≡ w.net) × (v.front ≡ bound)
@@ -74,7 +74,7 @@ module _ {A : Type 0} (gone_on : RunState A → RunState A → Type 0) (stopped 
     stops = λ first h. goes.stops first (leads first h);
   }
 
-  -- ---- LeadsTo, IsNextWindow, GoesOn, one window on
+  -- ---- LeadsTo, IsNextWindow, GoesOn, after one more window
 
   module _ (old : RunState A) (a : A) (w : WorldView) (s t : ℕ) (window : Result WorldView WorldFault)
       (leads : LeadsTo gone_on old (run_state a w s)) (is : IsWindow w s window t) where
@@ -94,7 +94,7 @@ module _ {A : Type 0} (gone_on : RunState A → RunState A → Type 0) (stopped 
       pub goes_after : GoesOn gone_on stopped old b t run
       goes_after = GoesOn-then old a b w s t run leads (after w s t is)
 
-      -- it has led to the world that is given
+      -- it has led to this world
       pub leads_after : IfOk run (λ v. LeadsTo gone_on old (run_state b v t))
       leads_after = by run goes_after
         where

@@ -1,4 +1,4 @@
--- Where the limit is met in a run of clones.
+-- Where a run of clones meets the limit.
 use Rattle.std.proofs.Common.{◌≡◌, ◌⊎◌, inl, inr, ℕ, zero, suc, ◌<◌, ◌≤◌, refl, sym}
 use Rattle.std.proofs.Common.{ap, ◌∙◌, subst, arith, List, [], ◌∷◌, Option, Some, None}
 use Rattle.std.proofs.lemmas.Bool.{cases_lt}
@@ -55,7 +55,7 @@ record MeetsFrom (net : Net) (cs : List Clone) (front s c : ℕ) : Type 0 where
   pub before : (f : ℕ) → In f fronts → f < bound → NoneBeyond net cs f
 
 module _ (net : Net) (valid : IsNet net) (cs : List Clone) where
-  -- the next window is the first, or it goes on behind it
+  -- the limit is met in the next window or after it
   meets_next : (n front s c : ℕ) (below : front < net.horizon) (o : Option (ℕ × ℕ))
       → overrun_at net cs (next_front net cs front) ≡ o
       → option_or o (first_overrun net cs n (next_front net cs front)) ≡ Some (s, c)
@@ -109,7 +109,7 @@ module _ (net : Net) (valid : IsNet net) (cs : List Clone) where
     | inr past ↦ absurd (let k = sym (first_overrun-ended net cs (suc n) front past) ∙ h in cc)
   ]
 
-  -- where the search finds it, the limit is met
+  -- if the search finds it, the limit is met
   pub found_met : (s c : ℕ) → first_overrun_of net cs ≡ Some (s, c) → MeetsLimit net cs s c
   found_met s c h =
       let m = meets_from net.horizon 0 s c h in
@@ -122,7 +122,7 @@ module _ (net : Net) (valid : IsNet net) (cs : List Clone) where
             less;
       }
 
-  -- where it is met, not all logs are within it
+  -- if it is met, not all logs are within the limit
   not_within : (s c : ℕ) → AreWithin net cs → MeetsLimit net cs s c → ⊥
   not_within s c h m =
       let e = m.is_end in
@@ -156,7 +156,7 @@ first_is_one net cs bound s c t d a b = elim (cases_lt s t) [
 
 -- ---- the laws
 
--- the limit is met at one station and in one clone
+-- the limit is met at no more than one station and clone
 pub meeting_is_one : MeetingIsOne
 meeting_is_one net cs s c t d m k = elim (cases_lt m.bound k.bound) [
   | inl less ↦ let first = m.first in
@@ -172,7 +172,7 @@ meeting_is_one net cs s c t d m k = elim (cases_lt m.bound k.bound) [
   ]
 ]
 
--- it is not met where all logs are within it
+-- it is not met if all logs are within the limit
 pub not_both : NotWithinAndMet
 not_both net valid cs s c h m = not_within net valid cs s c h m
 
@@ -189,7 +189,7 @@ within_or_met net valid cs = elim (first_overrun_of-cases net valid cs (first_ov
   | inr met ↦ inr (met.0, (met.1.0, met.1.1.1))
 ]
 
--- where it is met, the search finds it
+-- if it is met, the search finds it
 met_found : (net : Net) → IsNet net → (cs : List Clone) (s c : ℕ) → MeetsLimit net cs s c
     → first_overrun_of net cs ≡ Some (s, c)
 met_found net valid cs s c m = elim (first_overrun_of-cases net valid cs (first_overrun_of net cs) refl) [
@@ -203,17 +203,17 @@ met_found net valid cs s c m = elim (first_overrun_of-cases net valid cs (first_
       e ∙ ap Some pairs
 ]
 
--- it is met exactly where the search through the windows finds it
+-- it is met exactly if the search through the windows finds it
 pub meeting_is_found : MeetingIsFound
 meeting_is_found net valid cs s c = (met_found net valid cs s c, found_met net valid cs s c)
 
--- where all are within it, the search finds nothing
+-- if all logs are within the limit, the search finds nothing
 within_found : (net : Net) → IsNet net → (cs : List Clone) (o : Option (ℕ × ℕ)) → first_overrun_of net cs ≡ o
     → AreWithin net cs → o ≡ None
 within_found net valid cs None e h = refl
 within_found net valid cs (Some (s, c)) e h = absurd (not_within net valid cs s c h (found_met net valid cs s c e))
 
--- the search finds nothing exactly where all logs are within the limit
+-- the search finds nothing exactly if all logs are within the limit
 pub within_is_not_found : WithinIsNotFound
 within_is_not_found net valid cs = (
   within_found net valid cs (first_overrun_of net cs) refl,

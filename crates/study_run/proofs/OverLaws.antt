@@ -43,20 +43,20 @@ module _ (net : Net) (cs : List Clone) (front : ℕ) where
         absurd (let k = sym none ∙ h in cc)
   ]
 
-  -- none is found where none is beyond it
+  -- none is found if none is beyond the limit
   none_over : NoneBeyond net cs front → overrun_at net cs front ≡ None
   none_over h = below_none (λ i. overrun_in net cs front (i + 1)) (length net.sites)
       (λ i l. below_none (overrun_of net cs front (i + 1)) (length cs)
       (λ c k. short_is (i + 1) c (h c k (i + 1) (omega arith, omega (arith, l)))))
 
-  -- where none is found at a station, no clone's log there is beyond the limit
+  -- if none is found at a station, no clone's log there is beyond the limit
   none_here : (s c : ℕ) → overrun_in net cs front s ≡ None → c < length cs → ¬ (IsBeyond net s front (clone_at cs c))
   none_here s c h there long =
       let none = none_below (overrun_of net cs front s) (length cs) c h there in
       let some = long_is s c long in
       absurd (let k = sym none ∙ some in cc)
 
-  -- and the other way round
+  -- the converse
   pub none_beyond : overrun_at net cs front ≡ None → NoneBeyond net cs front
   none_beyond h c there s is long =
       let low : 1 ≤ s = is.0 in
@@ -80,7 +80,7 @@ module _ (net : Net) (cs : List Clone) (front : ℕ) where
       (λ j l. below_none (overrun_of net cs front (j + 1)) (length cs)
       (λ k there. short_is (j + 1) k (h.least_station (j + 1) (omega arith) (omega (arith, l)) k there)))
 
-  -- and what is found are these
+  -- and what is found is the least
   pub is_first : (s c : ℕ) → overrun_at net cs front ≡ Some (s, c) → IsFirstBeyond net cs front s c
   is_first s c h =
       let at = found_below (λ i. overrun_in net cs front (i + 1)) (length net.sites) (s, c) h in
@@ -108,7 +108,7 @@ module _ (net : Net) (cs : List Clone) (front : ℕ) where
 -- ---- first_overrun
 
 module _ (net : Net) (cs : List Clone) where
-  -- a window more
+  -- one more window
   pub window_more : (n front : ℕ) → front < net.horizon
       → first_overrun net cs (suc n) front ≡ option_or (overrun_at net cs (next_front net cs front))
       (first_overrun net cs n (next_front net cs front))
@@ -117,7 +117,7 @@ module _ (net : Net) (cs : List Clone) where
       ap (λ (b : Bool). if b then option_or (overrun_at net cs (next_front net cs front))
       (first_overrun net cs n (next_front net cs front)) else None) (lt-ltb front net.horizon l)
 
-  -- none more
+  -- there is no more window
   pub first_overrun-ended : (n front : ℕ) → net.horizon ≤ front → first_overrun net cs n front ≡ None
   unfolding first_overrun
   first_overrun-ended zero front h = refl
@@ -136,7 +136,7 @@ module _ (net : Net) (cs : List Clone) where
     rises front l = let ahead = valid.ahead in
         next_front-rises (lawful-stations net valid) cs front (omega (arith, ahead)) l
 
-    -- from a front on, with windows enough
+    -- from a front on, with enough windows
     within_from : (n front : ℕ) → net.horizon ≤ n + front → front < net.horizon → first_overrun net cs n front ≡ None
         → NoneBeyond net cs net.horizon
     within_from zero front far below h = absurd (omega (arith, far, below))
@@ -151,14 +151,14 @@ module _ (net : Net) (cs : List Clone) where
               subst (NoneBeyond net cs) is (none_beyond net cs f p.0)
         ]
 
-    -- where nothing is found, none is beyond the limit at the horizon
+    -- if nothing is found, no log is beyond the limit at the horizon
     pub within_horizon : first_overrun_of net cs ≡ None → NoneBeyond net cs net.horizon
     within_horizon h = let some = valid.horizon in within_from net.horizon 0 (omega arith) (omega (arith, some)) h
 
--- ---- a run that goes from window to window
+-- ---- a run from window to window
 
 module _ (net : Net) (cs : List Clone) (front : ℕ) (below : front < net.horizon) where
-  -- a window after which no log is beyond it
+  -- a window after which no log is beyond the limit
   pub comes_next : IsNet net → HasCome net cs front → NoneBeyond net cs (next_front net cs front)
       → HasCome net cs (next_front net cs front)
   comes_next valid come none = by come.left come.enough come.same
@@ -176,7 +176,7 @@ module _ (net : Net) (cs : List Clone) (front : ℕ) (below : front < net.horizo
                 (none_over net cs (next_front net cs front) none)) ∙ same;
           }
 
-  -- a window at whose end one is
+  -- a window after which one is
   pub over_here : (s c : ℕ) → HasCome net cs front → IsFirstBeyond net cs (next_front net cs front) s c
       → first_overrun_of net cs ≡ Some (s, c)
   over_here s c come first = by come.left come.enough come.same

@@ -19,7 +19,7 @@ use Rattle.study_run.specs.Laws.{TotalIsFew, TotalIsOfReport}
 use Rattle.study_run.specs.Limits.{AreWithin}
 use Rattle.trace_report.specs.Outputs.{figures_of, figures_to, report}
 
--- a clone at a station handles no more than the limit, and all clones at all stations no more than a number holds
+-- the messages of a clone at a station are within the limit, and those of all clones at all stations fit 64 bits
 small : (net : Net) (cs : List Clone) → IsNet net → length cs ≤ MOST_CLONES
     → most_handled net (length cs) < 2 ^ 64
 small net cs valid few =
@@ -40,17 +40,17 @@ module _ (net : Net) (cs : List Clone) where
       let e : length (figures_to net cs n) + 1 ≡ suc n = omega (arith, h) in
       length-append (figures_to net cs n) (figures_of net cs (n + 1) ∷ []) ∙ e
 
-  -- one station more
+  -- one more station
   figures_more : (n : ℕ) → figures_to net cs (n + 1) ≡ figures_to net cs n ++ figures_of net cs (n + 1) ∷ []
   unfolding figures_to
   figures_more n = let e : n + 1 ≡ suc n = omega arith in ap (figures_to net cs) e
 
-  -- for no station there is no figure
+  -- for no station there are no figures
   pub figures_none : [] ≡ figures_to net cs 0
   unfolding figures_to
   figures_none = refl
 
-  -- where each station has at most so much
+  -- if each station has at most this much
   module _ (f : Figures → ℕ) (each : (s : ℕ) → 1 ≤ s → s ≤ length net.sites
       → f (figures_of net cs s) ≤ length cs * net.limit) where
     -- the stations 1 to n have at most n times as much
@@ -64,14 +64,14 @@ module _ (net : Net) (cs : List Clone) where
         subst (λ k. k ≤ suc n * (length cs * net.limit))
         (sym (sum_by_push f (figures_to net cs n) (figures_of net cs (n + 1)))) (omega (arith, h, one, m))
 
-    -- the sum over all stations is a number of 64 bits, where the clones are not too many
+    -- the sum over all stations fits 64 bits, if the clones are not too many
     pub figures_small : IsNet net → length cs ≤ MOST_CLONES → sum_by f (figures_to net cs (length net.sites)) < 2 ^ 64
     figures_small valid few =
         let a = figures_few (length net.sites) (omega arith) in
         let b = small net cs valid few in
         omega (arith, a, b)
 
-  -- where no log is longer than the limit, the counts are few
+  -- if no log is longer than the limit, the counts are few
   pub few_at : AreWithin net cs → (s : ℕ) → 1 ≤ s → s ≤ length net.sites
       → AreFew (simulation net) same_entry cs s net.horizon
   few_at h s low high = counts_are_few (simulation net) same_entry cs s net.horizon
@@ -91,7 +91,7 @@ module _ (net : Net) (cs : List Clone) where
       sum_by_push (λ (f : Figures). f.handled) (figures_to net cs n) (figures_of net cs (n + 1))
       ∙ ap₂ (λ a b. a + b) h at
 
-  -- where no log is longer than the limit, that is no more than the limit allows so many stations
+  -- if no log is longer than the limit, the total is no more than the limit allows for n stations
   total_few : AreWithin net cs → (n : ℕ) → n ≤ length net.sites
       → station_sum (λ s. handled_once net cs s net.horizon) n ≤ n * (length cs * net.limit)
   total_few within zero l = omega arith
@@ -101,23 +101,23 @@ module _ (net : Net) (cs : List Clone) where
       let m = suc-mul n (length cs * net.limit) in
       omega (arith, h, one, m)
 
--- what the report says was handled in all is what was handled once at the stations together
+-- the report's total is the number of messages handled once at all stations
 pub total_is_of_report : TotalIsOfReport
 total_is_of_report net cs = total_to net cs (length net.sites)
 
--- and where all logs are within the limit, that is no more than the limit allows
+-- if all logs are within the limit, the total is no more than the limit allows
 pub total_is_few : TotalIsFew
 total_is_few net cs within = total_few net cs within (length net.sites) (omega arith)
 
--- ---- as a world tells them
+-- ---- the figures of a world
 
--- figures of the same three numbers are the same
+-- figures with the same three numbers are equal
 same_figures : (f g : Figures) → f.copies ≡ g.copies → f.handled ≡ g.handled → f.alone ≡ g.alone → f ≡ g
 same_figures f g a b c =
     ap₂ (λ x y. record { copies = x; handled = y; alone = f.alone }) a b
     ∙ ap (λ z. record { copies = g.copies; handled = g.handled; alone = z }) c
 
--- the figures of one station more at the horizon
+-- the figures at the horizon with one more station
 pub figures_pushed : (net told : Net) (cs : List Clone) (front s : ℕ) (f : Figures) (done all : List Figures)
     → told ≡ net → front ≡ net.horizon
     → f.copies ≡ copies told cs (s + 1) front → f.handled ≡ handled_once told cs (s + 1) front
@@ -136,7 +136,7 @@ pub report_is : (net : Net) (cs : List Clone) (figures : List Figures)
 unfolding report
 report_is net cs figures e = ap (report_text net) e
 
--- a text that is there, by another name
+-- an equal text, if there is one
 pub text_on : {T E : Type 0} (text : T → List ℕ) (r : Result T E) (a b : List ℕ) → a ≡ b → IfOk r (λ t. text t ≡ a)
     → IfOk r (λ t. text t ≡ b)
 text_on text (Ok t) a b e h = h ∙ e

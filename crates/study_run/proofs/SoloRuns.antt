@@ -1,4 +1,4 @@
--- The run of one clone by itself.
+-- The run of one clone alone.
 use Rattle.std.proofs.Common.{◌≡◌, ℕ, ◌+◌, ◌<◌, ◌≤◌, refl, sym, subst, ap}
 use Rattle.std.proofs.Common.{ap₂, ◌∙◌, arith, min, List, [], length, Option, unwrap_or}
 use Rattle.std.proofs.Math.Nat.{min-eq_right, min-le_left, min-le_right}
@@ -28,11 +28,11 @@ use Rattle.study_run.proofs.Fulls.{met_alone, within_alone}
 
 -- ---- trace_of
 
--- a clone's run goes to its end, or else to the horizon
+-- a clone's run reaches its end, or otherwise the horizon
 module _ (net : Net) (c : Clone) (plans : List Planned) (front : ℕ) (v : SoloView) (same_plans : plans ≡ c.plans)
     (is_last : front ≡ min net.horizon (end_of (simulation net) c))
     (begins : config_of net v ≡ first_world (simulation net) plans) where
-  -- the trace of the run from where it begins
+  -- the trace of the run from its start
   trace_from : (run_from net v front).at.trace ≡ trace_of net c
   trace_from = ap (λ k. (run_to msg_cmp (step_of net) (λ m. m.key.time) k front).at.trace) begins
       ∙ ap₂ (λ ps b. (run (simulation net) ps b).at.trace) same_plans is_last
@@ -66,7 +66,7 @@ module _ (net : Net) (c : Clone) (plans : List Planned) (front : ℕ) (v : SoloV
 
   -- ---- StopsAlone
 
-  -- where the run to the front stops at the limit, the clone's run ends so
+  -- if the run to the front stops at the limit, the clone's run stops there
   pub stops_alone : (place old new station kept : ℕ) → Stops net v front old new (Limit station kept)
       → StopsAlone net c place old new station place
   stops_alone place old new station kept h =
@@ -82,7 +82,7 @@ module _ (net : Net) (c : Clone) (plans : List Planned) (front : ℕ) (v : SoloV
 
 -- ---- last_time
 
--- the state of a run from the first world of these decisions, by other names of them and of the front
+-- the state of a run from the first world of these decisions, for equal decisions and an equal front
 pub ran_to : (net : Net) (plans those : List Planned) (front last : ℕ) (v s : SoloView) → plans ≡ those → front ≡ last
     → config_of net v ≡ first_world (simulation net) plans → config_of net s ≡ run_from net v front
     → config_of net s ≡ run (simulation net) those last
@@ -90,7 +90,7 @@ ran_to net plans those front last v s same is begins ends =
     ends ∙ ap (λ k. run_to msg_cmp (step_of net) (λ m. m.key.time) k front) begins
     ∙ ap₂ (λ ps b. run (simulation net) ps b) same is
 
--- the time at which a clone stops, by its end
+-- the time at which a clone stops, from its end
 pub last_time-is : (net : Net) (time front last : ℕ) (c : Clone) (end : Option ℕ) → front ≡ min time last
     → last ≡ min net.horizon (unwrap_or end net.horizon) → end ≡ c.end → front ≡ last_time net time c
 last_time-is net time front last c end is last_is same =
@@ -103,14 +103,14 @@ last_time-within net time c =
     let b = min-le_left net.horizon (end_of (simulation net) c) in
     omega (arith, a, b)
 
--- so a clone that ends there runs to there
+-- a clone that ends there is run up to there
 pub until-last : (net : Net) (time front : ℕ) (c : Clone) → front ≡ last_time net time c
     → front ≡ min net.horizon (end_of (simulation net) (until net time c))
 until-last net time front c is = is ∙ sym (min-eq_right (last_time-within net time c))
 
 -- ---- until
 
--- until the horizon it is the clone's whole run
+-- up to the horizon it is the clone's whole run
 module _ (net : Net) (c : Clone) where
   last_is : min net.horizon (last_time net net.horizon c) ≡ min net.horizon (end_of (simulation net) c)
   last_is =
@@ -142,7 +142,7 @@ module _ (net : Net) (c : Clone) where
     few = h.few;
   }
 
--- why a run until the horizon has no result is why the whole run has none
+-- a fault of a run up to the horizon is one of the whole run
 pub until-fault : (net : Net) (time : ℕ) (cs : List Clone) (place old new : ℕ) (e : StudyFault) → time ≡ net.horizon
     → IsFaultUntil net time cs place old new e → IsFaultAlone net cs place old new e
 until-fault net time cs place old new NoMemory is h = tt

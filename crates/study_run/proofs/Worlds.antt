@@ -1,4 +1,4 @@
--- A world that goes from window to window, by what it tells of its network and its clones.
+-- A world that advances from window to window: its network and its clones.
 use Rattle.std.proofs.Common.{◌≡◌, ℕ, zero, suc, ◌+◌, ◌<◌, refl, sym, ap, ap₂, ◌∙◌, subst, arith, List}
 use Rattle.sim_base.specs.Clones.{Clone}
 use Rattle.sim_base.specs.Same.{same_entry}
@@ -28,7 +28,7 @@ none_handled net cs (suc n) =
     omega (arith, before, here, at)
 
 -- ---- StopsAll
--- the window at whose end a log is beyond the limit
+-- a window at whose end a log is beyond the limit
 stops_at : (net : Net) (cs : List Clone) (front : ℕ) → front < net.horizon → IsNet net
     → (start mid new station who kept : ℕ)
     → HasCome net cs front → mid ≡ start + total_handled net cs front
@@ -41,18 +41,18 @@ stops_at net cs front below valid start mid new station who kept come steps h =
       few = omega (arith, most, steps);
     }
 
--- ---- next_front, HasCome, total_handled, IsFaultOfAll, one window on
+-- ---- next_front, HasCome, total_handled, IsFaultOfAll, after one more window
 module _ (net told : Net) (cs those : List Clone) (front bound : ℕ) (same_net : told ≡ net) (same_clones : those ≡ cs)
     (next : bound ≡ next_front told those front) (below : front < net.horizon) where
   -- the bound is the next front of this network and of these clones
   next_is : bound ≡ next_front net cs front
   next_is = next ∙ ap₂ (λ (n : Net) l. next_front n l front) same_net same_clones
 
-  -- the next front is a later one
+  -- the next front is later
   pub rises_in : IsNet net → front < bound
   rises_in valid = let r = rises net cs valid front below in let e = next_is in omega (arith, r, e)
 
-  -- where no log is beyond the limit there, the run has come to it
+  -- if no log is beyond the limit there, the run has reached it
   pub comes_in : (now : ℕ) → now ≡ bound → IsNet net → HasCome net cs front → NoneBeyond told those bound
       → HasCome net cs now
   comes_in now is valid come none =
@@ -61,7 +61,7 @@ module _ (net told : Net) (cs those : List Clone) (front bound : ℕ) (same_net 
       subst (HasCome net cs) (sym (is ∙ next_is))
       (comes_next net cs front below valid come (subst (NoneBeyond net cs) next_is two))
 
-  -- steps that are beside a number what the clones handle to the front are, one window on, what they handle to the next
+  -- steps that exceed a base by what the clones handle up to the front do so up to the next front after a window
   pub steps_in : (base now start mid new : ℕ) → now ≡ bound → mid + base ≡ start + total_handled net cs front
       → new + total_handled told those front ≡ mid + total_handled told those bound
       → new + base ≡ start + total_handled net cs now
@@ -73,7 +73,7 @@ module _ (net told : Net) (cs those : List Clone) (front bound : ℕ) (same_net 
       let c : total_handled net cs now ≡ total_handled net cs bound = ap (total_handled net cs) is in
       omega (arith, a, b, c, before, steps)
 
-  -- the run of all clones ends with the window's fault: where a log is beyond the limit at the next front, there
+  -- the run of all clones ends with the fault of a window in which a log is beyond the limit at the next front
   pub stops_in : (start mid new : ℕ) (e : WorldFault) → IsNet net → HasCome net cs front
       → mid ≡ start + total_handled net cs front
       → IsFault told those front bound mid new e → IsFaultOfAll net cs start new (fault_of_window e)

@@ -9,34 +9,34 @@ use Rattle.study_run.specs.Work.{IsFew}
 use Rattle.study_run.specs.declared.fault.StudyFault.{StudyFault}
 use Rattle.study_run.specs.declared.fault.StudyFault.TheVariants.{NoMemory, LimitMet}
 
--- the fault of a run that has a window with this fault
+-- the fault of a run in which a window has this fault
 abbrev pub fault_of_window : WorldFault → StudyFault
 fault_of_window window.NoMemory = NoMemory
 fault_of_window (window.EventLimit station who kept) = LimitMet station who
 
--- the run of all clones ends where the limit is met, and no more was handled than the limit allows
+-- the run of all clones stops at the limit, and no more was handled than the limit allows
 pub record StopsAll (net : Net) (clones : List Clone) (old_steps new_steps station who : ℕ) : Type 0 where
   pub meets : MeetsLimit net clones station who
   pub few : IsFew net (length clones) old_steps new_steps
 
--- out of memory needs no cause
+-- the causes of a fault of all clones: out of memory has none
 abbrev pub IsFaultOfAll : Net → List Clone → ℕ → ℕ → StudyFault → Type 0
 IsFaultOfAll net clones old_steps new_steps NoMemory = Unit {0}
 IsFaultOfAll net clones old_steps new_steps (LimitMet station who) = StopsAll net clones old_steps new_steps station who
 
--- the run of this clone, which has a place, ends so
+-- the run of the clone at this place stops at the limit, and no more was handled than the limit allows
 pub record StopsAlone (net : Net) (clone : Clone) (place old_steps new_steps station who : ℕ) : Type 0 where
   pub meets : MeetsLimitAlone net clone station
   pub is_it : who ≡ place
   pub few : IsFew net 1 old_steps new_steps
 
--- the same for one clone: out of memory needs no cause, and at the limit its run ends so
+-- the causes of a fault of one clone: out of memory has none
 abbrev pub IsFaultAlone : Net → List Clone → ℕ → ℕ → ℕ → StudyFault → Type 0
 IsFaultAlone net clones c old_steps new_steps NoMemory = Unit {0}
 IsFaultAlone net clones c old_steps new_steps (LimitMet station who) =
     StopsAlone net (clone_at clones c) c old_steps new_steps station who
 
--- and for the clone until a time
+-- the same for the clone until a time
 abbrev pub IsFaultUntil : Net → ℕ → List Clone → ℕ → ℕ → ℕ → StudyFault → Type 0
 IsFaultUntil net time clones c old_steps new_steps NoMemory = Unit {0}
 IsFaultUntil net time clones c old_steps new_steps (LimitMet station who) =

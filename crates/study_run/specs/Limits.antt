@@ -1,4 +1,4 @@
--- The limit of a log: when the logs of a run are within it, and where it is met first.
+-- The limit of a log: when the logs of a run are within it, and where a run meets it first.
 use Rattle.std.specs.Prelude.{◌≡◌, ℕ, ◌<◌, ◌≤◌, List, ◌∷◌, ◌++◌, length, min}
 use Rattle.sim_base.specs.Clones.{Clone, with_end}
 use Rattle.sim_base.specs.declared.message.Msg.{Msg}
@@ -17,7 +17,7 @@ use Rattle.world_core.specs.Overs.{IsFirstBeyond, NoneBeyond}
 abbrev pub IsWithin : Net → Clone → Type 0
 IsWithin net c = IsWithinLimit (simulation net) net.horizon c
 
--- nor one of any of the clones
+-- no log of any of the clones is beyond the limit
 abbrev pub AreWithin : Net → List Clone → Type 0
 AreWithin net clones = NoneBeyond net clones net.horizon
 
@@ -27,15 +27,15 @@ pub record IsWindowEnd (net : Net) (clones : List Clone) (f : ℕ) : Type 0 wher
   pub are_fronts : AreFronts net clones 0 fronts
   pub is_one : In f fronts
 
--- the limit is met in a run of these clones: at the least window end at which some log is longer, the station is the
--- least that has one, and there the clone is the least
+-- a run of these clones meets the limit here: the bound is the least window end at which some log is longer; there this
+-- is the least station with such a log, and this is the least such clone
 pub record MeetsLimit (net : Net) (clones : List Clone) (station who : ℕ) : Type 0 where
   pub bound : ℕ
   pub is_end : IsWindowEnd net clones bound
   pub first : IsFirstBeyond net clones bound station who
   pub before : (f : ℕ) → IsWindowEnd net clones f → f < bound → NoneBeyond net clones f
 
--- a station's log has so many entries before an entry of its own, and there no log has more
+-- a station's log is full before an entry of its own, and no log has more entries by then
 pub record IsFirstFull (limit : ℕ) (trace : List (Entry Msg Line)) (station : ℕ) : Type 0 where
   pub done : List (Entry Msg Line)
   pub entry : Entry Msg Line
@@ -45,16 +45,16 @@ pub record IsFirstFull (limit : ℕ) (trace : List (Entry Msg Line)) (station : 
   pub full : length (log_of receiver station done) ≡ limit
   pub within : (s : ℕ) → length (log_of receiver s done) ≤ limit
 
--- the limit is met in the run of one clone: its trace goes on where the log of this station is full, and no log is
--- longer before
+-- the run of one clone meets the limit here: its trace has an entry for this station after the station's log is full,
+-- and no log is longer before
 pub record MeetsLimitAlone (net : Net) (c : Clone) (station : ℕ) : Type 0 where
   pub is_station : HasStation net station
   pub first : IsFirstFull net.limit (trace_of net c) station
 
--- how far a clone runs that is stopped at a time: its end and the horizon come first where they are earlier
+-- the time at which a clone stops if it is stopped at a time: its end or the horizon if they are earlier
 abbrev pub last_time : Net → ℕ → Clone → ℕ
 last_time net time c = min time (min net.horizon (end_of (simulation net) c))
 
--- the clone that ends there
+-- the clone, ended at that time
 abbrev pub until : Net → ℕ → Clone → Clone
 until net time c = with_end c (last_time net time c)

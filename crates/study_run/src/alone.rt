@@ -1,4 +1,4 @@
-//! The run of one clone by itself: a sequential simulation, on one thread.
+//! The run of one clone alone: a sequential simulation on one thread.
 ghost use Rattle.std.specs.Prelude.{◌≡◌, ◌+◌, ◌<◌, ◌≤◌, length, min, unwrap_or, IfOk, IfErr, OnOk};
 ghost use Rattle.sim_base.specs.Clones.{clone_at};
 ghost use Rattle.run_laws.specs.Runs.{run};
@@ -16,7 +16,7 @@ use solo_run::{Solo, SoloFault};
 use std::alloc::Global;
 use std::sync::ledger::Ledger;
 
-// How far a clone runs: to its end, or else to the horizon.
+// The time at which the run of a clone stops: its end, or otherwise the horizon.
 fn last_front(model: &Model, end: Option<u64>) -> u64
     ensures value { result ≡ min model.now.horizon (unwrap_or end model.now.horizon) }
     ensures within { result ≤ model.now.horizon }
@@ -27,7 +27,7 @@ fn last_front(model: &Model, end: Option<u64>) -> u64
     }
 }
 
-/// Runs the clone at a place by itself until a time, or to its end or the horizon, whichever comes first.
+/// Runs the clone at a place alone until a time, or to its end or the horizon, whichever comes first.
 pub fn run_alone_until<L: Ledger>(
     alloc: Global,
     model: &Model,
@@ -39,7 +39,7 @@ pub fn run_alone_until<L: Ledger>(
     requires there { c < length lists.now.clones }
     requires planned { ArePlanned model.now lists.now.clones }
 
-    // Its states, its pending messages and its trace there, as if that time were its end.
+    // its states, its pending messages and its trace at that time, as if the time were its end
     ensures run { IfOk result (λ solo. config_of model.now solo
         ≡ run (simulation model.now) (clone_at lists.now.clones c).plans
         (last_time model.now time (clone_at lists.now.clones c))) }
@@ -47,13 +47,13 @@ pub fn run_alone_until<L: Ledger>(
     ensures trace { IfOk result (λ solo.
         solo.trace ≡ trace_of model.now (until model.now time (clone_at lists.now.clones c))) }
 
-    // A step for each entry, and no log is too long.
+    // one step for each entry, and no log is beyond the limit
     ensures steps { OnOk result (steps.new
         ≡ steps.old + length (trace_of model.now (until model.now time (clone_at lists.now.clones c)))) }
     ensures within { OnOk result (IsWithin model.now (until model.now time (clone_at lists.now.clones c))) }
     ensures few { OnOk result (IsFew model.now 1 steps.old steps.new) }
 
-    // Or out of memory, or the limit is met before that time.
+    // or out of memory, or the limit is met before that time
     ensures fault { IfErr result (λ e. IsFaultUntil model.now time lists.now.clones c steps.old steps.new e) }
 {
     let front = time.min(last_front(model, lists.end_of(c)));
@@ -67,7 +67,7 @@ pub fn run_alone_until<L: Ledger>(
     }
 }
 
-/// Runs the clone at a place by itself, to its end or else to the horizon.
+/// Runs the clone at a place alone, to its end or otherwise to the horizon.
 pub fn run_alone<L: Ledger>(
     alloc: Global,
     model: &Model,
@@ -78,13 +78,13 @@ pub fn run_alone<L: Ledger>(
     requires there { c < length lists.now.clones }
     requires planned { ArePlanned model.now lists.now.clones }
 
-    // Its trace, a step for each entry, and no log is too long.
+    // its trace, one step for each entry, and no log is beyond the limit
     ensures trace { IfOk result (λ solo. solo.trace ≡ trace_of model.now (clone_at lists.now.clones c)) }
     ensures steps { OnOk result (steps.new ≡ steps.old + length (trace_of model.now (clone_at lists.now.clones c))) }
     ensures within { OnOk result (IsWithin model.now (clone_at lists.now.clones c)) }
     ensures few { OnOk result (IsFew model.now 1 steps.old steps.new) }
 
-    // Or out of memory, or the limit is met.
+    // or out of memory, or the limit is met
     ensures fault { IfErr result (λ e. IsFaultAlone model.now lists.now.clones c steps.old steps.new e) }
 {
     run_alone_until(alloc, model, lists, c, model.horizon(), steps)

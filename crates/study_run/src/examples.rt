@@ -1,4 +1,4 @@
-//! Worked examples, computed by the checker from the definitions. Each function's contract is a theorem; there is
+//! Worked examples, computed by the checker from the definitions. The contract of each function is a theorem; there is
 //! nothing to run.
 ghost use Rattle.std.specs.Prelude.{◌≡◌, [], ◌∷◌, Some, None};
 ghost use Rattle.sim_base.specs.Clones.{base};
@@ -13,8 +13,8 @@ pub fn two_branches_share()
     ensures total { total_handled one_desk two_branches 20 ≡ 13 }
 {}
 
-/// With three entries a log the desk of the faster branch is the first to go beyond, in the window that ends at 10;
-/// with four it is in a later one, and with five none is.
+/// With a limit of three entries the first log beyond it is the desk's in the faster branch, in the window that ends at
+/// 10. With four it is in a later window, and with five there is none.
 pub fn limits_are_met()
     ensures three { first_overrun_of short_logs two_branches ≡ Some (2, 1) }
     ensures alone { first_overrun_of short_logs (base ∷ []) ≡ Some (2, 0) }
@@ -23,7 +23,8 @@ pub fn limits_are_met()
     ensures five { first_overrun_of (record one_desk { limit = 5 }) two_branches ≡ None }
 {}
 
-/// And alone: the desk's log is full before its fourth entry, that of the faster branch before its fifth.
+/// The same for each branch alone: the desk's log is full before its fourth entry, and in the faster branch before its
+/// fifth.
 pub fn limits_are_met_alone()
     ensures base { first_beyond 3 [] (trace_of one_desk base) ≡ Some 2 }
     ensures fast { first_beyond 4 [] (trace_of one_desk fast) ≡ Some 2 }

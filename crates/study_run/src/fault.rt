@@ -1,4 +1,4 @@
-//! Why the run of a study has no result: memory was refused, or a log would get longer than the model's limit.
+//! Why the run of a study has no result: out of memory, or a log that would get longer than the model's limit.
 ghost use Rattle.std.specs.Prelude.{◌≡◌};
 ghost use Rattle.study_run.specs.Faults.{fault_of_window as fault_of_window'};
 
@@ -7,13 +7,13 @@ use world_core::WorldFault;
 /// Why a run has no result.
 #[derive(Clone, Copy, Debug, PartialEq, Eq)]
 pub enum StudyFault {
-    /// Memory was refused.
+    /// Out of memory.
     NoMemory,
     /// A log would get longer than the limit: the station, and the place of the clone among all clones.
     LimitMet { station: u32, who: u32 },
 }
 
-/// Why a run has no result, where a window of it has this fault.
+/// The fault of a run in which a window has this fault.
 pub fn fault_of_window(fault: WorldFault) -> StudyFault
     ensures value { result ≡ fault_of_window' fault }
 {

@@ -1,4 +1,4 @@
-//! A run of all clones that goes on from window to window, up to the horizon (stop time).
+//! Advances a run of all clones from window to window, up to the horizon (stop time).
 ghost use Rattle.std.specs.Prelude.{◌≡◌, Some, false, IfOk, IfSome};
 ghost use Rattle.world_core.specs.Worlds.{WorldView};
 ghost use Rattle.study_run.specs.Onwards.{GoesOn, HasComeTo, run_state};
@@ -14,7 +14,7 @@ use std::sync::ledger::Ledger;
 use std::thread::{Threads, join_mut};
 use world_core::{Window, World};
 
-// Goes on in the caller's thread: up to the horizon, or, if this is asked, until a window was large.
+// Runs windows in the caller's thread: all up to the horizon or, on request, only until one was large.
 fn go_in_place<A: Onwards, L: Ledger>(
     alloc: Global,
     follow_up: &mut A,
@@ -42,7 +42,7 @@ fn go_in_place<A: Onwards, L: Ledger>(
     Ok(world)
 }
 
-// Goes on to the horizon with an executor of its windows.
+// Runs the windows up to the horizon with a crew.
 fn go_by_crew<A: Onwards, G: Gate, L: Ledger, R: Wait>(
     rt: &R,
     alloc: Global,
@@ -68,7 +68,7 @@ fn go_by_crew<A: Onwards, G: Gate, L: Ledger, R: Wait>(
     Ok(world)
 }
 
-// Goes on to the horizon by the crew that is given, and tells its members that no more windows come.
+// Runs the windows up to the horizon with the given crew, and tells its members afterwards that there are no more.
 fn finish_beside<A: Onwards, G: Gate, L: Ledger, R: Wait>(
     rt: &R,
     alloc: Global,
@@ -91,7 +91,7 @@ fn finish_beside<A: Onwards, G: Gate, L: Ledger, R: Wait>(
     done
 }
 
-// The members' part, if it was not done yet.
+// Runs the members' part, unless it has run already.
 fn serve_members<G: Gate, R: Threads + Wait + Sync>(
     rt: &R,
     alloc: Global,
@@ -103,7 +103,7 @@ fn serve_members<G: Gate, R: Threads + Wait + Sync>(
     }
 }
 
-// Goes on to the horizon beside the members of a crew. All threads are joined.
+// Runs the windows up to the horizon, concurrently with the members of a crew. All threads are joined.
 fn go_beside<A: Onwards, G: Gate, L: Ledger, R: Threads + Wait + Sync>(
     rt: &R,
     alloc: Global,
@@ -133,7 +133,7 @@ fn go_beside<A: Onwards, G: Gate, L: Ledger, R: Threads + Wait + Sync>(
     done
 }
 
-// Goes on in the caller's thread until a crew pays. The gate may ask for a crew at once.
+// Runs windows in the caller's thread until a crew pays off. The gate may require a crew immediately.
 fn go_until_large<A: Onwards, G: Gate, L: Ledger>(
     alloc: Global,
     gate: &G,
@@ -151,7 +151,7 @@ fn go_until_large<A: Onwards, G: Gate, L: Ledger>(
     go_in_place(alloc, follow_up, world, true, steps)
 }
 
-// Goes on to the horizon with a crew, or in the caller's thread if there is no memory for one.
+// Runs the windows up to the horizon with a crew, or in the caller's thread if there is no memory for one.
 fn go_with_crew<A: Onwards, G: Gate, L: Ledger, R: Threads + Wait + Sync>(
     rt: &R,
     alloc: Global,
@@ -178,7 +178,7 @@ fn go_with_crew<A: Onwards, G: Gate, L: Ledger, R: Threads + Wait + Sync>(
     }
 }
 
-/// Goes on to the horizon in the caller's thread.
+/// Runs the windows up to the horizon in the caller's thread.
 pub fn go_alone<A: Onwards, L: Ledger>(
     alloc: Global,
     follow_up: &mut A,
@@ -193,8 +193,8 @@ pub fn go_alone<A: Onwards, L: Ledger>(
     go_in_place(alloc, follow_up, world, false, steps)
 }
 
-/// Goes on to the horizon: in the caller's thread until a window was large, and from then on by a crew of so many
-/// workers. No clause has a term for the workers or the gate.
+/// Runs the windows up to the horizon: in the caller's thread until a window was large, and from then on by a crew of
+/// this number of workers. The contract does not depend on the number of workers or on the gate.
 pub fn go_to_horizon<A: Onwards, G: Gate, L: Ledger, R: Threads + Wait + Sync>(
     rt: &R,
     alloc: Global,
@@ -210,7 +210,7 @@ pub fn go_to_horizon<A: Onwards, G: Gate, L: Ledger, R: Threads + Wait + Sync>(
     ensures front { IfOk result (λ w. w.front ≡ w.net.horizon) }
 {
     let world = go_until_large(alloc, gate, follow_up, world, steps)?;
-    // No window is left that a crew could share out, so none is started.
+    // no window is left for a crew, so no thread is started
     if world.front() >= world.model().horizon() {
         return Ok(world);
     }

@@ -1,14 +1,14 @@
 //! Laws of the limit and of the report: each function's contract is a law, and there is nothing to run.
 //!
-//! `specs/Laws.antt` has the laws in words.
+//! `specs/Laws.antt` states the laws.
 ghost use Rattle.study_run.specs.Accepted.{AcceptedIsTaken};
 ghost use Rattle.study_run.specs.Laws.{FullIsFound, FullIsLonger, FullIsOne, MeetingIsFound};
 ghost use Rattle.study_run.specs.Laws.{MeetingIsOne, NotWithinAndMet, NotWithinAndMetAlone, TotalIsFew};
 ghost use Rattle.study_run.specs.Laws.{TotalIsOfReport, WithinIsNotFound, WithinIsNotFull, WithinOrMet};
 ghost use Rattle.study_run.specs.Laws.{WithinOrMetAlone};
 
-/// Where the limit is met in a run of clones: there is one such place, and it is there exactly where some log of the
-/// whole run is longer.
+/// The station and clone at which a run of clones meets the limit: there is at most one, and there is one exactly if
+/// some log of the whole run is longer.
 pub fn limit_is_met_once()
     ensures one { MeetingIsOne }
     ensures found { MeetingIsFound }
@@ -17,7 +17,7 @@ pub fn limit_is_met_once()
     ensures not_both { NotWithinAndMet }
 {}
 
-/// Where it is met in one clone's trace.
+/// The station at which one clone's trace meets the limit.
 pub fn first_full_log()
     ensures one { FullIsOne }
     ensures found { FullIsFound }
@@ -27,14 +27,14 @@ pub fn first_full_log()
     ensures not_both { NotWithinAndMetAlone }
 {}
 
-/// The total of the report is what was handled once, and it is no more than the limit allows.
+/// The total of the report is the number of messages handled once, and is no more than the limit allows.
 #[tactic(auto, using(crate::proofs::Reports::total_is_of_report, crate::proofs::Reports::total_is_few))]
 pub fn report_has_the_total()
     ensures total { TotalIsOfReport }
     ensures few { TotalIsFew }
 {}
 
-/// What a right journal without fronts accepted, a world may take at front 0.
+/// A world may take at front 0 what a right journal without fronts accepted.
 #[tactic(auto, using(crate::proofs::Accepting::accepted_is_taken))]
 pub fn accepted_calls_are_taken()
     ensures { AcceptedIsTaken }

@@ -1,13 +1,13 @@
-//! Runs of studies: all branches of a model in one world, or one of them by itself.
+//! Runs of studies: all branches of a model in one world, or one of them alone.
 //!
-//! A study is a model and the decisions that were accepted before its simulation begins. Its run opens the world of
-//! the base clone, takes the decisions at front 0, and goes from window to window up to the horizon, the stop time.
-//! Once a window is large, several workers (threads) share out the stations of those that follow. The result does not
+//! A study is a model and the decisions that were accepted before its simulation begins. Its run opens the world of the
+//! base clone, and takes the decisions at front 0. Then it advances window by window up to the horizon, the stop time.
+//! Once a window is large, several workers (threads) share the stations of the following windows. The result does not
 //! depend on the workers.
 //!
 //! ```text
 //! calls --take--> { base fast } --window--> 5 --window--> 7 --window--> 10 .. --window--> horizon
-//!                                             a log is longer than the limit: LimitMet, and the world is given up
+//!                                             a log is longer than the limit: LimitMet, and the world is dropped
 //! ```
 //!
 //! ```text
@@ -16,15 +16,16 @@
 //! let solo = run_alone(alloc, &model, book.lists(), 1, &mut steps)?;     // the same trace, without sharing
 //! ```
 //!
-//! What it costs: a step for each message that is handled, one for all clones that share it; the memory of the world.
-//! A clone by itself costs a step for each message of its trace. A study without a large window starts no thread.
+//! Cost: one step for each message that is handled, once for all clones that share it, and the memory of the world. A
+//! clone alone costs one step for each message of its trace. A study without a large window starts no thread.
 //!
-//! A run that changes its clones while it goes on gives its own [`Onwards`] to [`go_to_horizon`] or [`go_alone`].
+//! A run that changes its clones between windows passes its own [`Onwards`] to [`go_to_horizon`] or [`go_alone`].
 //! `run_study_sequentially`, `run_alone` and `go_alone` take no handle that may wait, so they are proved to return.
 //!
-//! The promises that it carries: **bounded work, each shared message handled once**. At the horizon the steps rose by
-//! exactly the report's total; where a log would get longer than the limit, the least window end, there the least
-//! station and there the least clone are named, and no more was handled than stations, clones and limit allow.
+//! The promises: **bounded work, each shared message handled once**. At the horizon the steps rose by exactly the
+//! report's total. If a log would get longer than the limit, the run stops at the first window end at which one is. The
+//! fault names the least station and the least clone there. No more messages are handled than stations, clones and
+//! limit allow.
 #![tactic(auto)]
 
 pub mod alone;

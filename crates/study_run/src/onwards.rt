@@ -1,4 +1,4 @@
-//! What a run of all clones does after each of its windows.
+//! The follow-up of a run after each of its windows.
 ghost use Rattle.std.specs.Prelude.{ℕ};
 ghost use Rattle.study_run.specs.Onwards.{GoesOnAfter, IsAtItsFront, IsNextWindow, RunState};
 ghost use Rattle.study_run.specs.declared.fault.StudyFault.{StudyFault};
@@ -7,15 +7,15 @@ use crate::fault::{StudyFault, fault_of_window};
 use std::alloc::Global;
 use world_core::{World, WorldFault};
 
-/// What a run does after each window. A run may so change its clones while it goes on.
+/// `Onwards`: what a run does after each window. It may change the run's clones.
 pub trait Onwards {
-    // a run has gone on from the first state to the second
+    // a run went on from the first state to the second
     ghost has_gone_on: { RunState Self → RunState Self → Type 0 };
 
-    // a run that began in this state stops, with so many steps counted, for this fault
+    // a run that began in this state stopped, at this step count, with this fault
     ghost has_stopped: { RunState Self → ℕ → StudyFault → Type 0 };
 
-    /// Is called after each window, with the world at the window's end or the window's fault.
+    /// Called after each window, with the world at the window's end or the window's fault.
     fn after_window(
         &mut self,
         alloc: Global,
@@ -26,7 +26,7 @@ pub trait Onwards {
         ensures goes { GoesOnAfter has_gone_on has_stopped self.old self.new window result };
 }
 
-/// The run of a study: its clones stay, and nothing is done after a window.
+/// The run of a study without a follow-up: its clones do not change.
 #[derive(Clone, Copy, Debug)]
 pub struct PlainRun;
 

@@ -20,7 +20,7 @@ use std::sync::{Arc, Wait};
 use std::thread::Threads;
 use world_core::World;
 
-// The world of all clones that the calls make, before anything is handled.
+// Opens the world of all clones that the calls create, before anything is handled.
 fn open_world(alloc: Global, model: &Arc<Model>, calls: &[Call]) -> Result<World, NoMemory>
     requires accepted { AreAccepted model.now.value (base ∷ []) 0 calls.now }
     ensures net { IfOk result (λ w. w.net ≡ model.now.value) }
@@ -46,7 +46,7 @@ fn run_alone_to_horizon<L: Ledger>(
     go_alone(alloc, &mut PlainRun, world, steps)
 }
 
-// Runs the clones of a world at front 0 to the horizon, with so many workers.
+// Runs the clones of a world at front 0 to the horizon, with this number of workers.
 fn run_to_horizon<G: Gate, L: Ledger, R: Threads + Wait + Sync>(
     rt: &R,
     alloc: Global,
@@ -62,8 +62,8 @@ fn run_to_horizon<G: Gate, L: Ledger, R: Threads + Wait + Sync>(
     go_to_horizon(rt, alloc, workers, gate, &mut PlainRun, world, steps)
 }
 
-/// Runs a study in the caller's thread: the world of a model takes the calls at front 0, which were accepted, and goes
-/// to the horizon. It waits for nobody, so its clauses promise that it returns.
+/// Runs a study in the caller's thread. The world of a model takes the calls, which were accepted, at front 0, and
+/// advances to the horizon. It never waits, so its contract promises that it returns.
 pub fn run_study_sequentially<L: Ledger>(
     alloc: Global,
     model: &Arc<Model>,
@@ -72,17 +72,17 @@ pub fn run_study_sequentially<L: Ledger>(
 ) -> Result<World, StudyFault>
     requires accepted { AreAccepted model.now.value (base ∷ []) 0 calls.now }
 
-    // The world of the clones that the calls make, at the horizon.
+    // the world at the horizon, with the clones that the calls create
     ensures net { IfOk result (λ w. w.net ≡ model.now.value) }
     ensures clones { IfOk result (λ w. w.clones ≡ clones_after_calls model.now.value (base ∷ []) calls.now) }
     ensures front { IfOk result (λ w. w.front ≡ model.now.value.horizon) }
 
-    // No log is too long, and what clones share was handled once.
+    // no log is beyond the limit, and what clones share was handled once
     ensures within { IfOk result (λ w. AreWithin model.now.value w.clones) }
     ensures steps { IfOk result (λ w.
         steps.new ≡ steps.old + total_handled model.now.value w.clones model.now.value.horizon) }
 
-    // Or out of memory, or the limit is met.
+    // or out of memory, or the limit is met
     ensures fault { IfErr result (λ e.
         IsFaultOfAll model.now.value (clones_after_calls model.now.value (base ∷ []) calls.now) steps.old steps.new e) }
 {
@@ -92,10 +92,10 @@ pub fn run_study_sequentially<L: Ledger>(
     }
 }
 
-/// Runs a study with so many workers: the world of a model takes the calls at front 0, which were accepted, and goes to
-/// the horizon. With one worker it is `run_study_sequentially`.
+/// Runs a study with this number of workers. The world of a model takes the calls, which were accepted, at front 0, and
+/// advances to the horizon. With one worker it is `run_study_sequentially`.
 ///
-/// No clause has a term for the workers or the gate.
+/// The contract does not depend on the number of workers or on the gate.
 pub fn run_study<G: Gate, L: Ledger, R: Threads + Wait + Sync>(
     rt: &R,
     alloc: Global,
@@ -107,17 +107,17 @@ pub fn run_study<G: Gate, L: Ledger, R: Threads + Wait + Sync>(
 ) -> Result<World, StudyFault>
     requires accepted { AreAccepted model.now.value (base ∷ []) 0 calls.now }
 
-    // The world of the clones that the calls make, at the horizon.
+    // the world at the horizon, with the clones that the calls create
     ensures net { IfOk result (λ w. w.net ≡ model.now.value) }
     ensures clones { IfOk result (λ w. w.clones ≡ clones_after_calls model.now.value (base ∷ []) calls.now) }
     ensures front { IfOk result (λ w. w.front ≡ model.now.value.horizon) }
 
-    // No log is too long, and what clones share was handled once.
+    // no log is beyond the limit, and what clones share was handled once
     ensures within { IfOk result (λ w. AreWithin model.now.value w.clones) }
     ensures steps { IfOk result (λ w.
         steps.new ≡ steps.old + total_handled model.now.value w.clones model.now.value.horizon) }
 
-    // Or out of memory, or the limit is met.
+    // or out of memory, or the limit is met
     ensures fault { IfErr result (λ e.
         IsFaultOfAll model.now.value (clones_after_calls model.now.value (base ∷ []) calls.now) steps.old steps.new e) }
 {

@@ -1,4 +1,4 @@
--- Rows, clone by clone, and where an earlier clone's row of a server is.
+-- Rows, clone by clone, and the position of an earlier clone's row of a server.
 use Rattle.std.proofs.Common.{◌≡◌, ℕ, zero, suc, ◌+◌, ◌-◌, ◌*◌, ◌<◌, ◌≤◌, List, [], ◌∷◌, ◌++◌, Bool, true, false}
 use Rattle.std.proofs.Common.{if◌then◌else◌, length, take, refl, sym, ap, ◌∙◌, subst, arith, append_assoc, append-nil}
 use Rattle.std.proofs.Common.{length-append, Some, ◌⊎◌, inl, inr}
@@ -36,11 +36,11 @@ clone_at-take (x ∷ xs) (suc c) (suc f) low = clone_at-take xs c f (omega (arit
 
 -- ---- rows that are appended
 
--- no row of a clone comes before that of its first station
+-- no row of a clone precedes that of its first station
 pub rows_before-none : (net : Net) (cs : List Clone) (c : ℕ) → rows_before net cs c 0 ≡ rows net (take c cs)
 rows_before-none net cs c = append-nil (rows net (take c cs))
 
--- the rows of one station more
+-- the rows of one more station
 pub rows_before-more : (net : Net) (cs : List Clone) (c s : ℕ)
     → rows_before net cs c s ++ station_rows net (clone_at cs c) (s + 1) ≡ rows_before net cs c (s + 1)
 rows_before-more net cs c s =
@@ -49,7 +49,7 @@ rows_before-more net cs c s =
     ∙ ap (λ n. rows net (take c cs) ++ (first_rows net (clone_at cs c) s ++ station_rows net (clone_at cs c) n)) next
     ∙ ap (λ n. rows net (take c cs) ++ first_rows net (clone_at cs c) n) (sym next)
 
--- the rows of one clone more
+-- the rows of one more clone
 pub rows_before-all : (net : Net) (cs : List Clone) (c : ℕ) → c < length cs
     → rows_before net cs c (length net.sites) ≡ rows net (take (c + 1) cs)
 rows_before-all net cs c low =
@@ -206,7 +206,7 @@ module _ (net : Net) (cs : List Clone) (c f s : ℕ) (early : f < c) (low : c < 
   server-suc : is_server (site_of net (suc s)).kind ≡ true
   server-suc = subst (λ n. is_server (site_of net n).kind ≡ true) station-is server
 
-  -- the earlier clone's row is there
+  -- the earlier clone's row exists
   earlier-has : HasRow (rows_before net cs c s) (f * servers + server_count net s) (row net (clone_at cs f) (s + 1))
   earlier-has =
       let some = length-take-le c cs (omega (arith, low)) in
@@ -238,7 +238,7 @@ module _ (net : Net) (cs : List Clone) (c f s : ℕ) (early : f < c) (low : c < 
       let product = mul-le 1 1 (c - f) servers (omega (arith, early)) servers-min in
       subst (λ n. 1 ≤ (c - f) * n) (sym is) (omega (arith, product))
 
-  -- they are there
+  -- there are that many rows
   pub places-max : (n : ℕ) → n ≡ servers → (l : List StatRow) → l ≡ rows_before net cs c s → (c - f) * n ≤ length l
   places-max n is l so_far =
       let whole = whole-is in
@@ -246,7 +246,7 @@ module _ (net : Net) (cs : List Clone) (c f s : ℕ) (early : f < c) (low : c < 
       subst (λ n. (c - f) * n ≤ length l) (sym is)
       (subst (λ l. (c - f) * servers ≤ length l) (sym so_far) (omega (arith, whole, all)))
 
-  -- the earlier clone's row is that many places before the end
+  -- the earlier clone's row is this number of places before the end
   pub earlier-row : (n : ℕ) → n ≡ servers → (l : List StatRow) → l ≡ rows_before net cs c s
       → slice_get l (length l - (c - f) * n) ≡ Some (row net (clone_at cs f) (s + 1))
   earlier-row n is l so_far =
@@ -260,7 +260,7 @@ module _ (net : Net) (cs : List Clone) (c f s : ℕ) (early : f < c) (low : c < 
       ∙ has_row-get (rows_before net cs c s) (f * servers + server_count net s) (row net (clone_at cs f) (s + 1))
       earlier-has
 
--- the rows with a server's row more
+-- the rows with one more server's row
 pub rows_before-server : (net : Net) (cs : List Clone) (c s : ℕ) (l after : List StatRow) (who : List ℕ) (stats : Stats)
     → is_server (site_of net (s + 1)).kind ≡ true → l ≡ rows_before net cs c s → who ≡ (clone_at cs c).name
     → stats ≡ (row net (clone_at cs c) (s + 1)).stats
@@ -277,7 +277,7 @@ rows_before-server net cs c s l after who stats server so_far who_is stats_is mo
 
 -- ---- the stations of rows
 
--- whatever is said holds of all elements of the empty list
+-- any property holds of all elements of the empty list
 all-nil : (P : StatRow → Type 0) → All P []
 all-nil P k d low = absurd (omega (arith, low))
 

@@ -33,7 +33,7 @@ module _ (net : Net) (valid : IsNet net) (one other : Clone) (s from until : ℕ
         ∙ ap (λ l. server_stats net s from l) same;
   }
 
-  -- so the statistics of that log until the other clone's end are those of its row
+  -- the statistics of that log until the other clone's end are those of its row
   pub row-other : (stats result : Stats) → stats ≡ (row net one s).stats
       → ((c : HaveCommonLog stats from until) → result ≡ server_stats c.net c.station until c.log)
       → result ≡ (row net other s).stats

@@ -1,4 +1,4 @@
--- What the worked examples come to, and a network without servers.
+-- Results of the worked examples, and a network without servers.
 use Rattle.std.specs.Prelude.{ℕ, List, [], ◌∷◌, ◌++◌, codes}
 use Rattle.net_model.specs.declared.station.Kind.TheVariants.{Source, Sink}
 use Rattle.net_model.specs.declared.limits.TheConstants.{USUAL_LIMIT}

@@ -1,7 +1,7 @@
-//! Worked examples, computed by the checker from the definitions of a run and of the statistics alone.
+//! Worked examples, computed by the checker from only the definitions of a run and of the statistics.
 //!
-//! Each function's contract is a theorem; there is nothing to run. The texts are in `specs/Examples.antt`, and the
-//! networks in `stations`, `queue_stats` and there.
+//! The contract of each function is a theorem; there is nothing to run. The texts are in `specs/Examples.antt`. The
+//! networks are there, in `stations` and in `queue_stats`.
 ghost use Rattle.std.specs.Prelude.{◌≡◌, [], ◌∷◌, codes, true, false};
 ghost use Rattle.sim_base.specs.Clones.{base};
 ghost use Rattle.stations.specs.Examples.OneDesk.{one_desk, two_branches, brief};
@@ -16,7 +16,7 @@ pub fn faster_service_in_one_branch()
     ensures text { statistics one_desk two_branches ≡ two_branches_text }
 {}
 
-/// Clones that end: the job that waits at 9 has not started, and the clone that ends at 0 has waits of no visit.
+/// Clones that end: the job that waits at 9 has not started, and the clone that ends at 0 has no visit with a wait.
 pub fn clones_that_end()
     ensures text { statistics one_desk (brief ∷ gone ∷ []) ≡ ended_text }
 {}
@@ -26,7 +26,7 @@ pub fn full_waiting_room()
     ensures text { statistics (three_sources 0) (base ∷ []) ≡ full_room_text }
 {}
 
-/// The order of service: `present` does not depend on it, and waits are reported only by arrival.
+/// The order of service: `present` does not depend on it. Waits are reported only for service by arrival.
 pub fn orders_of_service()
     ensures by_class { statistics (low_and_high true) (base ∷ []) ≡ by_class_text }
     ensures by_arrival { statistics (low_and_high false) (base ∷ []) ≡ by_arrival_text }
@@ -37,7 +37,7 @@ pub fn jobs_that_return()
     ensures text { statistics feedback (base ∷ []) ≡ feedback_text }
 {}
 
-/// A model without servers has the heading alone.
+/// The statistics of a model without servers are the heading only.
 pub fn no_servers()
     ensures text { statistics no_server (base ∷ []) ≡ codes "stats\n" }
 {}

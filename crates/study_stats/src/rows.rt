@@ -46,7 +46,7 @@ fn simulated_until(model: &Model, end: Option<u64>) -> u64
     }
 }
 
-// The statistics in a row that was appended earlier: so many clones earlier, at the server whose row comes next.
+// The statistics in the row of the same server as the next row, `clones` clones earlier.
 fn earlier_stats(rows: &[StatRow], servers: usize, clones: u32) -> Stats
     requires places_min { 1 ≤ clones * servers }
     requires places_max { clones * servers ≤ length rows.now }
@@ -98,8 +98,8 @@ fn stats_along(log: &Log, model: &Model, world: &World, clone: u32, station: u32
     stats_of(model, station, log, until)
 }
 
-// The statistics of a server in a clone, whose row comes after these rows. Clones that share a log share the walk
-// along it, which is made for the first of them.
+// The statistics of a server in a clone, whose row comes after these rows. Clones that share a log share the pass over
+// it, which is made for the first of them.
 fn next_stats(
     rows: &[StatRow],
     servers: usize,

@@ -1,4 +1,4 @@
--- Lines of their parts, and the places behind them.
+-- Lines from their parts, and the places after them.
 use Rattle.std.proofs.Common.{◌≡◌, ℕ, ◌+◌, ◌≤◌, ap, refl, arith, List, ◌++◌, append_assoc, codes, length}
 use Rattle.std.proofs.Common.{length-append, length-take-le, take}
 use Rattle.sim_base.specs.declared.entry.Line.{Line}
@@ -9,7 +9,7 @@ use Rattle.trace_report.specs.TraceText.{line_start, payload_text, counts_text, 
 
 -- ---- line_start, payload_text, counts_text
 
--- the start, what the message tells, and the counts, one behind the other, are an entry's line
+-- the start, the payload and the counts together are an entry's line
 pub line_of_parts : (net : Net) (key : Key) (to : ℕ) (payload : Payload) (counts : Line) (before : List ℕ)
     → (((before ++ line_start net key to) ++ payload_text net payload) ++ codes " ")
     ++ (counts_text counts ++ codes "\n")
@@ -21,7 +21,7 @@ line_of_parts net key to payload counts before = simp append_assoc refl
 
 -- ---- take
 
--- a text that was written at a place tells the place behind it
+-- a text that was written at a place determines the place after it
 pub place_behind : (at end : ℕ) (old new text : List ℕ) → take end new ≡ take at old ++ text → at ≤ length old
     → end ≤ length new → end ≡ at + length text
 place_behind at end old new text written at_within end_within =

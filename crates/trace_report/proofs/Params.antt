@@ -19,7 +19,7 @@ param_word-short Weight = omega arith
 
 -- ---- value_words, joined
 
--- where a parameter takes one value, that is the text
+-- if a parameter takes one value, the text is that value
 pub values-one : (p : Param) (a b : ℕ) → param_values p ≡ 1
     → join_with_byte 32 (value_words (param_values p) a b) ≡ decimal a
 values-one Every a b h = absurd (omega arith)
@@ -29,7 +29,7 @@ values-one Servers a b h = refl
 values-one Room a b h = refl
 values-one Weight a b h = absurd (omega arith)
 
--- and otherwise both, with a space between them
+-- otherwise it is both, with a space between them
 pub values-two : (p : Param) (a b : ℕ) → (param_values p ≡ 1 → ⊥)
     → join_with_byte 32 (value_words (param_values p) a b) ≡ decimal a ++ (codes " " ++ decimal b)
 values-two Every a b h = refl

@@ -1,4 +1,4 @@
--- A report with the line of one station more.
+-- A report with the line of one more station.
 use Rattle.std.proofs.Common.{◌≡◌, ℕ, ◌+◌, ◌<◌, List, ◌++◌, Some, length, get_or, take, arith, add-one}
 use Rattle.std.specs.List.{flat_map, zip}
 use Rattle.std.proofs.lemmas.List.{flat_map_more, take_more}
@@ -8,7 +8,7 @@ use Rattle.sim_base.specs.declared.figures.Figures.{Figures}
 use Rattle.net_model.specs.Net.{Net, Site, site_at}
 use Rattle.trace_report.specs.ReportText.{station_line}
 
--- the lines of the stations so far, and then that of the next, are those of one station more
+-- the lines of the stations so far, followed by that of the next, are those of one more station
 pub station_lines_more : (net : Net) (figures : List Figures) (s : ℕ) (site : Site) (of : Figures) (text : List ℕ)
     → s < length net.sites → s < length figures → site_at net (s + 1) ≡ Some site
     → (text ++ flat_map (λ beside. station_line beside.0 beside.1) (take s (zip net.sites figures)))

@@ -1,11 +1,11 @@
--- Worked examples: a trace as people read it, and a report.
+-- Worked examples: a trace and a report in full.
 use Rattle.std.specs.Prelude.{ℕ, List, [], ◌∷◌, ◌++◌, codes}
 use Rattle.sim_base.specs.declared.figures.Figures.{Figures}
 use Rattle.net_model.specs.declared.limits.TheConstants.{USUAL_LIMIT}
 use Rattle.net_model.specs.declared.station.Kind.TheVariants.{Source, Sink}
 use Rattle.net_model.specs.Net.{Net, link}
 
--- the text of the trace of two jobs at a desk that serves one at a time, as that of the base clone
+-- the trace text of two jobs at a desk that serves one at a time, in the base clone
 abbrev pub one_desk_text : List ℕ
 one_desk_text =
     codes "clone base\n"
@@ -18,7 +18,7 @@ one_desk_text =
     ++ codes "13 desk desk 2 done gate.1 busy=0 wait=0 done=2 lost=0\n"
     ++ codes "15 out desk 3 job gate.1 got=2 stay=17\n"
 
--- the figures of a station in one clone, where it handled so many messages
+-- the figures of a station that handled this number of messages in one clone
 abbrev pub figures_of_one : ℕ → Figures
 figures_of_one n = record { copies = 1; handled = n; alone = n }
 
@@ -26,7 +26,7 @@ figures_of_one n = record { copies = 1; handled = n; alone = n }
 abbrev pub figures_alone : List Figures
 figures_alone = figures_of_one 2 ∷ figures_of_one 4 ∷ figures_of_one 2 ∷ []
 
--- and the report with these figures
+-- the report with these figures
 abbrev pub alone_text : List ℕ
 alone_text =
     codes "report\n"
@@ -35,14 +35,14 @@ alone_text =
     ++ codes "out copies=1 handled=2 alone=2\n"
     ++ codes "total handled=8 alone=8\n"
 
--- the figures of two clones, of which one was served faster from a time on
+-- the figures of two clones, one of which was served faster from a time on
 abbrev pub figures_of_two : List Figures
 figures_of_two =
     record { copies = 1; handled = 2; alone = 4 }
     ∷ record { copies = 2; handled = 8; alone = 9 }
     ∷ record { copies = 2; handled = 3; alone = 4 } ∷ []
 
--- and the report with these figures
+-- the report with these figures
 abbrev pub text_of_two : List ℕ
 text_of_two =
     codes "report\n"
@@ -51,7 +51,7 @@ text_of_two =
     ++ codes "out copies=2 handled=3 alone=4\n"
     ++ codes "total handled=13 alone=17\n"
 
--- a source of jobs of class 2, and where they leave
+-- a source of jobs of class 2, and a sink
 abbrev pub second_class : Net
 second_class = record {
   format = 2;

@@ -1,4 +1,4 @@
--- The texts that a run writes, by its network and its clones.
+-- The texts that a run writes, from its network and its clones.
 use Rattle.std.specs.Prelude.{ℕ, zero, suc, ◌+◌, List, [], ◌∷◌, ◌++◌, length}
 use Rattle.std.specs.List.{flat_map}
 use Rattle.sim_base.specs.Clones.{Clone}
@@ -8,16 +8,16 @@ use Rattle.stations.specs.Runs.{trace_of, copies, handled_once, handled_alone}
 use Rattle.trace_report.specs.TraceText.{trace_text}
 use Rattle.trace_report.specs.ReportText.{report_text}
 
--- the text of the trace of a clone, simulated alone on one thread, to its end or else to the horizon
+-- the trace text of a clone, simulated alone on one thread, to its end or otherwise to the horizon
 abbrev pub clone_text : Net → Clone → List ℕ
 clone_text net c = trace_text net c.name (trace_of net c)
 
--- those of all clones, in order of making
+-- the trace texts of all clones, in creation order
 abbrev pub clone_texts : Net → List Clone → List ℕ
 clone_texts net clones = flat_map (clone_text net) clones
 
--- what the clones had in common at a station in the whole run: its copies, what they handled once, and what the
--- clones handle alone
+-- what the clones shared at a station in the whole run: its copies, the messages handled once, and the messages that
+-- the clones would handle alone
 abbrev pub figures_of : Net → List Clone → ℕ → Figures
 figures_of net clones s = record {
   copies = copies net clones s net.horizon;

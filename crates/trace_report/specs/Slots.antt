@@ -6,11 +6,11 @@ use Rattle.trace_report.specs.declared.names.Slot.{Slot}
 use Rattle.trace_report.specs.declared.names.TheConstants.{SLOTS}
 use Rattle.trace_report.specs.TraceText.{station_name}
 
--- its name, or the analyst's, and the class of the jobs that it makes
+-- the slot of a number: the station's name, or the analyst's, and the class of the jobs that it makes
 abbrev pub slot_of : Net → ℕ → Slot
 slot_of net s = record { name = station_name net s; class = class_from net s }
 
--- a network's, by the numbers from 0 to that of the last station that there may be
+-- the slots of a network, for the numbers from 0 to the greatest possible station number
 pub record AreNames (net : Net) (slots : List Slot) : Type 0 where
   pub few : length net.sites ≤ MOST_STATIONS
   pub size : length slots ≡ SLOTS

@@ -14,12 +14,12 @@ use Rattle.sim_base.specs.declared.message.Payload.{Payload}
 use Rattle.sim_base.specs.declared.message.Payload.TheVariants.{Tick, Job, Done, Set}
 use Rattle.net_model.specs.Net.{Net, Site, site_at, class_from}
 
--- the name of a station, or that of the analyst where there is no station
+-- the name of a station, or that of the analyst if there is no station
 abbrev pub name_or_analyst : Option Site → List ℕ
 name_or_analyst None = codes "analyst"
 name_or_analyst (Some site) = site.name
 
--- who sends or receives: the station of the number, and else the analyst, whose number is 0
+-- the sender or receiver of a number: that station, or otherwise the analyst, whose number is 0
 abbrev pub station_name : Net → ℕ → List ℕ
 station_name net s = name_or_analyst (site_at net s)
 
@@ -35,18 +35,18 @@ job_text net job = station_name net job.source ++ codes "." ++ decimal job.count
 abbrev pub values_text : Change → List ℕ
 values_text change = join_with_byte 32 (value_words (param_values change.param) change.a change.b)
 
--- a change, as a script gives it
+-- a change in script syntax
 abbrev pub change_text : Change → List ℕ
 change_text change = join_with_byte 32 (words_of_change change.param change.a change.b)
 
--- what a message tells its receiver
+-- the payload of a message
 abbrev pub payload_text : Net → Payload → List ℕ
 payload_text net Tick = codes "tick"
 payload_text net (Job job) = codes "job " ++ job_text net job
 payload_text net (Done job) = codes "done " ++ job_text net job
 payload_text net (Set change) = codes "set " ++ change_text change
 
--- the counts of a station, as they are after the message
+-- the counts of a station after the message
 abbrev pub counts_text : Line → List ℕ
 counts_text (Source sent) = codes "sent=" ++ decimal sent
 counts_text (Server busy wait done lost) =
@@ -55,13 +55,13 @@ counts_text (Server busy wait done lost) =
 counts_text (Passed passed) = codes "passed=" ++ decimal passed
 counts_text (Sink got stay) = codes "got=" ++ decimal got ++ codes " stay=" ++ decimal stay
 
--- what a line begins with, up to the payload: the time, the receiver, the sender and its running count
+-- the start of a line, up to the payload: the time, the receiver, the sender and its running count
 abbrev pub line_start : Net → Key → ℕ → List ℕ
 line_start net key to =
     decimal key.time ++ codes " " ++ station_name net to ++ codes " " ++ station_name net key.sender ++ codes " "
     ++ decimal key.number ++ codes " "
 
--- the line of an entry: its start, what the message tells, and the counts after it
+-- the line of an entry: its start, the payload, and the counts
 abbrev pub entry_line : Net → Entry Msg Line → List ℕ
 entry_line net entry =
     line_start net entry.msg.key entry.msg.to ++ payload_text net entry.msg.payload ++ codes " "

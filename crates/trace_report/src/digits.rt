@@ -1,18 +1,18 @@
-//! How many digits a number has.
+//! The number of decimal digits of a number.
 ghost use Rattle.std.specs.Prelude.{◌≡◌, ◌<◌, ◌≤◌, length, decimal};
 ghost use Rattle.trace_report.specs.declared.digits.TheConstants.{LEAST_LONG, LONGEST_NUMBER, SHORT_NUMBER};
 
-/// How many digits a number of 64 bits has at most.
+/// The maximum number of digits of a 64-bit number.
 pub const LONGEST_NUMBER: usize = 20;
 
-/// How many digits a short number has at most.
+/// The maximum number of digits of a short number.
 pub const SHORT_NUMBER: usize = 10;
 
-/// The least number that has more.
+/// The least number that is not short.
 pub const LEAST_LONG: u64 = 10_000_000_000;
 
-/// How many digits a number has.
-// A ladder, since the digits of a trace's numbers are few and seldom change from line to line.
+/// The number of decimal digits of a number.
+// Comparisons, since the numbers in traces have few digits and the branches are well predicted.
 #[inline(always)]
 pub fn digits(n: u64) -> usize
     ensures count { result ≡ length (decimal n) }
@@ -25,7 +25,7 @@ pub fn digits(n: u64) -> usize
     }
 }
 
-// The same of a short number.
+// The same for a short number.
 #[inline(always)]
 fn few_digits(n: u64) -> usize
     requires small { n < LEAST_LONG }

@@ -1,7 +1,7 @@
 //! Worked examples, computed by the checker from the definitions of the texts.
 //!
-//! The texts that are expected stand in `specs/Examples.antt`, the entries of the first in `stations`; the model of the
-//! first two is `net_model`'s small one. Each function's contract is a theorem; there is nothing to run.
+//! The expected texts are in `specs/Examples.antt`, and the entries of the first in `stations`. The first two use the
+//! small model of `net_model`. The contract of each function is a theorem; there is nothing to run.
 ghost use Rattle.std.specs.Prelude.{◌≡◌, [], codes};
 ghost use Rattle.net_model.specs.Examples.{small};
 ghost use Rattle.stations.specs.Examples.{at, job};
@@ -23,7 +23,7 @@ pub fn report_of_two_branches()
     ensures { report_text small figures_of_two ≡ text_of_two }
 {}
 
-/// In format 2 a job is written with its class; a clone that handled nothing has a head alone.
+/// In format 2 a job is written with its class. The text of a clone that handled nothing is the head only.
 pub fn jobs_with_classes()
     ensures class { entry_line second_class (at 5 2 1 1 (job 1 0 3) (Sink 1 2))
         ≡ codes "5 out low 1 job low.0:2 got=1 stay=2\n" }

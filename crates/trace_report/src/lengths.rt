@@ -1,4 +1,4 @@
-//! How long trace lines are, before they are written.
+//! Lengths of trace lines, computed before they are written.
 ghost use Rattle.std.specs.Prelude.{◌≡◌, ◌≤◌, length};
 ghost use Rattle.trace_report.specs.Slots.{AreNames};
 ghost use Rattle.trace_report.specs.TraceText.{station_name, class_text, job_text, values_text};
@@ -15,31 +15,31 @@ use net_model::Model;
 use sim_base::name::LONGEST_NAME;
 use sim_base::{Change, Entry, Job, Line, Payload};
 
-/// How many bytes the class of a job has at most, with the colon before it.
+/// The maximum number of bytes in the class of a job, with the colon before it.
 pub const LONGEST_CLASS: usize = 1 + LONGEST_NUMBER;
 
-/// How many bytes a job has at most.
+/// The maximum number of bytes in a job.
 pub const LONGEST_JOB: usize = LONGEST_NAME + 1 + LONGEST_NUMBER + LONGEST_CLASS;
 
-/// How many bytes a parameter's word has at most.
+/// The maximum number of bytes in a parameter's word.
 pub const LONGEST_WORD: usize = 7;
 
-/// How many bytes the values of a change have at most.
+/// The maximum number of bytes in the values of a change.
 pub const LONGEST_VALUES: usize = LONGEST_NUMBER + 1 + LONGEST_NUMBER;
 
-/// How many bytes a change has at most.
+/// The maximum number of bytes in a change.
 pub const LONGEST_CHANGE: usize = LONGEST_WORD + 1 + LONGEST_VALUES;
 
-/// How many bytes it takes at most to say what a message tells its receiver.
+/// The maximum number of bytes in a payload.
 pub const LONGEST_PAYLOAD: usize = 5 + LONGEST_JOB;
 
-/// How many bytes the counts of a station have at most.
+/// The maximum number of bytes in the counts of a station.
 pub const LONGEST_COUNTS: usize = 23 + 4 * LONGEST_NUMBER;
 
-/// How many bytes a line has at most before its payload.
+/// The maximum number of bytes in a line before its payload.
 pub const LONGEST_KEY: usize = 5 + 2 * LONGEST_NUMBER + 2 * LONGEST_NAME;
 
-/// How many bytes the counts and the line feed have at most.
+/// The maximum number of bytes in the counts and the line feed.
 pub const LONGEST_END: usize = LONGEST_COUNTS + 1;
 
 #[inline(always)]
@@ -126,7 +126,7 @@ fn counts_len(counts: &Line) -> usize
     }
 }
 
-/// How long the line of an entry is, in bytes.
+/// The length of an entry's line, in bytes.
 pub fn line_len(model: &Model, names: &Names, entry: &Entry) -> usize
     requires names { AreNames model.now names.now }
     ensures value { result ≡ length (entry_line model.now entry.now) }

@@ -1,8 +1,8 @@
-//! The texts that a planner reads: the trace of a clone, a line for each event executed, and the report of a run.
+//! The output texts of a run: the trace of a clone, with a line for each event executed, and the report.
 //!
-//! `specs/TraceText.antt` and `specs/ReportText.antt` have the texts as definitions; `examples` has some whole.
+//! `specs/TraceText.antt` and `specs/ReportText.antt` define the texts; `examples` has some of them in full.
 //!
-//! A line is written forward, straight into the text's bytes, from a place on; each writer returns the place behind:
+//! A line is written forward into a byte buffer, from a given place. Each writer returns the place after its piece:
 //!
 //! ```text
 //!   .. 5 desk gate 7 job gate.0 busy=1 wait=0 done=0 lost=0\n | 5 out d
@@ -14,16 +14,16 @@
 //! let at = write_line(&mut bytes, at, &model, &names, &entry);
 //! ```
 //!
-//! A name is copied as 16 bytes whatever its length, and a number is written from its last digit, so pieces may reach
-//! behind the line's end, never more than `MOST_LINE` bytes from its place: a buffer ends with as many that hold no
-//! text. `line_len` tells how long a line will be before it is written, by counting digits, for a buffer that is to be
-//! taken once. `trace_text` writes each line into a page that stays warm and appends it.
+//! A name is copied as 16 bytes whatever its length, and a number is written from its last digit. So a piece may write
+//! past the line's end, but never more than `MOST_LINE` bytes from the line's start. A buffer therefore ends with
+//! `MOST_LINE` spare bytes. `line_len` counts digits to return the length of a line before it is written, so that a
+//! buffer can be allocated once. `trace_text` writes each line into a small buffer that stays in cache, and appends it
+//! to the text.
 //!
-//! A line costs a copy of a few bytes for each name and word, and a few divisions for each number. `trace_text`
-//! and `report_text` alone take memory, and out of memory is the only error.
+//! A line costs a copy of a few bytes for each name and word, and a few divisions for each number. Only `trace_text`
+//! and `report_text` allocate memory, and out of memory is the only error.
 //!
-//! The promise that it carries: **every trace and the report are right**. Each text is the one that the definitions
-//! name.
+//! The promise: **every trace and the report are right**. Each text is exactly what the definitions name.
 #![tactic(auto)]
 
 mod digits;

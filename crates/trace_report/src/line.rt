@@ -1,6 +1,6 @@
-//! How a trace line is worded, written forward: each function writes its part at a place and returns the place behind.
+//! The parts of a trace line, written forward: each function writes its part at a place and returns the place after it.
 //!
-//! `free` and `WritesPiece` say how long a part can be, by the constants of `lengths`.
+//! `free` and `WritesPiece` bound the length of a part, by the constants of `lengths`.
 ghost use Rattle.std.specs.Prelude.{◌≡◌, ◌+◌, ◌≤◌, ◌++◌, length, codes};
 ghost use Rattle.sim_base.specs.declared.entry.Line.TheVariants.{Server};
 ghost use Rattle.trace_report.specs.Slots.{AreNames};
@@ -22,7 +22,7 @@ use log_chain::{PackedEntry, StoredEntry};
 use net_model::Model;
 use sim_base::{Change, Entry, Job, Key, Line, Param, Payload};
 
-// The name of a station, or the analyst's.
+// Writes the name of a station, or the analyst's.
 #[inline(always)]
 fn put_station(bytes: &mut [u8], at: usize, model: &Model, names: &Names, s: u32) -> usize
     requires names { AreNames model.now names.now }
@@ -32,7 +32,7 @@ fn put_station(bytes: &mut [u8], at: usize, model: &Model, names: &Names, s: u32
     put_name(bytes, at, &names.slot(model, s).name)
 }
 
-// The class of a source's jobs, where the format has classes.
+// Writes the class of a source's jobs, if the format has classes.
 #[inline(always)]
 fn put_class(bytes: &mut [u8], at: usize, model: &Model, names: &Names, source: u32) -> usize
     requires names { AreNames model.now names.now }
@@ -46,7 +46,7 @@ fn put_class(bytes: &mut [u8], at: usize, model: &Model, names: &Names, source: 
     }
 }
 
-// A job.
+// Writes a job.
 #[inline(always)]
 fn put_job(bytes: &mut [u8], at: usize, model: &Model, names: &Names, job: &Job) -> usize
     requires names { AreNames model.now names.now }
@@ -58,7 +58,7 @@ fn put_job(bytes: &mut [u8], at: usize, model: &Model, names: &Names, job: &Job)
     put_class(bytes, at, model, names, job.source)
 }
 
-/// A parameter's word.
+/// The script's word for a parameter.
 pub fn word_of(param: Param) -> &'static [u8]
     ensures value { result.now ≡ param_word param }
     ensures short { length result.now ≤ LONGEST_WORD }
@@ -66,7 +66,7 @@ pub fn word_of(param: Param) -> &'static [u8]
     param.word().as_bytes()
 }
 
-// The values of a change.
+// Writes the values of a change.
 fn put_values(bytes: &mut [u8], at: usize, change: &Change) -> usize
     requires free { at + LONGEST_VALUES ≤ length bytes.old }
     ensures written { WritesPiece (values_text change.now) LONGEST_VALUES at result bytes.old bytes.new }
@@ -79,7 +79,7 @@ fn put_values(bytes: &mut [u8], at: usize, change: &Change) -> usize
     }
 }
 
-// A change, as a script gives it.
+// Writes a change in script syntax.
 fn put_change(bytes: &mut [u8], at: usize, change: &Change) -> usize
     requires free { at + LONGEST_CHANGE ≤ length bytes.old }
     ensures written { WritesPiece (change_text change.now) LONGEST_CHANGE at result bytes.old bytes.new }
@@ -89,7 +89,7 @@ fn put_change(bytes: &mut [u8], at: usize, change: &Change) -> usize
     put_values(bytes, at, change)
 }
 
-// What a message tells its receiver.
+// Writes the payload of a message.
 #[inline(always)]
 fn put_payload(
     bytes: &mut [u8],
@@ -119,7 +119,7 @@ fn put_payload(
     }
 }
 
-// The counts of a server.
+// Writes the counts of a server.
 #[inline(always)]
 fn put_server(bytes: &mut [u8], at: usize, busy: u64, wait: u64, done: u64, lost: u64) -> usize
     requires free { at + LONGEST_COUNTS ≤ length bytes.old }
@@ -132,7 +132,7 @@ fn put_server(bytes: &mut [u8], at: usize, busy: u64, wait: u64, done: u64, lost
     put_count(bytes, at, b" lost=", lost)
 }
 
-// The counts of a station after a message.
+// Writes the counts of a station after a message.
 #[inline(always)]
 fn put_counts(bytes: &mut [u8], at: usize, counts: &Line) -> usize
     requires free { at + LONGEST_COUNTS ≤ length bytes.old }
@@ -154,7 +154,7 @@ fn put_counts(bytes: &mut [u8], at: usize, counts: &Line) -> usize
     }
 }
 
-// When a message comes, to whom, from whom, and its number.
+// Writes the time of a message, its receiver, its sender and its number.
 #[inline(always)]
 fn put_key(bytes: &mut [u8], at: usize, model: &Model, names: &Names, key: &Key, to: u32) -> usize
     requires names { AreNames model.now names.now }
@@ -170,7 +170,7 @@ fn put_key(bytes: &mut [u8], at: usize, model: &Model, names: &Names, key: &Key,
     put(bytes, at, b" ")
 }
 
-// The counts, and the line's end.
+// Writes the counts and the line feed.
 #[inline(always)]
 fn put_end(bytes: &mut [u8], at: usize, counts: &Line) -> usize
     requires free { at + LONGEST_END ≤ length bytes.old }
@@ -180,13 +180,13 @@ fn put_end(bytes: &mut [u8], at: usize, counts: &Line) -> usize
     put(bytes, at, b"\n")
 }
 
-/// How many bytes a line has at most, with what its pieces may reach past its end.
+/// The maximum number of bytes in a line, with what its pieces may write past its end.
 pub const MOST_LINE: usize = 256;
 
-/// Writes the line of an entry at a place, and returns the place behind it.
+/// Writes the line of an entry at a place, and returns the place after it.
 ///
-/// A number that is no station's, 0 or past the last, is written as `analyst`. As many bytes as a line has at
-/// most must be free from the place on: pieces reach past the line's end.
+/// A number that is not a station's, 0 or past the last, is written as `analyst`. At least [`MOST_LINE`] bytes from the
+/// place must be free, since pieces write past the line's end.
 pub fn write_line(bytes: &mut [u8], at: usize, model: &Model, names: &Names, entry: &Entry) -> usize
     requires names { AreNames model.now names.now }
     requires free { at + MOST_LINE ≤ length bytes.old }
@@ -198,7 +198,7 @@ pub fn write_line(bytes: &mut [u8], at: usize, model: &Model, names: &Names, ent
     put_end(bytes, at, &entry.line)
 }
 
-// Writes the line of a packed entry at a place, in the way of `write_line`: its parts are read one by one.
+// Writes the line of a packed entry as `write_line` does, and reads each of its parts once.
 fn write_packed(
     bytes: &mut [u8],
     at: usize,
@@ -210,7 +210,7 @@ fn write_packed(
     requires free { at + MOST_LINE ≤ length bytes.old }
     ensures written { WritesExactly (entry_line model.now (unpacked_entry packed.now)) at result bytes.old bytes.new }
 {
-    // a copy, which no byte that is written can change, so that each part is read once
+    // a copy, which no written byte can change, so that each part is read once
     let packed = *packed;
     let at = put_key(bytes, at, model, names, &packed.key(), packed.to());
     let at = put_payload(bytes, at, model, names, &packed.payload());
@@ -218,7 +218,7 @@ fn write_packed(
     put_end(bytes, at, &packed.counts())
 }
 
-/// Writes the line of an entry as a log stores it at a place, and returns the place behind it, as `write_line` does.
+/// Writes the line of an entry, as a log stores it, at a place. Returns the place after it, as `write_line` does.
 #[inline(always)]
 pub fn write_stored(
     bytes: &mut [u8],

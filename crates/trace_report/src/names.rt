@@ -8,7 +8,7 @@ use net_model::limits::MOST_STATIONS;
 use net_model::{Model, Station};
 use sim_base::Name;
 
-/// How many numbers are looked up: those of stations, and that of the analyst.
+/// The size of the table: one slot for each station number, and one for the analyst.
 pub(crate) const SLOTS: usize = MOST_STATIONS + 1;
 
 /// What lines show of a station: its name, and the class of the jobs that it makes.
@@ -16,14 +16,14 @@ pub(crate) const SLOTS: usize = MOST_STATIONS + 1;
 pub struct Slot {
     /// The station's name, or the analyst's.
     pub name: Name,
-    /// The class of the jobs that it makes: 1 where it makes none.
+    /// The class of the jobs that it makes: 1 if it makes none.
     pub class: u32,
 }
 
-/// The names of a model's stations, side by side: a look-up reads 32 bytes where a station has some 450.
+/// The names of a model's stations in a compact table: a lookup reads 32 bytes, and a station has about 450.
 #[derive(Drop)]
 pub struct Names {
-    // By the number of a station; where there is none, the analyst's.
+    // Indexed by the number of a station; the analyst's slot if there is no such station.
     slots: [Slot; SLOTS],
 }
 
@@ -36,7 +36,7 @@ impl std::marker::Model for Names {
     ghost view = { λ n. n.slots };
 }
 
-// The station of a number, if there is one.
+// The station with a number, if there is one.
 fn station_at(model: &Model, s: u32) -> Option<&Station>
     ensures { option_map (λ station. as_site station.now) result ≡ site_at model.now s }
 {
@@ -46,7 +46,7 @@ fn station_at(model: &Model, s: u32) -> Option<&Station>
     Some(model.station(s))
 }
 
-// The name of who is no station.
+// The name that is written for a number without a station.
 fn analyst() -> Name
     ensures { result ≡ codes "analyst" }
 {
@@ -89,8 +89,8 @@ impl Names {
         Names { slots }
     }
 
-    /// What lines show of a number; of one that is no station's, the analyst's name.
-    // The model is read by the contract alone.
+    /// What lines show for a number; the analyst's name if it is not a station's.
+    // Only the contract reads the model.
     #[inline(always)]
     pub(crate) fn slot(&self, _model: &Model, s: u32) -> &Slot
         requires names { AreNames _model.now self.now }

@@ -1,7 +1,8 @@
-//! Pieces of lines, written forward into a slice: each function writes at a place and returns the place behind.
+//! Pieces of lines, written forward into a slice. Each function writes at a place and returns the place after the
+//! piece.
 //!
-//! The place goes through registers. A name is written as `LONGEST_NAME` bytes at once, and what it writes past its end
-//! the next piece overwrites.
+//! The place is passed in registers. A name is written as `LONGEST_NAME` bytes in one store; the next piece overwrites
+//! what it writes past its end.
 ghost use Rattle.std.specs.Prelude.{◌+◌, ◌≤◌, ◌++◌, length, decimal};
 ghost use Rattle.sim_base.specs.declared.name.TheConstants.{LONGEST_NAME};
 ghost use Rattle.trace_report.specs.declared.digits.TheConstants.{LONGEST_NUMBER};
@@ -44,7 +45,7 @@ pub fn put_number(bytes: &mut [u8], at: usize, n: u64) -> usize
     end
 }
 
-/// Writes a number behind a word.
+/// Writes a word, and a number after it.
 #[inline(always)]
 pub fn put_count(bytes: &mut [u8], at: usize, word: &[u8], n: u64) -> usize
     requires free { at + length word.now + LONGEST_NUMBER ≤ length bytes.old }

@@ -11,10 +11,10 @@ use net_model::{Model, Station};
 use sim_base::{Figures, NoMemory};
 use std::alloc::Global;
 
-/// How many bytes a line of a report has at most.
+/// The maximum number of bytes in a line of a report.
 pub(crate) const MOST_REPORT_LINE: usize = 128;
 
-// The line of a station.
+// Writes the line of a station.
 fn write_figures(bytes: &mut [u8], at: usize, station: &Station, figures: &Figures) -> usize
     requires free { at + MOST_REPORT_LINE ≤ length bytes.old }
     ensures written { WritesPiece (station_line (as_site station.now) figures.now) MOST_REPORT_LINE
@@ -27,7 +27,7 @@ fn write_figures(bytes: &mut [u8], at: usize, station: &Station, figures: &Figur
     put(bytes, at, b"\n")
 }
 
-// The lines of all stations, one after the other.
+// Writes the lines of all stations, one after the other.
 fn write_stations(bytes: &mut [u8], start: usize, model: &Model, figures: &[Figures]) -> usize
     requires all { length figures.now ≡ length model.now.sites }
     requires free { start + MOST_REPORT_LINE * length model.now.sites ≤ length bytes.old }
@@ -42,7 +42,7 @@ fn write_stations(bytes: &mut [u8], start: usize, model: &Model, figures: &[Figu
     at
 }
 
-// How many messages all copies handled.
+// The number of messages that all copies handled.
 fn handled_in_all(figures: &[Figures]) -> u64
     requires sums { HaveSmallSums figures.now }
     ensures value { result ≡ sum_by (λ f. f.handled) figures.now }
@@ -50,7 +50,7 @@ fn handled_in_all(figures: &[Figures]) -> u64
     figures.iter().map(|f| f.handled).sum()
 }
 
-// How many messages the clones would have handled alone.
+// The number of messages that the clones would have handled alone.
 fn alone_in_all(figures: &[Figures]) -> u64
     requires sums { HaveSmallSums figures.now }
     ensures value { result ≡ sum_by (λ f. f.alone) figures.now }
@@ -58,7 +58,7 @@ fn alone_in_all(figures: &[Figures]) -> u64
     figures.iter().map(|f| f.alone).sum()
 }
 
-// The line of the sums.
+// Writes the line of the sums.
 fn write_total(bytes: &mut [u8], at: usize, figures: &[Figures]) -> usize
     requires sums { HaveSmallSums figures.now }
     requires free { at + MOST_REPORT_LINE ≤ length bytes.old }
@@ -69,7 +69,7 @@ fn write_total(bytes: &mut [u8], at: usize, figures: &[Figures]) -> usize
     put(bytes, at, b"\n")
 }
 
-/// The report text: for each station its figures, and then the sums.
+/// The report text: the figures of each station, and then the sums.
 pub fn report_text(alloc: Global, model: &Model, figures: &[Figures]) -> Result<Vec<u8>, NoMemory>
     requires all { length figures.now ≡ length model.now.sites }
     requires sums { HaveSmallSums figures.now }

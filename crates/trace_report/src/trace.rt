@@ -10,8 +10,8 @@ use std::alloc::Global;
 
 /// The trace text of a clone: its name, and a line for each message that it handled.
 ///
-/// A number that is no station, 0 or past the last, is written as `analyst`. In a run senders are
-/// stations or 0, and receivers and sources of jobs are stations.
+/// A number that is not a station's, 0 or past the last, is written as `analyst`. In a run senders are stations or 0;
+/// receivers and sources of jobs are stations.
 pub fn trace_text(
     alloc: Global,
     model: &Model,

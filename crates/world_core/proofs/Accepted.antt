@@ -1,4 +1,4 @@
--- What holds of a decision that was accepted: no row of the table of refusals is its.
+-- Facts of an accepted decision: no row of the table of refusals applies to it.
 use Rattle.std.proofs.Common.{◌≡◌, ℕ, ◌==◌, ◌<◌, ◌≤◌, List}
 use Rattle.std.proofs.Common.{◌∷◌, refl, sym, ap, ◌∙◌, length, Option, Some, None}
 use Rattle.std.proofs.Common.{is_none, option_map, nat_le}
@@ -22,7 +22,7 @@ use Rattle.world_core.specs.Taking.{situation, IsAccepted}
 
 -- ---- MaySet
 
--- a set's station is there, its time is not late, and the list of its clone is not full
+-- a set's station exists, its time is not late, and the list of its clone is not full
 pub record MaySet (net : Net) (cs : List Clone) (front c at : ℕ) (station : List ℕ) : Type 0 where
   pub number : ℕ
   pub found : station_named station net ≡ Some number
@@ -31,7 +31,7 @@ pub record MaySet (net : Net) (cs : List Clone) (front c at : ℕ) (station : Li
   pub early : at < net.horizon
   pub short : length (clone_at cs c).plans < MOST_DECISIONS
 
--- and so it is for each set that no row refuses
+-- this holds for each set that no row refuses
 pub may_set : (net : Net) (cs : List Clone) (front c at : ℕ) (who station : List ℕ) (change : Change)
     → first_row (rows (situation net cs front) c (Set who at station change)) ≡ Accepted
     → MaySet net cs front c at station
@@ -72,13 +72,13 @@ may_end net cs front c at who h = first_row-times net front at h
 
 -- ---- place_of
 
--- the clone is there
+-- the clone exists
 pub no_place : (name : List ℕ) (cs : List Clone) (c : ℕ) → place_of name cs ≡ Some c → None ≡ place_of name cs → ⊥
 no_place name cs c a b = let e : None ≡ Some c = b ∙ a in absurd cc
 
 -- ---- rows
 
--- the rows of a decision do not depend on how many calls there were
+-- the rows of a decision do not depend on the number of earlier calls
 rows_same : (s : Situation) (c : ℕ) (d : Decision) → rows s c d ≡ rows (situation s.net s.clones s.front) c d
 rows_same s c (Fork new old) = refl
 rows_same s c (Set who at station change) = refl
@@ -92,7 +92,7 @@ clone_rows_same s d (Some c) = ap (λ r. option_map (λ at. Ended at) (clone_at 
 
 -- ---- a decision
 
--- what was accepted in a journal, with any number of calls, is accepted by a world with its clones at its front
+-- what was accepted in a journal, with any number of calls, is accepted for a world with its clones at its front
 pub accepted_at : (s : Situation) (d : Decision) → reply s d ≡ Accepted → IsAccepted s.net s.clones s.front d
 accepted_at s d h =
     ap (λ r. first_row (row (s.front == s.net.horizon) Closed ∷ r))

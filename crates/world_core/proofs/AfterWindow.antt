@@ -1,4 +1,4 @@
--- A window of all stations: where they stood at a front, they stand at the bound.
+-- A window of all stations: copies that represent the clones at a front represent them at the bound.
 use Rattle.std.proofs.Common.{◌≡◌, ◌↔◌, ◌*◌, ℕ, zero, suc, ◌+◌, ◌<◌, ◌≤◌, true, option_map, List, [], inl, inr, Some}
 use Rattle.std.proofs.Common.{refl, sym, ap, ◌∙◌, subst, arith, length, slice_get, unwrap_or}
 use Rattle.std.proofs.lemmas.Bool.{false≢true}
@@ -39,8 +39,8 @@ use Rattle.world_core.specs.Worlds.{StandsAt, total_handled}
 
 -- ---- the stations of a world
 
--- the copies of all stations stood for the clones at a front, and each station has answered for a window that is not
--- past the next front
+-- the copies of all stations represent the clones at a front; each station was stepped in a window that is not past the
+-- next front
 pub record WorldStepped (net : Net) (cs : List Clone) (front bound : ℕ) (procs : List ProcView) (flows : List Flow) :
     Type 0 where
   pub valid : IsNet net
@@ -59,21 +59,21 @@ module _ (net : Net) (cs : List Clone) (front bound : ℕ) (procs : List ProcVie
     | inr past ↦ absurd (let p = past.0 in omega (arith, p, world.all_procs, l))
   ]
 
-  -- and an answer, which has them as the task leaves them
+  -- and a result, which has them as the task leaves them
   pub flow_of : (i : ℕ) → i < length net.sites → (flow : Flow) × (slice_get flows i ≡ Some flow)
   flow_of i l = elim (slice_get_cases flows i).1 [
     | inl found ↦ (found.0, found.2)
     | inr past ↦ absurd (let p = past.0 in omega (arith, p, world.all_flows, l))
   ]
 
-  -- its copies stand for the clones at the front
+  -- its copies represent the clones at the front
   stand_of : (i : ℕ) → i < length net.sites → Stands (simulation net) has cs front (i + 1) (copies_at procs i)
   stand_of i l =
       let p = proc_of i l in
       subst (Stands (simulation net) has cs front (i + 1)) (sym (copies_at-got procs i p.0 p.1))
       (world.stood i p.0 p.1).copies
 
-  -- the answer of a station, about its copies
+  -- the result of a station is about its copies
   pub is_flow : (i : ℕ) (l : i < length net.sites) (flow : Flow) → slice_get flows i ≡ Some flow →
       IsFlow net (ends_of (simulation net) cs) bound i (proc_of i l).0 flow
   is_flow i l flow got = let p = proc_of i l in world.stepped i p.0 flow p.1 got
@@ -101,7 +101,7 @@ module _ (net : Net) (cs : List Clone) (front bound : ℕ) (procs : List ProcVie
       subst (λ k. length k ≤ net.limit) (st.log a.0 c a.1 a.2) copy.short in
       omega (arith, short, long)
 
-  -- with what was handled before, a station has handled no more than the limit allows each clone
+  -- with what was handled before, a station has handled at most the limit for each clone
   few_at : (i : ℕ) → i < length net.sites → (flow : Flow) → slice_get flows i ≡ Some flow →
       handled_once net cs (i + 1) front + flow.handled ≤ length cs * net.limit
   few_at i l flow got =
@@ -110,7 +110,7 @@ module _ (net : Net) (cs : List Clone) (front bound : ℕ) (procs : List ProcVie
       (world.stood i p.0 p.1).copies world.window.later world.window.within
       same_entry flow.handled same_entry-Decides (short_of i l) (is_flow i l flow got).gain
 
-  -- nor have the first n stations together
+  -- the same for the first n stations together
   few_to : (n : ℕ) → n ≤ length net.sites →
       station_sum (λ s. handled_once net cs s front) n + station_sum
       (by_number 0 (handled_at flows)) n ≤ n * (length cs * net.limit)
@@ -126,7 +126,7 @@ module _ (net : Net) (cs : List Clone) (front bound : ℕ) (procs : List ProcVie
       suc-mul n (length cs * net.limit) in
       omega (arith, a, b, c, d)
 
-  -- and so all stations together
+  -- the same for all stations together
   pub few_handled : total_handled net cs front + all_handled flows ≤ most_handled net (length cs)
   few_handled =
       let h = few_to (length net.sites) (omega arith) in
@@ -137,7 +137,7 @@ module _ (net : Net) (cs : List Clone) (front bound : ℕ) (procs : List ProcVie
 
   module _ (for_stations : AllAreForStations (simulation net) cs)
       (none : NoneOver flows) where
-    -- each station has stepped as the laws have it
+    -- each station was stepped as the laws require
     step_at : (i : ℕ) → i < length net.sites
         → IsStepped (simulation net) has (ends_of (simulation net) cs) (i + 1) bound (copies_at procs i)
         (done_at flows i) (sent_at flows i)
@@ -149,7 +149,7 @@ module _ (net : Net) (cs : List Clone) (front bound : ℕ) (procs : List ProcVie
         let e : sent_at flows i ≡ f.0.sent.items = sent_at-got flows i f.0 f.1 in
         rw (c, d, e) ((is_flow i l f.0 f.1).windows (none i f.0 f.1))
 
-    -- and so have all of them
+    -- the same for all stations
     each_is_stepped : EachIsStepped (simulation net) has cs front bound (by_number [] (copies_at procs))
         (by_number [] (done_at flows)) (by_number [] (sent_at flows))
     each_is_stepped = record {
@@ -194,7 +194,7 @@ module _ (net : Net) (cs : List Clone) (front bound : ℕ) (procs : List ProcVie
             (all_in (IsCopy net f.0.done.station) f.0.done.copies a (is_flow i l f.0 f.1).proc.copies
             (subst (In a) d h)).sorted
 
-    -- at the bound they stand again
+    -- the copies represent the clones at the bound
     pub stand_after : (i : ℕ) → i < length net.sites
         → Stands (simulation net) has cs bound (i + 1) (after_window flows i)
     stand_after i l =
@@ -214,7 +214,7 @@ module _ (net : Net) (cs : List Clone) (front bound : ℕ) (procs : List ProcVie
         absurd (false≢true (sym (ap (λ k. has k c) (none i f.0 f.1) ∙ has-empty c)
         ∙ (over_of i l f.0 f.1 c).1 (there, long)))
 
-    -- what was handled once grows by what the station has handled
+    -- the messages handled once grow by what the station has handled
     pub grown_at : (i : ℕ) → i < length net.sites → (flow : Flow) → slice_get flows i ≡ Some flow
         → handled_once net cs (i + 1) bound ≡ handled_once net cs (i + 1) front + flow.handled
     grown_at i l flow got =
@@ -223,7 +223,7 @@ module _ (net : Net) (cs : List Clone) (front bound : ℕ) (procs : List ProcVie
         (world.stood i p.0 p.1).copies world.window.later world.window.within same_entry flow.handled same_entry-Decides
         (none_long i l) (is_flow i l flow got).gain
 
-    -- and so the first n stations together
+    -- the same for the first n stations together
     grown_to : (n : ℕ) → n ≤ length net.sites
         → station_sum (λ s. handled_once net cs s bound) n
         ≡ station_sum (λ s. handled_once net cs s front) n + station_sum
@@ -238,7 +238,7 @@ module _ (net : Net) (cs : List Clone) (front bound : ℕ) (procs : List ProcVie
         let c : handled_at flows n ≡ flow.0.handled = handled_at-got flows n flow.0 flow.1 in
         omega (arith, a, b, c)
 
-    -- all stations together
+    -- the same for all stations together
     pub total_grows : total_handled net cs bound ≡ total_handled net cs front + all_handled flows
     total_grows =
         let h = grown_to (length net.sites) (omega arith) in

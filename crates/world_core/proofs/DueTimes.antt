@@ -67,7 +67,7 @@ module _ (net : Net) (cs : List Clone) (ended : List (ℕ × ℕ)) (front : ℕ)
 
   -- ---- of one clone
 
-  -- the least time of what a clone takes of the copies of a station is its least due time there
+  -- the least time of the messages that a clone takes from a station's copies is its least due time there
   least_here : (i c : ℕ) (p : ProcView) (t : Option ℕ) → slice_get procs i ≡ Some p → c < length cs
       → IsLeastOf ends p.copies c t →
       least_time time_of (due_at (simulation net) (clone_at cs c) (i + 1) front) ≡ t
@@ -82,7 +82,7 @@ module _ (net : Net) (cs : List Clone) (ended : List (ℕ × ℕ)) (front : ℕ)
       record { copy = a.0; is_copy = a.1; is_in = a.2; is_taken = subst (In m) (sym (st.due a.0 c a.1 a.2)) d })
       h2 (least_time-is time_of (due_at (simulation net) (clone_at cs c) (i + 1) front)))
 
-  -- the clone's least due time up to a station, with its least of the next station's copies, is that up to the next
+  -- the clone's least due time up to a station, with its least in the next station's copies, is that up to the next
   pub least_of_next : (i c : ℕ) (p : ProcView) (before here : Option ℕ) → slice_get procs i ≡ Some p → c < length cs →
       before ≡ least_to (simulation net) (clone_at cs c) front i → IsLeastOf ends p.copies c here →
       earlier before here ≡ least_to (simulation net) (clone_at cs c) front (i + 1)
@@ -93,7 +93,7 @@ module _ (net : Net) (cs : List Clone) (ended : List (ℕ × ℕ)) (front : ℕ)
       subst (λ s. earlier before here ≡ least_to (simulation net) (clone_at cs c) front s) (sym (add-one i))
       (ap (λ b. earlier b here) e ∙ ap (earlier (least_to (simulation net) (clone_at cs c) front i)) (sym e1))
 
-  -- and up to the last station it is the clone's least due time
+  -- up to the last station it is the clone's least due time
   pub least_of_all : (n c : ℕ) (t : Option ℕ) → n ≡ length procs → c < length cs
       → t ≡ least_to (simulation net) (clone_at cs c) front n → t ≡ least_of (simulation net) (clone_at cs c) front
   least_of_all n c t many l e =
@@ -103,7 +103,7 @@ module _ (net : Net) (cs : List Clone) (ended : List (ℕ × ℕ)) (front : ℕ)
 
   -- ---- of all clones
 
-  -- the least of what is taken before a place and at it is the least up to the next place
+  -- the least time taken before a place and at it is the least up to the next place
   pub least_next : (i : ℕ) (p : ProcView) (after : Option ℕ) → slice_get procs i ≡ Some p →
       IsLeastTime (λ m. TakenTo ends procs i m ⊎ ((c : ℕ) × IsTakenBy ends p.copies c m)) after →
       IsLeastTime (TakenTo ends procs (i + 1)) after
@@ -147,7 +147,7 @@ module _ (net : Net) (cs : List Clone) (ended : List (ℕ × ℕ)) (front : ℕ)
   abbrev copies_of : ℕ → List StationCopy
   copies_of = by_number [] (copies_at procs)
 
-  -- and they stand for the clones
+  -- they represent the clones
   stand_there : (s : ℕ) → IsStation (simulation net) s → Stands (simulation net) has cs front s (copies_of s)
   stand_there zero h = absurd (let l = h.0 in omega (arith, l))
   stand_there (suc i) h = elim (slice_get_cases procs i).1 [
@@ -159,7 +159,7 @@ module _ (net : Net) (cs : List Clone) (ended : List (ℕ × ℕ)) (front : ℕ)
     | inr past ↦ absurd (let l = h.1 in let k = past.0 in let n = world.count in omega (arith, k, l, n))
   ]
 
-  -- and up to the last place it is the least due time of all clones
+  -- up to the last place it is the least due time of all clones
   pub least_all : (n : ℕ) (t : Option ℕ) → length procs ≤ n → IsLeastTime (TakenTo ends procs n) t
       → t ≡ least (simulation net) cs front
   least_all n t many h = sym (least-copies (lawful-stations net world.valid) (stations-to_stations net world.valid)
@@ -211,18 +211,18 @@ module _ (net : Net) (cs : List Clone) (ended : List (ℕ × ℕ)) (front : ℕ)
 -- ---- figures
 
 module _ (net : Net) (cs : List Clone) (front i : ℕ) (p : ProcView) (here : StandsAt net cs front i p) where
-  -- the station's different logs are as many as its copies
+  -- the number of the station's different logs is that of its copies
   many_copies : copies net cs (i + 1) front ≡ length p.copies
   many_copies = copies_are_logs (lawful-stations net here.station.proc.valid) sets_join cs
       (i + 1) front p.copies here.copies same_entry same_entry-Decides
 
-  -- what the clones of copies would handle alone is a sum over the copies
+  -- the messages that the clones of copies would handle alone are a sum over the copies
   alone_sum : (xs : List StationCopy) → handled_alone_by xs ≡ sum_by (λ (a : StationCopy). size a.set * length a.log) xs
   alone_sum [] = refl
   alone_sum (x ∷ xs) = let h = alone_sum xs in let e =
       sum_by-cons (λ (a : StationCopy). size a.set * length a.log) x xs in omega (arith, h, e)
 
-  -- and what the clones would handle alone there is what its copies count
+  -- the messages that the clones would handle alone there are what its copies count
   many_alone : handled_alone net cs (i + 1) front ≡ handled_alone_by p.copies
   many_alone = alone-copies has size (simulation net) cs front (i + 1) p.copies
       (λ a i. size_is_count a.set) here.copies ∙ sym (alone_sum p.copies)
@@ -239,14 +239,14 @@ all_short net s xs l h = all_weaker (IsCopy net s) (λ (a : StationCopy). length
 
 module _ (net : Net) (cs : List Clone) (ended : List (ℕ × ℕ)) (front : ℕ) (procs : List ProcView)
     (world : WorldStands net cs ended front procs) where
-  -- the copies have the figures of station s at the front, and no more clones than there may be
+  -- the copies have the figures of station s at the front, and at most the maximum number of clones
   pub record HasFigures (s : ℕ) (p : ProcView) : Type 0 where
     pub copies_are : length p.copies ≡ copies net cs s front
     pub once : p.handled ≡ handled_once net cs s front
     pub each_alone : handled_alone_by p.copies ≡ handled_alone net cs s front
     pub sizes : all_sizes p.copies ≤ MOST_CLONES
 
-  -- and so it is with the copies of each station
+  -- this holds for the copies of each station
   pub has_figures : (s : ℕ) (p : ProcView) → 1 ≤ s → slice_get procs (s - 1) ≡ Some p → HasFigures s p
   has_figures s p low got =
       let w = world.each (s - 1) p got in
@@ -267,7 +267,7 @@ module _ (net : Net) (cs : List Clone) (ended : List (ℕ × ℕ)) (front : ℕ)
 
 -- ---- handled_alone_by
 
--- one copy more
+-- one more copy
 pub alone_next : (xs : List StationCopy) (x : StationCopy)
     → handled_alone_by (xs ++ x ∷ []) ≡ handled_alone_by xs + size x.set * length x.log
 alone_next [] x = omega arith

@@ -10,14 +10,14 @@ use Rattle.run_laws.proofs.Lists.{slice_get-set_same, slice_get-set_other}
 
 -- ---- ForkedTo
 
--- the first n stations are forked, the others are as they were
+-- the first n stations are forked, and the others are unchanged
 pub record ForkedTo (old new n : ℕ) (olds news : List ProcView) : Type 0 where
   pub count : length news ≡ length olds
   pub each : (i : ℕ) (p q : ProcView) → i < n → slice_get olds i ≡ Some p → slice_get news i ≡ Some q
       → HasForked old new p q
   pub others : (i : ℕ) → n ≤ i → slice_get news i ≡ slice_get olds i
 
--- with the next station forked, one station more is
+-- after the next station is forked, n + 1 are
 pub ForkedTo-next : (old new n : ℕ) (olds news : List ProcView) (was now : ProcView) → ForkedTo old new n olds news
     → n < length olds → was ≡ get_or news n was → HasForked old new was now →
     ForkedTo old new (n + 1) olds (slice_set news n now)
@@ -39,7 +39,7 @@ ForkedTo-next old new n olds news was now h l is fork = record {
     below : (i : ℕ) → i < n + 1 → (i ≡ n → ⊥) → i < n
     below i less ne = grind (arith, less)
 
--- where as many are forked as there are, all are
+-- if all stations were forked, the fork is complete
 pub ForkedTo-all : (old new n : ℕ) (olds news : List ProcView) → length olds ≤ n → ForkedTo old new n olds news
     → AllForked old new olds news
 ForkedTo-all old new n olds news l h = record {
@@ -47,7 +47,7 @@ ForkedTo-all old new n olds news l h = record {
   each = λ i p q a b. let k = slice_get_within olds i p a in h.each i p q (omega (arith, k, l)) a b;
 }
 
--- what stands there still is as it was
+-- the next station is unchanged so far
 pub ForkedTo-others : (old new n : ℕ) (olds news : List ProcView) (p : ProcView) → ForkedTo old new n olds news
     → n < length olds → p ≡ get_or news n p → slice_get olds n ≡ Some p
 ForkedTo-others old new n olds news p h l is = sym (h.others n (omega arith))

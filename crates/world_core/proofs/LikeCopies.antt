@@ -1,4 +1,4 @@
--- Copies that differ from others in what is pending alone.
+-- Copies that differ from others only in their pending messages.
 use Rattle.std.proofs.Common.{◌≡◌, ℕ, ◌+◌, ◌*◌, List, [], ◌∷◌, refl, sym, ap, ◌∙◌, subst, length, map, true, false}
 use Rattle.std.specs.List.{AllByRecursion}
 use Rattle.std.proofs.lemmas.List.{length-map}
@@ -11,14 +11,14 @@ use Rattle.world_core.specs.Tracing.{IsCopyOf}
 
 -- ---- a copy
 
--- the copy of a clone among these is one among the others but for what is pending
+-- the copy of a clone among these is one among the others, except for its pending messages
 pub record IsLikeCopyOf (xs : List StationCopy) (c : ℕ) (copy : StationCopy) : Type 0 where
   pub like : StationCopy
   pub found : IsCopyOf xs c like
   pub same : but_pending copy ≡ but_pending like
 
 module _ (raw xs : List StationCopy) (e : map but_pending raw ≡ map but_pending xs) where
-  -- a copy of the first is like one of the others
+  -- a copy among the first is like one among the others
   pub like_copy : (c : ℕ) (copy : StationCopy) → IsCopyOf raw c copy → IsLikeCopyOf xs c copy
   like_copy c copy h =
       let k = in_map but_pending xs (but_pending copy)
@@ -32,7 +32,7 @@ module _ (raw xs : List StationCopy) (e : map but_pending raw ≡ map but_pendin
         same = k.2;
       }
 
-  -- where no copy of the first has a clone, none of the others has it
+  -- if no copy among the first has a clone, none among the others has it
   pub none_has : (c : ℕ) → AllByRecursion (λ (a : StationCopy). has a.set c ≡ false) raw
       → AllByRecursion (λ (a : StationCopy). has a.set c ≡ false) xs
   none_has c h = all_of_map (λ (a : StationCopy). has a.set c ≡ false) but_pending xs
@@ -41,11 +41,11 @@ module _ (raw xs : List StationCopy) (e : map but_pending raw ≡ map but_pendin
 
   -- ---- all copies
 
-  -- there are as many
+  -- both lists have the same length
   pub like_length : length raw ≡ length xs
   like_length = sym (length-map raw but_pending) ∙ ap length e ∙ length-map xs but_pending
 
-  -- with as many clones
+  -- and the same numbers of clones
   pub like_sizes : all_sizes raw ≡ all_sizes xs
   like_sizes = sym (sizes raw) ∙ ap all_sizes e ∙ sizes xs
     where
@@ -53,7 +53,7 @@ module _ (raw xs : List StationCopy) (e : map but_pending raw ≡ map but_pendin
       sizes [] = refl
       sizes (y ∷ ys) = ap (λ n. size y.set + n) (sizes ys)
 
-  -- which have handled as much
+  -- and have handled the same number of messages
   pub like_alone : handled_alone_by raw ≡ handled_alone_by xs
   like_alone = sym (alone raw) ∙ ap handled_alone_by e ∙ alone xs
     where

@@ -31,13 +31,13 @@ use Rattle.world_core.specs.Tracing.{by_key}
 -- ---- merge
 
 module _ {X : Type 0} (cmp : X → X → Ordering) where
-  -- merged with an empty list, a list is as it was
+  -- a list merged with an empty list is unchanged
   none_left : (xs : List X) → merge cmp xs [] ≡ xs
   none_left [] = refl
   none_left (x ∷ xs) = ap (λ l. x ∷ l) (none_left xs)
 
   module _ (xs ys out : List X) (i j : ℕ) (so_far : out ++ merge cmp (drop i xs) (drop j ys) ≡ merge cmp xs ys) where
-    -- where the second list is at its end, the rest of the first is all that is to be put out
+    -- if the second list is at its end, only the rest of the first is left
     pub first_left : length ys ≤ j → (out ++ drop i xs) ++ drop j ys ≡ merge cmp xs ys
     first_left l =
         append_assoc out (drop i xs) (drop j ys)
@@ -45,7 +45,7 @@ module _ {X : Type 0} (cmp : X → X → Ordering) where
         ∙ sym (none_left (drop i xs)) ∙ ap (merge cmp (drop i xs)) (sym (drop_all j ys l)))
         ∙ so_far
 
-    -- and where the first is at its end, the rest of the second is
+    -- if the first is at its end, only the rest of the second is left
     pub second_left : length xs ≤ i → (out ++ drop i xs) ++ drop j ys ≡ merge cmp xs ys
     second_left l =
         append_assoc out (drop i xs) (drop j ys)
@@ -68,12 +68,12 @@ one_more net c front i before log after e h f =
 
 module _ (net : Net) (cs : List Clone) (ended : List (ℕ × ℕ)) (front : ℕ) (procs : List ProcView)
     (world : WorldStands net cs ended front procs) where
-  -- the log of a copy is that of each clone which the copy represents
+  -- the log of a copy is that of each clone that the copy represents
   pub log_is : (i : ℕ) (p : ProcView) (copy : StationCopy) (c : ℕ) → slice_get procs i ≡ Some p → In copy p.copies
       → has copy.set c ≡ true → copy.log ≡ log_at (simulation net) (clone_at cs c) (i + 1) front
   log_is i p copy c got is_copy is_in = (world.each i p got).copies.log copy c is_copy is_in
 
-  -- and no longer than the limit
+  -- it is within the limit
   pub log_short : (i : ℕ) (p : ProcView) (copy : StationCopy) → slice_get procs i ≡ Some p → In copy p.copies
       → length copy.log ≤ net.limit
   log_short i p copy got is_copy =
@@ -100,7 +100,7 @@ module _ (net : Net) (cs : List Clone) (ended : List (ℕ × ℕ)) (front : ℕ)
         let a = (world.each i p got).copies.carried who there in
         false≢true (sym (all_in (λ (a : StationCopy). has a.set who ≡ false) p.copies a.0 none a.1) ∙ a.2)
 
-    -- and so at no station the log of the clone is beyond the limit
+    -- the log of the clone is beyond the limit at no station
     log_within : (i : ℕ) → i < length procs → IsBeyond net (i + 1) front (clone_at cs who) → ⊥
     log_within i l beyond = elim (slice_get_cases procs i).1 [
       | inl found ↦

@@ -24,7 +24,7 @@ use Rattle.world_core.specs.Opening.{IsFirstProc, AreFirst}
 
 -- ---- AreFirst
 
--- one station more
+-- one more station
 pub first_push : (net : Net) (procs : List ProcView) (new : ProcView) (n : ℕ) → length procs ≡ n → AreFirst net procs
     → IsFirstProc net n new → AreFirst net (procs ++ new ∷ [])
 first_push net procs new n count f first = λ i p got. elim (slice_get-push procs new p i got) [
@@ -34,7 +34,7 @@ first_push net procs new n count f first = λ i p got. elim (slice_get-push proc
 
 -- ---- one
 
--- the set of the first clone has just the numbers below 1
+-- the set of the first clone has exactly the numbers below 1
 first_lives : (c : ℕ) → has (one 0) c ≡ nat_lt c 1
 first_lives c = has-one 0 c ∙ same c
   where
@@ -43,19 +43,19 @@ first_lives c = has-one 0 c ∙ same c
 
 -- ---- base
 
--- where the base clone is alone, no clone ends before the horizon
+-- with only the base clone, no clone ends before the horizon
 no_ends : (net : Net) (c : ℕ) → ends_in net.horizon [] c ≡ ends_of (simulation net) (base ∷ []) c
 no_ends net zero = refl
 no_ends net (suc c) = refl
 
--- and no clone has decisions
+-- no clone has decisions
 no_plans : (net : Net) (c : ℕ) → AreForStations (simulation net) (clone_at (base ∷ []) c).plans
 no_plans net zero = tt
 no_plans net (suc c) = tt
 
 -- ---- WorldStands
 
--- stations as they open for the first clone stand for the base clone at front 0
+-- stations as they open for the first clone represent the base clone at front 0
 pub world_begins : (net : Net) (procs : List ProcView) → IsNet net → length procs ≡ length net.sites
     → AreFirst net procs → WorldStands net (base ∷ []) [] 0 procs
 world_begins net procs valid count first = record {

@@ -1,4 +1,4 @@
--- The first clone over the limit, where there is one.
+-- The first clone over the limit, if there is one.
 use Rattle.std.proofs.Common.{◌≡◌, ◌↔◌, ℕ, zero, suc, ◌+◌, ◌<◌, ◌≤◌, List, inl}
 use Rattle.std.proofs.Common.{inr, Some, sym, ap, ◌∙◌, subst, true, arith, length, slice_get}
 use Rattle.std.proofs.lemmas.Bool.{false≢true}
@@ -56,7 +56,7 @@ module _ (net : Net) (cs : List Clone) (front bound : ℕ) (procs : List ProcVie
 
   -- ---- NoneBeyond
 
-  -- where no clone went over the limit, no log is beyond it
+  -- if no clone went over the limit, no log is beyond it
   pub none_beyond : NoneOver flows → NoneBeyond net cs bound
   none_beyond none c there zero is long = absurd (let low : 0 < 0 = is.0 in omega (arith, low))
   none_beyond none c there (suc i) is long =

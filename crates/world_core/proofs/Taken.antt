@@ -1,4 +1,4 @@
--- The world after a decision: the copies that stood for the clones stand for them again.
+-- The world after a decision: the copies still represent the clones.
 use Rattle.std.proofs.Common.{◌≡◌, ℕ, zero, suc, ◌+◌, ◌==◌, ◌||◌, ◌<◌, ◌≤◌, Bool, true, false, cond}
 use Rattle.std.proofs.Common.{List, [], ◌∷◌, ◌++◌, inl, inr, refl, sym, ap, ◌∙◌, subst, arith, length}
 use Rattle.std.proofs.Common.{length-set, map, get_or, Option, Some, None, slice_get, min, nat_lt, eqb-true, eq-eqb}
@@ -54,7 +54,7 @@ pub LivesAtAll-stands : (net : Net) (cs : List Clone) (ended : List (ℕ × ℕ)
     → WorldStands net cs ended front procs → (c : ℕ) → c < length cs → LivesAtAll c procs
 LivesAtAll-stands net cs ended front procs world c l = λ i p got. (world.each i p got).living c ∙ lt-ltb c (length cs) l
 
--- and the number that the next clone would get lives at none
+-- the number of the next clone lives at none
 pub LivesNowhere-stands : (net : Net) (cs : List Clone) (ended : List (ℕ × ℕ)) (front : ℕ) (procs : List ProcView)
     → WorldStands net cs ended front procs → LivesNowhere (length cs) procs
 LivesNowhere-stands net cs ended front procs world = λ i p got. (world.each i p got).living (length cs) ∙ not_below
@@ -103,7 +103,7 @@ module _ (net : Net) (cs : List Clone) (name : List ℕ) (old : ℕ) (there : ol
       less : (c ≡ length cs → ⊥) → c < length cs
       less n = let many = length_push cs new_clone in grind (arith, many, l)
 
-  -- with the new clone, just the clones live
+  -- exactly the clones live, with the new one
   living_forked : (living : CloneSet) (c : ℕ) → ((c : ℕ) → has living c ≡ nat_lt c (length cs))
       → has (with living (length cs)) c ≡ nat_lt c (length (clones_with_fork cs name old))
   living_forked living c f =
@@ -113,7 +113,7 @@ module _ (net : Net) (cs : List Clone) (name : List ℕ) (old : ℕ) (there : ol
       one_more : (c n : ℕ) → ((n == c) || nat_lt c n) ≡ nat_lt c (n + 1)
       one_more c n = grind (arith, nat_tests)
 
-  -- where the new clone is put beside the old one in all copies, the world stands for the clones with the fork
+  -- if the new clone joins the old one in all copies, the world represents the clones with the fork
   pub world_forked : (ended : List (ℕ × ℕ)) (front : ℕ) (procs news : List ProcView) → length cs < MOST_CLONES
       → WorldStands net cs ended front procs → AllForked old (length cs) procs news
       → WorldStands net (clones_with_fork cs name old) ended front news
@@ -151,11 +151,11 @@ module _ (net : Net) (cs : List Clone) (who : ℕ) (plan : Planned) (there : who
   abbrev with_set : Clone
   with_set = record (clone_at cs who) { plans = (clone_at cs who).plans ++ plan ∷ [] }
 
-  -- the message that tells it
+  -- the message of the decision
   abbrev tells : Msg
   tells = set_message (length (clone_at cs who).plans) plan
 
-  -- where the message of the set is given to the copies, the world stands for the clones with the set
+  -- if the message of the set is delivered to the copies, the world represents the clones with the set
   pub world_added : (ended : List (ℕ × ℕ)) (front : ℕ) (procs news : List ProcView) → HasStation net plan.station
       → front ≤ plan.at → WorldStands net cs ended front procs
       → AllDelivered ((tells, one who) ∷ []) procs news → WorldStands net
@@ -216,11 +216,11 @@ module _ (net : Net) (cs : List Clone) (who at : ℕ) (there : who < length cs)
   abbrev with_end : Clone
   with_end = record (clone_at cs who) { end = Some at }
 
-  -- so far it ends at the horizon
+  -- before, it ends at the horizon
   at_horizon : end_of (simulation net) (clone_at cs who) ≡ net.horizon
   at_horizon = ap (λ (o : Option ℕ). end_of (simulation net) (record (clone_at cs who) { end = o })) open_end
 
-  -- where the list of ends has the new end, the world stands for the clones with it, the copies as they were
+  -- if the list of ends has the new end, the world represents the clones with it, with unchanged copies
   pub world_ended : (olds news : List (ℕ × ℕ)) (front : ℕ) (procs : List ProcView) → front ≤ at → at ≤ net.horizon →
       ((c : ℕ) → ends_in net.horizon news c ≡ cond (who == c) (min at (ends_in net.horizon olds c))
       (ends_in net.horizon olds c)) →

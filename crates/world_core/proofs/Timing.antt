@@ -1,4 +1,4 @@
--- A time that nothing of a station's copies is pending before.
+-- A lower bound of the times of a station's pending messages.
 use Rattle.std.proofs.Common.{◌⊎◌, ℕ, ◌≤◌, List}
 use Rattle.std.proofs.Common.{inl, inr, Option, Some, sym, ◌∙◌, subst, arith}
 use Rattle.sim_base.specs.declared.message.Msg.{Msg}
@@ -10,7 +10,7 @@ use Rattle.phys_proc.specs.Procs.{IsTakenBy, IsLeastTime, IsWithLeast}
 
 -- ---- IsLowerBoundOfAll
 
--- what a clone takes of copies of which nothing is pending before a time comes at that time or later
+-- if no message is pending before a time, a clone takes no earlier message from the copies
 IsLowerBoundOfAll-taken : (ends : ℕ → ℕ) (t : ℕ) (copies : List StationCopy) (c : ℕ) (m : Msg)
     → IsLowerBoundOfAll t copies
     → IsTakenBy ends copies c m → t ≤ m.key.time
@@ -21,7 +21,7 @@ IsLowerBoundOfAll-taken ends t copies c m late x =
 
 -- ---- IsLeastTime
 
--- so where the least so far is no later, it stays
+-- if the least so far is no later, it stays
 pub least_stays : (ends : ℕ → ℕ) (time least : ℕ) (copies : List StationCopy) → time ≤ least
     → IsLowerBoundOfAll least copies
     → (P : Msg → Type 0) → IsLeastTime P (Some time) →
@@ -32,7 +32,7 @@ least_stays ends time least copies soon late P h = ((h.0.0, inl h.0.1, h.0.2), �
     of m (inl p) = h.1 m p
     of m (inr x) = let l = IsLowerBoundOfAll-taken ends least copies x.0 m late x.1 in omega (arith, l, soon)
 
--- the least of what was looked at before and of these copies, the lesser of the two
+-- the lesser of an earlier result and the least time of these copies
 pub least_with : (ends : ℕ → ℕ) (copies : List StationCopy) (before t : Option ℕ) → IsWithLeast ends copies before t
     → (P : Msg → Type 0) → IsLeastTime P before →
     IsLeastTime (λ m. P m ⊎ ((c : ℕ) × IsTakenBy ends copies c m)) t

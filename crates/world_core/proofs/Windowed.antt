@@ -1,4 +1,4 @@
--- A world in a window: once its stations were stepped to the bound, and once they got what was sent.
+-- A world in a window: after its stations were stepped to the bound, and after delivery.
 use Rattle.std.proofs.Common.{◌≡◌, ℕ, ◌+◌, ◌<◌, ◌≤◌, List, Option, Some, None, refl, sym, subst, arith, length, map}
 use Rattle.std.specs.List.{All}
 use Rattle.sim_base.specs.Clones.{Clone}
@@ -44,7 +44,7 @@ module _ (net : Net) (cs : List Clone) (ended : List (ℕ × ℕ)) (front bound 
   no_later : bound ≤ next_front net cs front
   no_later = subst (λ (v : WorldView). bound ≤ next_front v.net v.clones v.front) (sym is) within
 
-  -- its stations may be stepped, also of a network that is the same
+  -- its stations may be stepped, for an equal network as well
   pub may_step : (n : Net) → n ≡ net → AreStations n procs × AreBounds n procs bounds
   may_step n e = subst (λ m. AreStations m procs × AreBounds m procs bounds) (sym e) (
     are_stations net cs ended front procs world,
@@ -91,7 +91,7 @@ module _ (net : Net) (cs : List Clone) (ended : List (ℕ × ℕ)) (front bound 
       short = λ o. none_beyond net cs front bound procs flows stepped (none o);
     }
 
-  -- and once they were, this holds
+  -- after the step, this holds
   pub has_stepped : (n : Net) (listed : List (ℕ × ℕ)) (news : List ProcView) (sent : MarkedMessages)
       (over : Option (ℕ × ℕ)) (steps0 steps1 : ℕ) → n ≡ net → listed ≡ ended
       → AllStepped n (ends_in n.horizon listed) (bound_of bounds) procs news sent over steps0 steps1

@@ -23,7 +23,7 @@ use Rattle.world_core.proofs.AfterWindow.{WorldStepped, proc_of, flow_of, grown_
 
 -- ---- a world at its front
 
--- the copies at a place stand for the clones also where the network and the lists are those that a reader is handed
+-- the copies at a place also represent the clones with the network and the lists that a reader gets
 pub stands_for_reader : (net shown_net : Net) (cs shown : List Clone) (front i : ℕ) (p : ProcView) → shown_net ≡ net
     → shown ≡ cs →
     StandsAt net cs front i p → Stands (simulation shown_net) has shown front p.station p.copies
@@ -63,7 +63,7 @@ module _ (net : Net) (cs : List Clone) (ended : List (ℕ × ℕ)) (front bound 
 
   module _ (flows : List Flow) (count : length flows ≡ length procs)
       (stepped : AllFlow net (ends_in net.horizon ended) (λ i. bound) procs flows) where
-    -- the stations as they stood, and their answers
+    -- the stations before the window, and their results
     pub world_stepped : WorldStepped net cs front bound procs flows
     world_stepped = record {
       valid = world.valid;
@@ -75,7 +75,7 @@ module _ (net : Net) (cs : List Clone) (ended : List (ℕ × ℕ)) (front bound 
     }
 
     module _ (none : NoneOver flows) where
-      -- where no clone went over the limit, and with what was sent delivered, the world stands at the bound
+      -- if no clone went over the limit, and what was sent is delivered, the world is at the bound
       pub world_after : (news : List ProcView) → AllDelivered (all_sent flows) (map (λ (f : Flow). f.done) flows) news
           → WorldStands net cs ended bound news
       world_after news given = record {

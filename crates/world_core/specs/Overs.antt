@@ -9,7 +9,8 @@ use Rattle.world_core.specs.declared.world.WorldFault.{WorldFault}
 use Rattle.world_core.specs.declared.world.WorldFault.TheVariants.{NoMemory, EventLimit}
 use Rattle.world_core.specs.Worlds.{total_handled}
 
--- at a bound, the station is the least with a clone whose log is beyond the limit, and there the clone is the least
+-- at a bound, this is the least station with a clone whose log is beyond the limit, and this is the least such clone
+-- there
 pub record IsFirstBeyond (net : Net) (cs : List Clone) (bound station who : ℕ) : Type 0 where
   pub is_station : HasStation net station
   pub clone : who < length cs
@@ -21,12 +22,12 @@ pub record IsFirstBeyond (net : Net) (cs : List Clone) (bound station who : ℕ)
 abbrev pub NoneBeyond : Net → List Clone → ℕ → Type 0
 NoneBeyond net cs bound = (c : ℕ) → c < length cs → IsWithinLimit (simulation net) bound (clone_at cs c)
 
--- the most messages that the stations may handle for so many clones
+-- the greatest number of messages that the stations may handle for this number of clones
 abbrev pub most_handled : Net → ℕ → ℕ
 most_handled net clones = length net.sites * (clones * net.limit)
 
--- out of memory needs no cause; a limit names the first log beyond it, and then the messages that were handled are no
--- more than the limit allows each clone at each station
+-- the causes of a fault: out of memory has none; a limit names the first log beyond it, and then at most the limit was
+-- handled for each clone at each station
 abbrev pub IsFault : Net → List Clone → ℕ → ℕ → ℕ → ℕ → WorldFault → Type 0
 IsFault net cs front bound old_steps new_steps NoMemory = Unit {0}
 IsFault net cs front bound old_steps new_steps (EventLimit station who kept) =

@@ -1,4 +1,4 @@
--- Calls that a world takes: decisions that were accepted, one after the other, at its front.
+-- Calls that a world takes: accepted decisions, one after the other, at its front.
 use Rattle.std.specs.Prelude.{◌≡◌, ℕ, List, [], ◌∷◌}
 use Rattle.sim_base.specs.Clones.{Clone}
 use Rattle.sim_base.specs.declared.decision.Decision.{Decision}
@@ -8,7 +8,7 @@ use Rattle.decision_book.specs.declared.call.Reply.TheVariants.{Accepted}
 use Rattle.decision_book.specs.Journal.{Situation, clones_after}
 use Rattle.decision_book.specs.Replies.{reply}
 
--- how things stand for a decision on these clones at a front, in a journal that is not full
+-- the situation of a decision on these clones at a front, in a journal that is not full
 abbrev pub situation : Net → List Clone → ℕ → Situation
 situation net cs front = record { net = net; clones = cs; front = front; calls = 0 }
 
@@ -16,7 +16,7 @@ situation net cs front = record { net = net; clones = cs; front = front; calls =
 abbrev pub IsAccepted : Net → List Clone → ℕ → Decision → Type 0
 IsAccepted net cs front d = reply (situation net cs front) d ≡ Accepted
 
--- and none for each of the calls, after those before it
+-- each call is accepted after those before it
 abbrev pub AreAccepted : Net → List Clone → ℕ → List Call → Type 0
 AreAccepted net cs front [] = Unit {0}
 AreAccepted net cs front (call ∷ calls) = IsAccepted net cs front call.decision

@@ -6,7 +6,7 @@ use Rattle.run_laws.specs.Queue.{In}
 use Rattle.run_laws.specs.Copies.{Carries}
 use Rattle.phys_proc.specs.Own.{StationCopy}
 
--- a copy of these that represents clone c
+-- one of these copies represents clone c
 pub record IsCopyOf (copies : List StationCopy) (c : ℕ) (copy : StationCopy) : Type 0 where
   pub is_copy : In copy copies
   pub is_in : Carries has copy c

@@ -1,4 +1,4 @@
--- A world: all clones at a front, and what its stations keep of them.
+-- A world: all clones at a front, and the stations' copies of them.
 use Rattle.std.specs.Prelude.{◌≡◌, ℕ, ◌+◌, ◌<◌, ◌≤◌, List, [], ◌∷◌, length, slice_get}
 use Rattle.std.specs.Prelude.{nat_lt, Some}
 use Rattle.sim_base.specs.Clones.{Clone, base, clone_at}
@@ -15,7 +15,8 @@ use Rattle.phys_proc.specs.Ends.{ends_in}
 use Rattle.phys_proc.specs.Procs.{ProcView}
 use Rattle.station_steps.specs.Windows.{IsNumbered}
 
--- what contracts see of a world: its network, its clones with their decisions and ends, and how far all have come
+-- what contracts see of a world: its network, its clones with their decisions and ends, and the time that all have
+-- reached
 pub record WorldView : Type 0 where
   pub net : Net
   pub clones : List Clone
@@ -25,15 +26,15 @@ pub record WorldView : Type 0 where
 abbrev pub opening_world : Net → WorldView
 opening_world net = record { net = net; clones = base ∷ []; front = 0 }
 
--- the copies at place i are those of station i + 1, and they stand for the clones at the front: each clone is in one
--- copy, whose log, state and messages are the clone's own, and two clones share a copy where their logs are equal
+-- the copies at place i are those of station i + 1, and represent the clones at the front: each clone is in one copy,
+-- whose log, state and messages are the clone's own; two clones share a copy if their logs are equal
 pub record StandsAt (net : Net) (cs : List Clone) (front i : ℕ) (p : ProcView) : Type 0 where
   pub station : IsNumbered net i p
   pub living : (c : ℕ) → has p.living c ≡ nat_lt c (length cs)
   pub once : p.handled ≡ handled_once net cs (i + 1) front
   pub copies : Stands (simulation net) has cs front (i + 1) p.copies
 
--- what a world keeps: the copies of every station stand for the clones at the front
+-- the invariant of a world: the copies of every station represent the clones at the front
 pub record WorldStands (net : Net) (cs : List Clone) (ended : List (ℕ × ℕ)) (front : ℕ) (procs : List ProcView) :
     Type 0 where
   pub valid : IsNet net
@@ -48,7 +49,7 @@ pub record WorldStands (net : Net) (cs : List Clone) (ended : List (ℕ × ℕ))
 abbrev pub total_handled : Net → List Clone → ℕ → ℕ
 total_handled net cs front = station_sum (λ s. handled_once net cs s front) (length net.sites)
 
--- clones whose decisions are for stations, and which end at the horizon at the latest
+-- clones whose decisions are for stations, and that end at the horizon at the latest
 pub record AreInNet (net : Net) (cs : List Clone) : Type 0 where
   pub plans : AllAreForStations (simulation net) cs
   pub ends : (k : ℕ) → k < length cs → end_of (simulation net) (clone_at cs k) ≤ net.horizon

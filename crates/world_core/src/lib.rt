@@ -25,15 +25,15 @@
 //! let trace = world.trace(alloc, 0)?;                                      // as `base` alone would handle it
 //! ```
 //!
-//! Cost: a window looks at one time of each station, and steps the copies of those with something due. After a window of
-//! [`LARGE_WINDOW`] messages the next one goes to the crew, which takes four lists with a place for each station. Other
-//! windows run in the caller's thread. A message costs one step of its copy, whatever the number of its clones.
+//! Cost: a window checks one time of each station, and steps the copies of those with something due. After a window of
+//! [`LARGE_WINDOW`] messages the next one goes to the crew, which needs four lists with an element for each station.
+//! Other windows run in the caller's thread. A message costs one step of its copy, whatever the number of its clones.
 //!
 //! The promise: **at every front the copies of each station represent the clones**. Each clone is in one copy, whose
-//! log, state and pending messages are those of the clone's own run, and two clones share a copy exactly if their logs
-//! are equal. It is the invariant of the type [`World`], whoever steps the stations. The steps that a window counts are
-//! exactly the messages that all clones together have handled more, each shared one once. The contract of
-//! [`World::window_in_place`], which cannot wait, promises that it returns.
+//! log, state and pending messages are those of the clone's own run. Two clones share a copy exactly if their logs are
+//! equal. This is the invariant of the type [`World`], in place and by a crew. The steps of a window count exactly the
+//! messages that all clones together handle in it, shared ones once. The contract of [`World::window_in_place`], which
+//! cannot wait, promises that it returns.
 #![tactic(auto)]
 
 mod looking;

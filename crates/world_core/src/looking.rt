@@ -1,4 +1,4 @@
-//! What a world reports: due times, the next front (window boundary) and the report's figures.
+//! Queries on a world: due times, the next front (window boundary) and the report's figures.
 ghost use Rattle.std.specs.Prelude.{◌≡◌, ◌*◌, ◌<◌, ◌≤◌, length};
 ghost use Rattle.std.specs.List.{AllByRecursion};
 ghost use Rattle.sim_base.specs.Clones.{clone_at};
@@ -14,7 +14,7 @@ use phys_proc::PhysCopy;
 use sim_base::Figures;
 use stations::due::{earlier, window_end};
 
-// How many messages the clones of these copies would have handled, each alone.
+// The number of messages that the clones of these copies would have handled, each alone.
 fn alone_in(copies: &[PhysCopy]) -> u64
     requires short { AllByRecursion (λ a. length a.log ≤ MOST_LIMIT) copies.now }
     requires few { all_sizes copies.now ≤ MOST_CLONES }
@@ -28,7 +28,7 @@ fn alone_in(copies: &[PhysCopy]) -> u64
 }
 
 impl World {
-    /// The least time that is due in a clone, below its end; None exactly if there is none. It takes no memory.
+    /// The least time that is due in a clone, below its end; None exactly if there is none. It allocates nothing.
     pub fn least_of(&self, c: u32) -> Option<u64>
         requires there { c < length self.now.clones }
         ensures value { result ≡ least_of (simulation self.now.net) (clone_at self.now.clones c) self.now.front }
@@ -43,7 +43,7 @@ impl World {
         least
     }
 
-    /// The least time that is due in any clone; None exactly if there is none. It takes no memory.
+    /// The least time that is due in any clone; None exactly if there is none. It allocates nothing.
     pub fn least(&self) -> Option<u64>
         ensures value { result ≡ least (simulation self.now.net) self.now.clones self.now.front }
     {
@@ -54,15 +54,15 @@ impl World {
         least
     }
 
-    /// The next front: the least due time and the lookahead, at most the horizon. It takes no memory.
+    /// The next front: the least due time plus the lookahead, at most the horizon. It allocates nothing.
     pub fn bound(&self) -> u64
         ensures value { result ≡ next_front self.now.net self.now.clones self.now.front }
     {
         window_end(&self.model, self.least())
     }
 
-    /// The report's figures of a station, now: its copies, the messages handled once, and those that the clones
-    /// would handle alone. It takes no memory.
+    /// The report's figures of a station at the front: its copies, the messages handled once, and those that the clones
+    /// would handle alone. It allocates nothing.
     pub fn figures(&self, station: u32) -> Figures
         requires is_station { HasStation self.now.net station }
         ensures copies { result.copies ≡ copies self.now.net self.now.clones station self.now.front }

@@ -1,4 +1,4 @@
-//! A world taken apart and put together, for a crate above that steps its stations in another way.
+//! The parts of a world, for a higher crate that steps its stations in another way.
 ghost use Rattle.std.specs.Prelude.{◌≡◌};
 ghost use Rattle.world_core.specs.Worlds.{WorldStands};
 
@@ -7,7 +7,7 @@ use net_model::Model;
 use station_steps::{Buffers, SharedEnds, SharedLists, TimedProc};
 use std::sync::Arc;
 
-/// What a world is made of.
+/// The parts of a world.
 #[derive(Drop)]
 pub struct WorldParts {
     /// The model.
@@ -18,12 +18,12 @@ pub struct WorldParts {
     pub ends: SharedEnds,
     /// The copies of each station, in the order of the stations.
     pub procs: Vec<TimedProc>,
-    /// The memory for the stations' bounds, and for what they send.
+    /// Memory for the stations' bounds, and for what they send.
     pub buffers: Buffers,
 }
 
 impl World {
-    /// The parts of the world.
+    /// Returns the parts of the world.
     pub fn into_parts(self) -> WorldParts
         ensures net { result.model.value ≡ self.net }
         ensures clones { result.lists.clones ≡ self.clones }
@@ -47,7 +47,7 @@ impl World {
         }
     }
 
-    /// The world of these parts, at this front.
+    /// Makes a world of these parts at this front.
     pub fn of_parts(parts: WorldParts, front: u64) -> World
         requires stands { WorldStands parts.model.value parts.lists.clones parts.ends front parts.procs.items }
         ensures value { result ≡ record { net = parts.model.value; clones = parts.lists.clones; front = front } }

@@ -1,4 +1,4 @@
-//! What a world shows to readers: the copies (physical processes) of a station at the front (window boundary).
+//! The view of a station for readers: its copies (physical processes) at the front (window boundary).
 ghost use Rattle.std.specs.Prelude.{◌≡◌, IfOk};
 ghost use Rattle.net_model.specs.Net.{HasStation};
 
@@ -9,17 +9,17 @@ use station_steps::share_of;
 use std::alloc::Global;
 
 impl World {
-    /// What readers are shown of a station, now: its copies, and the lists of the clones that they stand for.
+    /// What readers see of a station at the front: its copies, and the lists of the clones that they represent.
     ///
-    /// The world is unchanged, also out of memory.
+    /// The world is unchanged, even if out of memory.
     pub fn rack(&mut self, alloc: Global, station: u32) -> Result<Rack, NoMemory>
         requires is_station { HasStation self.old.net station }
-        // what it gives: a rack of the station, at the front of this world
+        // the result: a rack of the station, at the front of this world
         ensures net { IfOk result (λ r. r.net ≡ self.old.net) }
         ensures clones { IfOk result (λ r. r.clones ≡ self.old.clones) }
         ensures station { IfOk result (λ r. r.station ≡ station) }
         ensures front { IfOk result (λ r. r.front ≡ self.old.front) }
-        // what is kept: the world, also out of memory
+        // the world is unchanged, even if out of memory
         ensures same { self.new ≡ self.old }
     {
         let model = share_of(&self.model)?;

@@ -1,4 +1,4 @@
-//! Decisions that a world takes: forks, sets and ends, at its front (window boundary).
+//! Applies decisions to a world at its front (window boundary): forks, sets and ends.
 ghost use Rattle.std.specs.Prelude.{◌≡◌, ◌<◌, ◌≤◌, None, length, IfOk, OnOk, Some};
 ghost use Rattle.sim_base.specs.Clones.{clone_at, place_of, clones_with_fork, clones_with_plan, clones_with_end};
 ghost use Rattle.sim_base.specs.declared.lists.TheConstants.{MOST_CLONES};
@@ -15,7 +15,7 @@ use station_steps::{TimedProc, deliver_to};
 use stations::decision::set_message;
 use std::alloc::Global;
 
-// At each station the new clone joins the old one in its copy.
+// The new clone joins the old one in its copy at each station.
 fn fork_all(procs: &mut Vec<TimedProc>, old: u32, new: u32) -> Result<(), NoMemory>
     requires old { LivesAtAll old procs.old.items }
     requires new { LivesNowhere new procs.old.items }
@@ -29,9 +29,9 @@ fn fork_all(procs: &mut Vec<TimedProc>, old: u32, new: u32) -> Result<(), NoMemo
 }
 
 impl World {
-    /// Takes calls that were accepted on these clones at this front, one after the other.
+    /// Applies calls that were accepted for these clones at this front, one after the other.
     ///
-    /// Out of memory, the world is given up.
+    /// Out of memory: the world is dropped.
     pub fn take(self, alloc: Global, fresh: &[Call]) -> Result<World, NoMemory>
         requires accepted { AreAccepted self.net self.clones self.front fresh.now }
         ensures value { IfOk result (λ w.
@@ -44,7 +44,7 @@ impl World {
         Ok(world)
     }
 
-    // Takes one decision that was accepted.
+    // Applies one accepted decision.
     fn with_decision(self, alloc: Global, decision: &Decision) -> Result<World, NoMemory>
         requires accepted { IsAccepted self.net self.clones self.front decision.now }
         ensures value { IfOk result (λ w. w ≡ record self { clones = clones_after self.net self.clones decision.now }) }
@@ -83,11 +83,11 @@ impl World {
         }
     }
 
-    /// The world with a new clone, which has the decisions of the old one. The old one has no end, and nor has the new.
+    /// Adds a new clone with the decisions of the old one. Neither has an end.
     ///
     /// # Errors
     ///
-    /// Out of memory, the world is given up.
+    /// Out of memory: the world is dropped.
     pub fn with_fork(self, alloc: Global, new: Name, old: u32) -> Result<World, NoMemory>
         requires there { old < length self.clones }
         requires open { (clone_at self.clones old).end ≡ None }
@@ -119,16 +119,16 @@ impl World {
         })
     }
 
-    /// The world in which the clone `who` has one decision more, which its station gets as a message.
+    /// Adds a decision to the clone `who`. Its station gets the decision as a message.
     ///
     /// # Errors
     ///
-    /// Out of memory, the world is given up.
+    /// Out of memory: the world is dropped.
     pub fn with_set(self, who: u32, plan: Planned) -> Result<World, NoMemory>
         requires there { who < length self.clones }
         requires is_station { HasStation self.net plan.station }
         requires not_late { self.front ≤ plan.at }
-        // the same world, where this clone has the decision
+        // the same world, in which this clone has the decision
         ensures value { IfOk result (λ w. w ≡ record self { clones = clones_with_plan self.clones who plan }) }
     {
         let World {
@@ -154,13 +154,13 @@ impl World {
         })
     }
 
-    // The world in which the clone has an end, from which on it takes nothing.
+    // Ends a clone: it takes nothing from that time on.
     fn with_end(self, alloc: Global, who: u32, at: u64) -> Result<World, NoMemory>
         requires there { who < length self.clones }
         requires open { (clone_at self.clones who).end ≡ None }
         requires not_late { self.front ≤ at }
         requires early { at ≤ self.net.horizon }
-        // the same world, where this clone has an end
+        // the same world, in which this clone has the end
         ensures value { IfOk result (λ w. w ≡ record self { clones = clones_with_end self.clones who at }) }
     {
         let World {

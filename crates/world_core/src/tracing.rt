@@ -36,7 +36,7 @@ fn entries(alloc: Global, log: &Log) -> Result<Vec<Entry>, NoMemory>
     Ok(out)
 }
 
-// Both lists, each in order, as one.
+// Merges two ordered lists.
 fn merge_logs(alloc: Global, xs: &[Entry], ys: &[Entry]) -> Result<Vec<Entry>, NoMemory>
     ensures value { IfOk result (λ v. v.items ≡ merge by_key xs.now ys.now) }
 {
@@ -91,8 +91,8 @@ impl World {
         }
     }
 
-    /// The log of a clone at a station, up to the front: that of the copy which represents the clone there. It takes
-    /// no memory.
+    /// The log of a clone at a station, up to the front: that of the copy that represents the clone there. It allocates
+    /// nothing.
     pub fn log(&self, who: u32, station: u32) -> &Log
         requires there { who < length self.now.clones }
         requires is_station { HasStation self.now.net station }
@@ -103,7 +103,7 @@ impl World {
         self.copy(who, station).log()
     }
 
-    /// The number of entries in the log of a clone at a station, up to the front. It takes no memory.
+    /// The number of entries in the log of a clone at a station, up to the front. It allocates nothing.
     pub fn log_len(&self, who: u32, station: u32) -> u64
         requires there { who < length self.now.clones }
         requires is_station { HasStation self.now.net station }
@@ -113,7 +113,7 @@ impl World {
         self.log(who, station).len()
     }
 
-    /// The entry at place i, from 0, of the log of a clone at a station, up to the front. It takes no memory.
+    /// The entry at place i, from 0, of the log of a clone at a station, up to the front. It allocates nothing.
     pub fn entry(&self, who: u32, station: u32, i: u64) -> Entry
         requires there { who < length self.now.clones }
         requires is_station { HasStation self.now.net station }
@@ -125,8 +125,8 @@ impl World {
         self.log(who, station).get(i)
     }
 
-    /// The first clone that shares a copy with the clone `who` at a station, which may be `who` itself. It is the first
-    /// with the same log there. It takes no memory.
+    /// The first clone that shares a copy with the clone `who` at a station; it may be `who`. It is the first with the
+    /// same log there. It allocates nothing.
     pub fn first_with(&self, who: u32, station: u32) -> u32
         requires there { who < length self.now.clones }
         requires is_station { HasStation self.now.net station }

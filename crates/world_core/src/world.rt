@@ -21,7 +21,7 @@ use std::alloc::Global;
 use std::sync::ledger::Ledger;
 use std::sync::{Arc, Wait};
 
-/// All clones at a front: the copies of every station stand for them.
+/// The world of all clones at a front: the copies of every station represent them.
 #[derive(Drop)]
 pub struct World {
     pub(crate) model: Arc<Model>,
@@ -29,13 +29,13 @@ pub struct World {
     pub(crate) ends: SharedEnds,
     pub(crate) front: u64,
     pub(crate) procs: Vec<TimedProc>,
-    // how many messages the last window handled: a hint of how many the next one will
+    // the number of messages that the last window handled: a hint for the next one
     pub(crate) last: u64,
-    // the bounds of a window and what it sends
+    // memory for the bounds of a window and for what it sends
     pub(crate) buffers: Buffers,
 }
 
-/// A window that handles at least this number of messages is large: a crew pays for the next one.
+/// A window that handles at least this number of messages is large: a crew pays off for the next one.
 pub const LARGE_WINDOW: u64 = 2_000;
 
 impl std::marker::Model for World {
@@ -82,8 +82,7 @@ fn open_all(alloc: Global, model: &Model) -> Result<Vec<TimedProc>, NoMemory>
     Ok(procs)
 }
 
-/// The fault of a window in which the station at this place, from 0, is the first with a log over the limit, and there
-/// the clone is the first.
+/// The fault of a window whose first station over the limit is at this place, from 0, with this first clone there.
 pub fn beyond_limit(model: &Model, place: u32, who: u32) -> WorldFault
     requires few { place < MOST_STATIONS }
     ensures value { result ≡ EventLimit (place + 1) who model.now.limit }
@@ -114,12 +113,12 @@ impl World {
         })
     }
 
-    /// Whether the last window was large, so that a crew pays for the next one. It is a hint.
+    /// Whether the last window was large, so that a crew pays off for the next one. It is a hint.
     pub fn wants_crew(&self) -> bool {
         self.last >= LARGE_WINDOW
     }
 
-    /// How far all clones have come.
+    /// The time that all clones have reached.
     pub fn front(&self) -> u64
         ensures value { result ≡ self.now.front }
         ensures within { result ≤ self.now.net.horizon }
@@ -137,7 +136,7 @@ impl World {
     /// The clones with their decisions and ends.
     pub fn lists(&self) -> &Lists
         ensures clones { result.now.clones ≡ self.now.clones }
-        // what holds of the clones of a world
+        // what is proved of the clones of a world
         ensures few { length self.now.clones ≤ MOST_CLONES }
         ensures in_net { AreInNet self.now.net self.now.clones }
         ensures short { NoneBeyond self.now.net self.now.clones self.now.front }
@@ -145,12 +144,12 @@ impl World {
         self.lists.lists()
     }
 
-    /// Handles what comes before the bound, at each station separately, and gives each station what the others sent to
-    /// it, all in the caller's thread.
+    /// Handles the messages before the bound at each station separately. Then delivers to each station what the others
+    /// sent to it. All work is done in the caller's thread.
     ///
     /// # Errors
     ///
-    /// Out of memory, or if a log would get longer than the limit, the world is given up.
+    /// The world is dropped if out of memory, or if a log would get longer than the limit.
     pub fn window_in_place<L: Ledger>(
         self,
         alloc: Global,
@@ -159,9 +158,9 @@ impl World {
     ) -> Result<World, WorldFault>
         requires above { self.front < bound }
         requires within { bound ≤ next_front self.net self.clones self.front }
-        // what it gives: the same world at the bound
+        // the result: the same world at the bound
         ensures value { IfOk result (λ w. w ≡ record self { front = bound }) }
-        // what is counted: the messages that the stations handle, each once for all clones of a copy
+        // the steps: the messages that the stations handle, each once for all clones of a copy
         ensures steps { IfOk result (λ w. steps.new + total_handled self.net self.clones self.front
             ≡ steps.old + total_handled self.net self.clones bound) }
         // no log is beyond the limit, or the fault names the first that is
@@ -200,8 +199,8 @@ impl World {
         })
     }
 
-    // The same by the crew. Each station is a task, whether or not something is due there. What was sent to a station it
-    // takes at its next step, and whatever else asks for it before sees it as if it had it.
+    // The same by the crew. Each station is a task, even if nothing is due there. A station takes its messages at its
+    // next step; contracts describe it as if it had them before.
     fn window_by_crew<G: Gate, L: Ledger, R: Wait>(
         self,
         rt: &R,
@@ -250,13 +249,13 @@ impl World {
         })
     }
 
-    /// Handles what comes before the bound, at each station separately, and gives each station what the others sent to
-    /// it. If the last window was large, the crew does it: each station is a task, whether or not something is due
-    /// there. If it was not, the caller's thread steps the stations in place, after the gate was called for each.
+    /// Handles the messages before the bound at each station separately. Then delivers to each station what the others
+    /// sent to it. If the last window was large, the crew does it: each station is a task, even if nothing is due
+    /// there. Otherwise the caller's thread steps the stations in place, after it called the gate for each.
     ///
     /// # Errors
     ///
-    /// Out of memory, or if a log would get longer than the limit, the world is given up.
+    /// The world is dropped if out of memory, or if a log would get longer than the limit.
     pub fn window<G: Gate, L: Ledger, R: Wait>(
         self,
         rt: &R,
@@ -267,9 +266,9 @@ impl World {
     ) -> Result<World, WorldFault>
         requires above { self.front < bound }
         requires within { bound ≤ next_front self.net self.clones self.front }
-        // what it gives: the same world at the bound
+        // the result: the same world at the bound
         ensures value { IfOk result (λ w. w ≡ record self { front = bound }) }
-        // what is counted: the messages that the stations handle, each once for all clones of a copy
+        // the steps: the messages that the stations handle, each once for all clones of a copy
         ensures steps { IfOk result (λ w. steps.new + total_handled self.net self.clones self.front
             ≡ steps.old + total_handled self.net self.clones bound) }
         // no log is beyond the limit, or the fault names the first that is

@@ -1,4 +1,4 @@
-//! Runs that are taken apart at a front and resumed from their states and pending messages.
+//! Runs that are saved at a front and resumed from their states and pending messages.
 ghost use Rattle.std.specs.Prelude.{◌≡◌, length, IfOk};
 ghost use Rattle.solo_run.specs.SoloView.{Entries, IsSolo, IsSoloAfter};
 
@@ -94,7 +94,7 @@ fn resume(alloc: Global, model: &Model, solo: &Solo) -> Result<Solo, NoMemory>
     Solo::resumed(alloc, model, states, due.as_slice())
 }
 
-/// The resumed run, at the horizon. A caller takes the past from the trace of `_before`.
+/// The resumed run at the horizon. Its caller has the past in the trace of `_before`.
 fn run_after<L: Ledger>(
     model: &Model,
     _before: &Solo,
@@ -152,7 +152,7 @@ fn goes_on<L: Ledger>(alloc: Global, model: &Model, front: &Front, steps: &mut S
     hold(solo.trace(), again.trace(), &one_desk_trace())
 }
 
-/// Whether the example goes on from each front.
+/// Whether the example can be resumed at each front.
 pub fn resumed_runs<L: Ledger>(alloc: Global, steps: &mut Steps<L>) -> bool {
     let Ok(model) = read_model(alloc, ONE_DESK.as_bytes()) else {
         return false;

@@ -1,4 +1,4 @@
-//! The traces that the worked examples come to, as in `specs/Examples` of the crate `stations`.
+//! The traces of the worked examples, as in `specs/Examples` of the crate `stations`.
 
 use crate::counts::{change, passed, server, sink, source};
 use sim_base::{Entry, Job, Key, Line, Msg, Param, Payload};
@@ -45,7 +45,7 @@ pub fn one_desk_trace() -> [Entry; 8] {
     ]
 }
 
-/// From 8 on the desk serves for 2; the service that has begun stays.
+/// From 8 on the desk serves for 2; the service in progress is unchanged.
 pub fn fast_trace() -> [Entry; 9] {
     [
         at(3, 1, 1, 0, Payload::Tick, source(1)),
@@ -60,7 +60,7 @@ pub fn fast_trace() -> [Entry; 9] {
     ]
 }
 
-/// The times between jobs are drawn: 4, 8 and 5.
+/// The times between jobs are random: 4, 8 and 5.
 pub fn drawn_gate_trace() -> [Entry; 6] {
     [
         at(4, 1, 1, 0, Payload::Tick, source(1)),
@@ -72,7 +72,7 @@ pub fn drawn_gate_trace() -> [Entry; 6] {
     ]
 }
 
-/// Without room, who comes to a busy desk is lost.
+/// Without a waiting room, a job that comes to a busy desk is lost.
 pub fn no_room_trace() -> [Entry; 8] {
     [
         at(3, 1, 1, 0, Payload::Tick, source(1)),
@@ -86,7 +86,7 @@ pub fn no_room_trace() -> [Entry; 8] {
     ]
 }
 
-/// With three servers from 6 on, those who wait are served at once.
+/// With three servers from 6 on, the waiting jobs are served immediately.
 pub fn more_servers_trace() -> [Entry; 13] {
     [
         at(3, 1, 1, 0, Payload::Tick, source(1)),
@@ -105,7 +105,7 @@ pub fn more_servers_trace() -> [Entry; 13] {
     ]
 }
 
-/// By turn the first job goes by the delay, the second straight on, and the third by the delay again.
+/// By turn the first and the third job go through the delay, and the second goes straight on.
 pub fn by_turn_trace() -> [Entry; 11] {
     [
         at(3, 1, 1, 0, Payload::Tick, source(1)),
@@ -122,7 +122,7 @@ pub fn by_turn_trace() -> [Entry; 11] {
     ]
 }
 
-/// By weights the third goes straight on.
+/// By weights the third job goes straight on.
 pub fn by_weights_trace() -> [Entry; 10] {
     [
         at(3, 1, 1, 0, Payload::Tick, source(1)),
@@ -138,7 +138,7 @@ pub fn by_weights_trace() -> [Entry; 10] {
     ]
 }
 
-/// Who waits is served by class, and in a class as he came.
+/// Waiting jobs are served by class, and within a class by arrival.
 pub fn by_class_trace() -> [Entry; 14] {
     [
         at(2, 2, 2, 0, Payload::Tick, source(1)),
@@ -158,7 +158,7 @@ pub fn by_class_trace() -> [Entry; 14] {
     ]
 }
 
-/// Who waits is served as he came.
+/// Waiting jobs are served by arrival.
 pub fn by_arrival_trace() -> [Entry; 14] {
     [
         at(2, 2, 2, 0, Payload::Tick, source(1)),

@@ -1,18 +1,18 @@
-//! Tables of messages, each with what a station answers to it.
+//! Tables of messages, each with a station's reaction.
 
 use crate::counts::{change, passed, server, sink, source};
 use sim_base::{Job, Line, Param, Payload};
 
-/// A message and its answer: the counts, how many messages are sent, and when the last of them arrives.
+/// A message and the reaction to it: the counts, the number of messages sent, and when the last of them arrives.
 #[derive(Clone, Copy)]
 pub struct Row {
-    /// When it is handled.
+    /// The time at which it is handled.
     pub time: u64,
-    /// What it is.
+    /// Its payload.
     pub payload: Payload,
     /// The counts after it.
     pub line: Line,
-    /// How many messages are sent.
+    /// The number of messages sent.
     pub sends: usize,
     /// When the last of them arrives, if there is one.
     pub arrives: Option<u64>,
@@ -54,7 +54,7 @@ fn done(count: u64) -> Payload {
     })
 }
 
-/// After the change the next tick comes 7 later; a source takes no job and no done.
+/// After the change the next tick comes 7 later. A source accepts neither a job nor a done.
 pub fn source_rows() -> [Row; 4] {
     [
         silent(2, change(Param::Every, 7, 7), source(0)),
@@ -64,7 +64,7 @@ pub fn source_rows() -> [Row; 4] {
     ]
 }
 
-/// After the change a service takes 2; a server takes no tick, and no done before a service has begun.
+/// After the change a service takes 2. A server accepts no tick, and no done before a service has begun.
 pub fn server_rows() -> [Row; 5] {
     [
         silent(3, done(0), server(0, 0, 0, 0)),
@@ -75,7 +75,7 @@ pub fn server_rows() -> [Row; 5] {
     ]
 }
 
-/// After the change a job is held for 5; a delay takes no tick and no done.
+/// After the change a job is held for 5. A delay accepts neither a tick nor a done.
 pub fn delay_rows() -> [Row; 4] {
     [
         silent(4, change(Param::Hold, 5, 5), passed(0)),
@@ -85,8 +85,8 @@ pub fn delay_rows() -> [Row; 4] {
     ]
 }
 
-/// After the change the job goes over the second link, without it, and with one of the other link, over the
-/// first; a router takes no tick and no done.
+/// After the change the job goes over the second link. Without it, or with a change of the other link, it goes over the
+/// first. A router accepts neither a tick nor a done.
 pub fn router_rows() -> [Row; 4] {
     [
         silent(4, change(Param::Weight, 1, 1), passed(0)),
@@ -96,7 +96,7 @@ pub fn router_rows() -> [Row; 4] {
     ]
 }
 
-/// The job was made 5 before it comes; a sink takes nothing else.
+/// The job was made 5 before it arrives. A sink accepts nothing else.
 pub fn sink_rows() -> [Row; 4] {
     [
         silent(8, job(0), sink(1, 5)),
@@ -106,12 +106,12 @@ pub fn sink_rows() -> [Row; 4] {
     ]
 }
 
-/// One job is taken into service.
+/// One job begins its service.
 pub fn before_the_copy() -> [Row; 1] {
     [sending(5, job(0), server(1, 0, 0, 0), 1, 9)]
 }
 
-/// The service ends at 9, and three more jobs come. The two that are started take 8 and 5.
+/// The service ends at 9, and three more jobs come. Two of them are served, for 8 and 5.
 pub fn at_the_original() -> [Row; 4] {
     [
         sending(9, done(0), server(0, 0, 1, 0), 1, 11),
@@ -121,8 +121,8 @@ pub fn at_the_original() -> [Row; 4] {
     ]
 }
 
-/// The service goes on to 13, and the same three jobs come, where only one may wait. The two that are
-/// started take 8 and 5 here too.
+/// The service continues to 13, and the same three jobs come, when only one may wait. Two of them are served, for 8 and
+/// 5 as well.
 pub fn at_the_copy() -> [Row; 5] {
     [
         silent(9, change(Param::Room, 1, 0), server(1, 0, 0, 0)),
@@ -133,7 +133,7 @@ pub fn at_the_copy() -> [Row; 5] {
     ]
 }
 
-/// What the copy has handled does not show at the original.
+/// The messages of the copy do not change the original.
 pub fn at_the_original_afterwards() -> [Row; 1] {
     [silent(14, Payload::Tick, server(2, 1, 1, 0))]
 }

@@ -1,4 +1,4 @@
-//! The state of each kind of station is saved as plain data, and the restored state goes on like the saved one.
+//! Tests that the state of each kind of station is saved as plain data, and that the restored state behaves like it.
 ghost use Rattle.std.specs.Prelude.{◌≡◌, ◌<◌, IfSome};
 ghost use Rattle.ground_tests.specs.States.{IsStateOf};
 
@@ -16,7 +16,7 @@ use std::marker::Brand;
 use std::sync::ledger::{Blank, Ledger};
 use std::test::Fail;
 
-/// The state that the plain data of a state restores.
+/// The state that is restored from the plain data of a state.
 fn restored(alloc: Global, model: &Model, station: u32, state: &State) -> Option<State>
     ensures { IfSome result (λ again. IsStateOf model.now station again) }
 {
@@ -29,7 +29,7 @@ fn restored(alloc: Global, model: &Model, station: u32, state: &State) -> Option
     }
 }
 
-/// Whether a station answers the rows if its state is restored before the row at this place.
+/// Whether a station handles the rows' messages as they say if its state is restored before the row at this place.
 fn goes_on<L: Ledger>(
     alloc: Global,
     model: &Model,
@@ -50,7 +50,7 @@ fn goes_on<L: Ledger>(
     }
 }
 
-/// Whether a desk draws the times that it would have drawn, and serves the job that waits.
+/// Whether a restored desk draws the same times, and serves the waiting job.
 fn desk_goes_on<L: Ledger>(
     alloc: Global,
     model: &Model,
@@ -106,7 +106,7 @@ fn line_of(alloc: Global, length: u64) -> Result<JobLine, NoMemory> {
     Ok(JobLine::of(jobs))
 }
 
-/// Whether a desk is restored with a line of this length; None if out of memory.
+/// Whether a desk can be restored with a line of this length; None if out of memory.
 fn takes_line(alloc: Global, model: &Model, length: u64) -> Option<bool> {
     if model.len() < 2 {
         return None;

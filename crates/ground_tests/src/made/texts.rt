@@ -1,8 +1,8 @@
-//! The texts of three made studies, written by another program from the words of the format.
+//! The texts of three generated studies, written by another program that implements the format.
 
 /// A number, and the text of its model.
 pub struct Row {
-    /// What is to be seen in the text.
+    /// What the text shows.
     pub shows: &'static str,
     /// The number of the study.
     pub number: u32,

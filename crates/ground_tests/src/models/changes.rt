@@ -3,19 +3,19 @@
 use super::texts::SEVENTEEN;
 use sample_models::ONE_DESK;
 
-/// A text in which the first `old` becomes `new`, and its refusal.
+/// A text in which the first `old` is replaced by `new`, and its refusal.
 pub struct Refused {
-    /// What is wrong then.
+    /// What is wrong with the changed text.
     pub shows: &'static str,
     /// What is replaced.
     pub old: &'static str,
-    /// What stands there then.
+    /// The replacement.
     pub new: &'static str,
     /// The number of the refusal.
     pub number: u32,
     /// The station, or 0 for the top.
     pub place: u32,
-    /// The key, or none where it is empty.
+    /// The key; empty if there is none.
     pub key: &'static str,
 }
 
@@ -583,7 +583,7 @@ pub const SMALL_CHANGES: &[Refused] = &[
     },
 ];
 
-/// Texts in the place of the small model.
+/// Texts used instead of the small model.
 pub const OTHER_TEXTS: &[Refused] = &[
     Refused {
         shows: "no text",

@@ -1,5 +1,5 @@
-//! Model texts of the tests. The first two are files of the folder `examples` at the top of the
-//! repository, byte for byte; the small model and `examples/clinic.toml` stand in `sample_models`.
+//! Model texts of the tests. The first two are files of the folder `examples` at the top of the repository, byte for
+//! byte. The small model and `examples/clinic.toml` are in `sample_models`.
 
 /// `examples/factory.toml`
 pub const FACTORY: &str =
@@ -130,7 +130,7 @@ name = "south"
 kind = "sink"
 "#;
 
-/// The small model with its stations as one inline array, its keys in another order.
+/// The small model with its stations as one inline array, and its keys in another order.
 pub const INLINE: &str =
     r#"station = [{ jobs = 2, every = [0x3, 3], kind = "source", name = "gate", link = [{ delay = 2, to = "desk" }] }, { name = "desk", kind = "server", servers = 1, room = 5, service = [4, 4], link = [{ to = "out", delay = 2 }] }, { name = "out", kind = "sink" }]
 horizon = 2_0

@@ -1,8 +1,8 @@
-//! Texts of models with two faults, and which of them is named.
+//! Model texts with two faults, and the fault that is reported.
 
 use super::changes::Refused;
 
-/// Changes to the small model after which two things are wrong, and the one that is refused.
+/// Changes to the small model after which two things are wrong, and the refusal that is reported.
 pub const FIRST_OF_TWO: &[Refused] = &[
     Refused {
         shows: "a key that a server does not have comes before one that it lacks",

@@ -151,8 +151,8 @@ pub const READ: &[&str] = &[
     "set base at 0 desk every 0 4294967295\nset base at 0 desk hold 0 0\nset base at 0 desk servers 0",
 ];
 
-/// A text, a clone or no name, and the canonical text of that clone's own script or of the whole one,
-/// with the lines and analysts of its items.
+/// A text, a clone or no name, and the canonical text of that clone's own script or of the whole script. The lines and
+/// analysts of its items follow.
 pub struct Own {
     /// What the row shows.
     pub shows: &'static str,

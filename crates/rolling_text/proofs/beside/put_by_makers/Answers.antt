@@ -43,7 +43,7 @@ pub start_batch-requires-clause-some : goal.start_batch-requires-clause-some
 start_batch-requires-clause-some g c =
     let until = ap (λ (s : TextSpan). s.until) c.batch.invariant.left in omega (arith, c.batch-test.true, until)
 
--- ---- where it cannot be, what is ready and what is left is put
+-- ---- no batch can be started: the ready part and the rest are put
 
 pub put_last-requires : goal.put_last-requires
 put_last-requires g c =
@@ -60,7 +60,7 @@ pub returns-in_default-clause-put : goal.returns-in_default-clause-put
 returns-in_default-clause-put g c =
     let h = c.batch.invariant in both_put _ _ _ _ h.left h.ready c.args.texts.now c.batch.texts _ _ h.put _ _ _ c.put_last.ensures.put
 
--- ---- what is ready is put
+-- ---- the ready part is put
 
 pub put_ready-requires-clause-may : goal.put_ready-requires-clause-may
 put_ready-requires-clause-may g c =

@@ -3,7 +3,7 @@ use Rattle.log_chain.specs.Times.{from_time}
 use Rattle.rolling_text.specs.Texts.{HaveShortLines}
 use Rattle.rolling_text.proofs.bounds.meet_log.Given as goal
 
--- it is enough that the lines that are left are short
+-- it is enough that the remaining lines are short
 abbrev pub invariant-loop-entry : goal.invariant-loop-entry
 invariant-loop-entry l = HaveShortLines l.model l.walk → HaveShortLines l.model (from_time l.from l.log)
 

@@ -13,7 +13,7 @@ overflow_sub-keep c =
     c.requires.margin c.requires.left in
     omega (arith, a, c.len.ensures.value)
 
--- what is kept and the clone's own rest are its lines
+-- the kept lines and the clone's own rest are its lines
 joined : (c : goal.After-put_head) → drop MARGIN c.cut.new.self.text
     ++ rest c.args.traces.now.net (clone_at c.args.traces.now.clones c.args.c) c.args.time
     ≡ body c.args.traces.now.net (clone_at c.args.traces.now.clones c.args.c)

@@ -7,7 +7,7 @@ use Rattle.rolling_text.specs.Texts.{AreLeft, CanPut}
 use Rattle.trace_report.specs.Outputs.{clone_text}
 use Rattle.rolling_text.proofs.putting.put_all.Given as goal
 
--- nothing is said of the margin before the lines: they are what the last head left
+-- the margin may have any content, left by the last name line
 abbrev pub invariant-loop-c : goal.invariant-loop-c
 invariant-loop-c g l = record {
   puts_for : g.P.SpanPutter.puts_for l.putter l.traces;

@@ -6,7 +6,7 @@ use Rattle.rolling_text.proofs.Keeping.{dropped_next}
 use Rattle.rolling_text.proofs.Puts.{cut_part, end_cut, rest_cut, text_put}
 use Rattle.rolling_text.proofs.putting.put_text.Goals as goal
 
--- ---- the lines kept of the text before it, and the rest
+-- ---- the lines kept of the previous text, and the rest
 
 pub returns-in-Err-clause-err : goal.returns-in-Err-clause-err
 returns-in-Err-clause-err g c = cut_part _ _ _ _ _ c.begin_text-start.ensures.text c.in-Err.ensures.err

@@ -5,7 +5,7 @@ use Rattle.station_steps.specs.Windows.{AllFlow, bound_of}
 use Rattle.station_steps.proofs.Flows.{AreStations-stepped}
 use Rattle.station_steps.proofs.stepping.step_by_crew.Goals as goal
 
--- there is no place where there is one
+-- an option is not both Some and None
 none_some : {X : Type 0} (x : X) → Some x ≡ None → ⊥
 none_some x e = absurd (cc)
 
