@@ -44,20 +44,6 @@ pub occurrences-append : (x : ℕ) (xs ys : List ℕ) → occurrences x (xs ++ y
 occurrences-append x [] ys = omega arith
 occurrences-append x (y ∷ xs) ys = omega (arith, occurrences-append x xs ys)
 
--- ---- one_if_below, one_if_same
-
--- the count below n + 1 is the count below n, and n itself
-pub one_if_below-next : (x n : ℕ) → one_if_below x (n + 1) ≡ one_if_below x n + one_if_same x n
-one_if_below-next x n = grind arith
-
--- a number that is in the deque was dealt
-one_if_below-in : (x n rest before : ℕ) → rest + (1 + before) ≡ one_if_below x n → x < n
-one_if_below-in x n rest before e = grind (arith, e)
-
--- a number is the same as itself
-one_if_same-refl : (x : ℕ) → one_if_same x x ≡ 1
-one_if_same-refl x = grind arith
-
 -- ---- sum_by
 
 -- the sum after one seat has changed

@@ -27,10 +27,6 @@ HasTaken-next {X} asks parts more now items v w taken ps e sum h =
     × EachPair (asks y.dealt) ps) e h in
     (s.0 ∙ ap (λ (k : ℕ). seat_view k items (numbers ps)) (sym sum), s.1)
 
--- a seat that begins knows its items
-pub start-own : {X : Type 0} (items : List X) (v : SeatView X) → v ≡ seat_view 1 items [] → v ≡ seat_view 1 v.dealt []
-start-own {X} items v e = subst (λ (y : SeatView X). y ≡ seat_view 1 y.dealt []) (sym e) refl
-
 -- ---- the end of a call
 
 -- after the owner has popped, taken n seats back and popped again, it has every part, and knows the items

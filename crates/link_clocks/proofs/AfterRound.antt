@@ -93,10 +93,6 @@ module _ (net : Net) (cs : List Clone) (k : ℕ) (procs : List ProcView) (flows 
       subst (λ s. StandsAtCut (simulation net) has cs cut s (copies_at procs i)) (add-one i)
       (stand_of i (omega (arith, l)))
 
-  -- the number of the station at a place
-  station_at : (i : ℕ) → i < length net.sites → IsStation (simulation net) (i + 1)
-  station_at i l = (omega arith, omega (arith, l))
-
   -- the result of a station is that of its copies
   pub is_flow : (i : ℕ) (l : i < length net.sites) (flow : Flow) → slice_get flows i ≡ Some flow →
       IsFlow net (ends_of (simulation net) cs) (next (i + 1)) i (proc_of i l).0 flow

@@ -1,5 +1,5 @@
 -- One more round of a run in rounds.
-use Rattle.std.proofs.Common.{◌≡◌, ℕ, suc, ◌+◌, ◌-◌, ◌<◌, ◌≤◌, Err, IfErr, IfOk, Ok, Result, ap, arith, length, refl}
+use Rattle.std.proofs.Common.{◌≡◌, ℕ, suc, ◌+◌, ◌-◌, ◌<◌, ◌≤◌, Err, IfErr, IfOk, Ok, Result, ap, arith, length}
 use Rattle.std.proofs.Common.{subst, sym, ◌∙◌}
 use Rattle.sim_base.specs.Clones.{clone_at}
 use Rattle.net_model.specs.Rules.{IsNet}
@@ -19,10 +19,6 @@ use Rattle.link_clocks.proofs.RoundCounts.{rounds-below}
 use Rattle.linked_run.specs.Linking.{HasGoneOn, HasStopped, IsGoingBefore, IsOverrun}
 
 -- ---- HasGoneOn
-
--- the run at its start
-pub HasGoneOn-first : (w : LinkView) (s : ℕ) → HasGoneOn w w s s
-HasGoneOn-first w s = record { net_is = refl; clones_are = refl; going = λ first. first; steps = refl }
 
 module _ (old w : LinkView) (s t : ℕ) (gone : HasGoneOn old w s t) where
   -- the run after one more round

@@ -2,7 +2,6 @@
 use Rattle.std.proofs.Common.{◌≡◌, ℕ, zero, suc, ◌+◌, ◌<◌, ◌≤◌, List, [], ◌∷◌, ◌++◌, length, drop, get_or}
 use Rattle.std.proofs.Common.{refl, sym, ap, subst, ◌∙◌, append_assoc, arith}
 use Rattle.std.proofs.lemmas.List.{drop_more}
-use Rattle.std.proofs.Math.ListN.{drop_of_length-le}
 use Rattle.std.specs.declared.vec.Vec.{Vec}
 use Rattle.crew_pool.specs.Tasks.{EachAt}
 use Rattle.sim_base.specs.Clones.{clone_at}
@@ -71,8 +70,3 @@ bytes_of-next {Z} buffers i b bytes after below is value =
     ap (λ l. l ++ (bytes_of (drop (i + 1) buffers) ++ after)) (value ∙ ap (λ (v : Vec ℕ Z). v.items) is)
     ∙ sym (ap (λ l. bytes_of l ++ after) (drop_more buffers i b below)
     ∙ append_assoc (get_or buffers i b).items (bytes_of (drop (i + 1) buffers)) after)
-
--- after the last buffer there is none
-pub bytes_of-end : {Z : Type 0} (buffers : List (Vec ℕ Z)) (i : ℕ) (after : List ℕ) → length buffers ≤ i →
-    bytes_of (drop i buffers) ++ after ≡ after
-bytes_of-end buffers i after end = ap (λ l. bytes_of l ++ after) (drop_of_length-le buffers {i = i} end)

@@ -25,13 +25,3 @@ span_between traces c from until =
 -- these are the lines of a span: followed by the lines from its end on, they are the lines from its beginning on
 abbrev pub IsMade : Span → List ℕ → Type 0
 IsMade span lines = lines ++ rest span.net span.list span.until ≡ rest span.net span.list span.from
-
--- the part of a span up to another time
-abbrev pub span_until : Span → ℕ → Span
-span_until span time =
-    record { net = span.net; list = span.list; from = span.from; until = time }
-
--- the part of a span from another time on
-abbrev pub span_since : Span → ℕ → Span
-span_since span time =
-    record { net = span.net; list = span.list; from = time; until = span.until }

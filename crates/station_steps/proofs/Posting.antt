@@ -1,5 +1,5 @@
 -- Mail posted to stations, one after the other.
-use Rattle.std.proofs.Common.{◌≡◌, ℕ, ◌+◌, ◌<◌, ◌≤◌, List, inl, inr, Some, refl}
+use Rattle.std.proofs.Common.{◌≡◌, ℕ, ◌+◌, ◌<◌, ◌≤◌, List, inl, inr, Some}
 use Rattle.std.proofs.Common.{sym, ap, ◌∙◌, subst, arith, length, length-set, get_or, slice_get, slice_set}
 use Rattle.std.proofs.lemmas.Bool.{cases_eq}
 use Rattle.std.proofs.lemmas.Option.{same_Some, slice_get_within}
@@ -16,15 +16,6 @@ pub record PostedTo (ms : MarkedMessages) (n : ℕ) (olds news : List ProcView) 
       → IsDeliveredTo (sent_to i ms) p q
   pub others : (i : ℕ) → n ≤ i → slice_get news i ≡ slice_get olds i
 
--- at first none has
-pub PostedTo-none : (ms : MarkedMessages) (olds : List ProcView) → PostedTo ms 0 olds olds
-PostedTo-none ms olds = record {
-  count = refl;
-  each = λ i p q l a b. absurd (omega (arith, l));
-  others = λ i l. refl;
-}
-
--- after posting to the next station, n + 1 have
 pub PostedTo-next : (ms : MarkedMessages) (n : ℕ) (olds news : List ProcView) (was now : ProcView)
     → PostedTo ms n olds news → n < length olds → was ≡ get_or news n was → IsDeliveredTo (sent_to n ms) was now
     → PostedTo ms (n + 1) olds (slice_set news n now)

@@ -1,17 +1,14 @@
 -- The tasks of a window and their results, place by place.
-use Rattle.std.proofs.Common.{◌≡◌, ◌∙◌, ◌++◌, ℕ, List, [], ◌∷◌, Some, None, ap, arith, get_or, inl, inr, length, refl}
+use Rattle.std.proofs.Common.{ℕ, List, [], arith, get_or}
 use Rattle.std.proofs.Common.{subst, sym}
-use Rattle.std.proofs.lemmas.List.{length_push}
 use Rattle.std.proofs.lemmas.Option.{slice_get_within, get_or_from_slice_get}
 use Rattle.net_model.specs.Net.{Net}
-use Rattle.run_laws.proofs.Lists.{slice_get-push}
 use Rattle.phys_proc.specs.Procs.{ProcView}
 use Rattle.station_steps.specs.declared.flow.Flow.{Flow}
 use Rattle.crew_pool.specs.Tasks.{AnswersTo, EachAt, MayRunAll}
 use Rattle.station_steps.specs.Tasks.{AreSteps, IsStationTask}
 use Rattle.station_steps.specs.Windows.{AllFlow, AreBounds, AreStations, IsFlow, bound_of}
 use Rattle.station_steps.specs.declared.tasks.StationTask.{StationTask}
-use Rattle.station_steps.proofs.InPlace.{slice_get-append, slice_get-last}
 use Rattle.station_steps.proofs.Places.{got_within}
 
 -- the task of these copies and this bound
@@ -39,33 +36,6 @@ steps_may_run net procs bounds tasks are all bounded = record {
           bounded.early i 0 (let n = are.count in let k = bounded.count in
               omega (arith, l, n, k)),
         )
-
--- ---- AreSteps
-
--- without stations there are no tasks
-pub AreSteps-none : (bounds : List ℕ) → AreSteps [] bounds []
-AreSteps-none bounds = record { count = refl; each = λ i p got. absurd (none_got p got) }
-  where
-    none_got : (p : ProcView) → None ≡ Some p → ⊥
-    none_got p e = absurd (cc)
-
--- one more station, to the bound at its place
-pub AreSteps-push : (procs : List ProcView) (bounds : List ℕ) (tasks : List StationTask) (p : ProcView) (bound : ℕ)
-    → AreSteps procs bounds tasks → bound ≡ bound_of bounds (length tasks)
-    → AreSteps (procs ++ p ∷ []) bounds (tasks ++ step_task p bound ∷ [])
-AreSteps-push procs bounds tasks p bound h is = record {
-  count = let n = length_push tasks (step_task p bound) in let m = length_push procs p in let k = h.count in
-      omega (arith, n, m, k);
-  each = λ i q got. elim (slice_get-push procs p q i got) [
-    | inl old ↦ slice_get-append tasks (step_task p bound ∷ []) i
-        (let l = slice_get_within procs i q old in let k = h.count in omega (arith, l, k)) ∙ h.each i q old
-    | inr new ↦
-        let place : i ≡ length tasks = new.0 ∙ sym h.count in
-        slice_get-last tasks (step_task p bound) i (sym place)
-        ∙ ap Some (ap (λ x. step_task x bound) (sym new.1)
-        ∙ ap (step_task q) (is ∙ ap (bound_of bounds) (sym place)))
-  ];
-}
 
 -- ---- EachAt
 

@@ -1,29 +1,23 @@
 -- The run of one clone alone.
-use Rattle.std.proofs.Common.{◌≡◌, ℕ, ◌+◌, ◌<◌, ◌≤◌, refl, sym, subst, ap}
+use Rattle.std.proofs.Common.{◌≡◌, ℕ, ◌+◌, ◌≤◌, refl, sym, ap}
 use Rattle.std.proofs.Common.{ap₂, ◌∙◌, arith, min, List, [], length, Option, unwrap_or}
 use Rattle.std.proofs.Math.Nat.{min-eq_right, min-le_left, min-le_right}
 use Rattle.sim_base.specs.Order.{msg_cmp}
-use Rattle.sim_base.specs.Clones.{Clone, clone_at}
+use Rattle.sim_base.specs.Clones.{Clone}
 use Rattle.sim_base.specs.declared.decision.Planned.{Planned}
-use Rattle.sim_base.specs.declared.entry.Entry.{Entry}
-use Rattle.sim_base.specs.declared.entry.Line.{Line}
-use Rattle.sim_base.specs.declared.message.Msg.{Msg}
 use Rattle.net_model.specs.Net.{Net}
-use Rattle.run_laws.specs.Handlers.{IsStation}
 use Rattle.run_laws.specs.Machine.{run_to}
 use Rattle.run_laws.specs.Runs.{end_of, run}
-use Rattle.run_laws.specs.World.{first_world, log_of}
+use Rattle.run_laws.specs.World.{first_world}
 use Rattle.stations.specs.Runs.{simulation, trace_of}
-use Rattle.solo_run.specs.Limit.{first_beyond, receiver}
+use Rattle.solo_run.specs.Limit.{first_beyond}
 use Rattle.solo_run.specs.SoloView.{IsSolo, SoloView, config_of}
 use Rattle.solo_run.specs.Turns.{Stops, run_from, step_of}
 use Rattle.solo_run.specs.declared.turn.SoloFault.TheVariants.{Limit}
 use Rattle.solo_run.proofs.ToFront.{trace-short}
-use Rattle.study_run.specs.Faults.{IsFaultAlone, IsFaultUntil, StopsAlone}
-use Rattle.study_run.specs.Limits.{IsFirstFull, IsWithin, MeetsLimitAlone, last_time, until}
+use Rattle.study_run.specs.Faults.{StopsAlone}
+use Rattle.study_run.specs.Limits.{IsWithin, last_time, until}
 use Rattle.study_run.specs.Work.{IsFew}
-use Rattle.study_run.specs.declared.fault.StudyFault.{StudyFault}
-use Rattle.study_run.specs.declared.fault.StudyFault.TheVariants.{LimitMet, NoMemory}
 use Rattle.study_run.proofs.Fulls.{met_alone, within_alone}
 
 -- ---- trace_of
@@ -107,45 +101,3 @@ last_time-within net time c =
 pub until-last : (net : Net) (time front : ℕ) (c : Clone) → front ≡ last_time net time c
     → front ≡ min net.horizon (end_of (simulation net) (until net time c))
 until-last net time front c is = is ∙ sym (min-eq_right (last_time-within net time c))
-
--- ---- until
-
--- up to the horizon it is the clone's whole run
-module _ (net : Net) (c : Clone) where
-  last_is : min net.horizon (last_time net net.horizon c) ≡ min net.horizon (end_of (simulation net) c)
-  last_is =
-      min-eq_right (last_time-within net net.horizon c)
-      ∙ min-eq_right (min-le_left net.horizon (end_of (simulation net) c))
-
-  pub until-trace : trace_of net (until net net.horizon c) ≡ trace_of net c
-  until-trace = ap (λ b. (run (simulation net) c.plans b).at.trace) last_is
-
-  -- no log is longer than the limit
-  pub until-within : IsWithin net (until net net.horizon c) → IsWithin net c
-  until-within h = subst (λ (t : List (Entry Msg Line)). (s : ℕ) → IsStation (simulation net) s
-      → ¬ (net.limit < length (log_of receiver s t))) until-trace h
-
-  -- or the limit is met
-  pub until-meets : (station : ℕ) → MeetsLimitAlone net (until net net.horizon c) station
-      → MeetsLimitAlone net c station
-  until-meets station h = record {
-    is_station = h.is_station;
-    first = subst (λ (t : List (Entry Msg Line)). IsFirstFull net.limit t station) until-trace h.first;
-  }
-
-  pub until-stops : (place old new station who : ℕ)
-      → StopsAlone net (until net net.horizon c) place old new station who
-      → StopsAlone net c place old new station who
-  until-stops place old new station who h = record {
-    meets = until-meets station h.meets;
-    is_it = h.is_it;
-    few = h.few;
-  }
-
--- a fault of a run up to the horizon is one of the whole run
-pub until-fault : (net : Net) (time : ℕ) (cs : List Clone) (place old new : ℕ) (e : StudyFault) → time ≡ net.horizon
-    → IsFaultUntil net time cs place old new e → IsFaultAlone net cs place old new e
-until-fault net time cs place old new NoMemory is h = tt
-until-fault net time cs place old new (LimitMet station who) is h =
-    until-stops net (clone_at cs place) place old new station who
-    (subst (λ f. StopsAlone net (until net f (clone_at cs place)) place old new station who) is h)

@@ -14,7 +14,7 @@ use Rattle.world_core.specs.declared.world.WorldFault.TheVariants.{EventLimit, N
 use Rattle.study_run.specs.Faults.{IsFaultOfAll, StopsAll, fault_of_window}
 use Rattle.study_run.proofs.Meeting.{found_met}
 use Rattle.study_run.specs.Overs.{HasCome}
-use Rattle.study_run.proofs.OverLaws.{comes_next, over_here, rises}
+use Rattle.study_run.proofs.OverLaws.{comes_next, over_here}
 
 -- ---- station_sum
 -- at first nothing was handled
@@ -48,11 +48,6 @@ module _ (net told : Net) (cs those : List Clone) (front bound : ℕ) (same_net 
   next_is : bound ≡ next_front net cs front
   next_is = next ∙ ap₂ (λ (n : Net) l. next_front n l front) same_net same_clones
 
-  -- the next front is later
-  pub rises_in : IsNet net → front < bound
-  rises_in valid = let r = rises net cs valid front below in let e = next_is in omega (arith, r, e)
-
-  -- if no log is beyond the limit there, the run has reached it
   pub comes_in : (now : ℕ) → now ≡ bound → IsNet net → HasCome net cs front → NoneBeyond told those bound
       → HasCome net cs now
   comes_in now is valid come none =

@@ -1,6 +1,6 @@
 -- Rows, clone by clone, and the position of an earlier clone's row of a server.
 use Rattle.std.proofs.Common.{◌≡◌, ℕ, zero, suc, ◌+◌, ◌-◌, ◌*◌, ◌<◌, ◌≤◌, List, [], ◌∷◌, ◌++◌, Bool, true, false}
-use Rattle.std.proofs.Common.{if◌then◌else◌, length, take, refl, sym, ap, ◌∙◌, subst, arith, append_assoc, append-nil}
+use Rattle.std.proofs.Common.{if◌then◌else◌, length, take, refl, sym, ap, ◌∙◌, subst, arith, append_assoc}
 use Rattle.std.proofs.Common.{length-append, Some, ◌⊎◌, inl, inr}
 use Rattle.std.specs.List.{All, slice_get}
 use Rattle.std.proofs.Math.Nat.{add-mul, suc-mul}
@@ -36,11 +36,6 @@ clone_at-take (x ∷ xs) (suc c) (suc f) low = clone_at-take xs c f (omega (arit
 
 -- ---- rows that are appended
 
--- no row of a clone precedes that of its first station
-pub rows_before-none : (net : Net) (cs : List Clone) (c : ℕ) → rows_before net cs c 0 ≡ rows net (take c cs)
-rows_before-none net cs c = append-nil (rows net (take c cs))
-
--- the rows of one more station
 pub rows_before-more : (net : Net) (cs : List Clone) (c s : ℕ)
     → rows_before net cs c s ++ station_rows net (clone_at cs c) (s + 1) ≡ rows_before net cs c (s + 1)
 rows_before-more net cs c s =
