@@ -1,6 +1,6 @@
 //! The log of a logical process: the messages that a station has handled, in order, each with the counts after it.
 ghost use Rattle.std.specs.Prelude.{◌≡◌, ◌++◌, ◌∷◌, [], ◌+◌, ◌^◌, ◌<◌, ◌≤◌, length};
-ghost use Rattle.std.specs.Prelude.{drop, OnOk, OnErr, IfOk, IsTrue, ◌↔◌, slice_index, slice_index_or};
+ghost use Rattle.std.specs.Prelude.{drop, OnOk, OnErr, IfOk, IsTrue, slice_index, slice_index_or};
 ghost use Rattle.log_chain.specs.Packing.{FitWords};
 ghost use Rattle.log_chain.specs.Times.{RiseByTime, from_time, times_of};
 ghost use Rattle.sim_base.specs.declared.limits.TheConstants.{MOST_HANDLED};
@@ -121,13 +121,6 @@ impl Log {
         ensures value { result ≡ length self.now }
     {
         self.shared + self.more as u64
-    }
-
-    /// Whether it is empty.
-    pub fn is_empty(&self) -> bool
-        ensures value { IsTrue result ↔ (self.now ≡ []) }
-    {
-        self.len() == 0
     }
 
     /// The entry at a place.

@@ -3,7 +3,7 @@
 ghost use Rattle.std.specs.Prelude.{◌≡◌, Some, None, MatchOption};
 
 use crate::errand::Errand;
-use crate::mail::{ANSWERED, Chair, MailTable};
+use crate::mail::{Chair, MailTable};
 use crate::steps::{give_task, undo, wait_for_answer};
 use std::marker::Model;
 use std::sync::{Arc, Wait};
@@ -54,10 +54,5 @@ impl<T: Drop, A: Drop, E: Errand<T, A>> Caller<T, A, E> {
         ensures idle { self.new ≡ None }
     {
         wait_for_answer(rt, &self.table.shared, &mut self.seat)
-    }
-
-    /// Whether the answer is there: a hint.
-    pub fn is_answered(&self) -> bool {
-        self.table.shared.peek(0) == ANSWERED
     }
 }

@@ -24,8 +24,8 @@
 //! ```
 //!
 //! Cost: `open` allocates the slot, and nothing else allocates. A call is one or two atomic steps and a move of the
-//! task or the answer. `collect` yields its processor between looks, and does not sleep. [`Caller::is_answered`] and
-//! [`Worker::has_task`] are one load each; their results may be out of date when they are read.
+//! task or the answer. `collect` yields its processor between looks, and does not sleep. [`Worker::has_task`] is one
+//! load; its result may be out of date when it is read.
 //!
 //! Promise: **the collected answer is an answer to the very task that was given**, whatever the threads do in between.
 //! An [`Errand`] defines the allowed answers to a task. A task that is taken back is the one that was given: either the

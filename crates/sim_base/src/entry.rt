@@ -1,6 +1,4 @@
 //! Entries of a log: a handled message, and the station's counts after it.
-ghost use Rattle.std.specs.Prelude.{◌≡◌};
-ghost use Rattle.std.specs.Bool.{Decides};
 
 use crate::message::Msg;
 
@@ -36,11 +34,4 @@ pub struct Entry<M = Msg, N = Line> {
     pub msg: M,
     /// The station's counts after it.
     pub line: N,
-}
-
-/// Whether two entries are equal: the message with its receiver and payload, and every count.
-pub fn same_entry(a: &Entry, b: &Entry) -> bool
-    ensures equal { Decides result (a.now ≡ b.now) }
-{
-    a.msg == b.msg && a.line == b.line
 }

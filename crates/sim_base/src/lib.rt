@@ -46,7 +46,7 @@ pub mod reserved;
 pub mod steps;
 
 pub use decision::{Decision, Planned, same_plan};
-pub use entry::{Entry, Line, same_entry};
+pub use entry::{Entry, Line};
 pub use figures::Figures;
 pub use limits::MOST_FILE_BYTES;
 pub use lists::{Lists, MOST_CLONES, MOST_DECISIONS};

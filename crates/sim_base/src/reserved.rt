@@ -1,6 +1,6 @@
 //! Lists with reserved memory: a push within it allocates nothing.
 ghost use Rattle.std.specs.Prelude.{◌≡◌, ◌++◌, ◌∷◌, [], ◌<◌, ◌≤◌, ◌+◌, length};
-ghost use Rattle.std.specs.Prelude.{IsTrue, OnOk, OnErr, IfOk, IsOk, IfSome, IfNone, ◌↔◌};
+ghost use Rattle.std.specs.Prelude.{OnOk, OnErr, IfOk, IsOk, IfSome, IfNone};
 
 use crate::memory::NoMemory;
 use std::alloc::Global;
@@ -12,6 +12,7 @@ use std::marker::Model;
 #[derive(Drop)]
 pub struct Reserved<T: Drop> {
     items: Vec<T>,
+    // for how many elements memory is reserved: contracts alone see it
     reserved: usize,
 }
 
@@ -70,20 +71,6 @@ impl<T: Drop> Reserved<T> {
         ensures value { result ≡ length self.now.items }
     {
         self.items.len()
-    }
-
-    /// Whether it is empty.
-    pub fn is_empty(&self) -> bool
-        ensures value { IsTrue result ↔ (self.now.items ≡ []) }
-    {
-        self.items.is_empty()
-    }
-
-    /// The number of elements that memory is reserved for.
-    pub fn reserved(&self) -> usize
-        ensures value { result ≡ self.now.reserved }
-    {
-        self.reserved
     }
 
     /// Its elements.
