@@ -13,7 +13,7 @@ import re
 import crate_list
 
 PAGE = "docs/GLOSSARY.md"
-TYPE = re.compile(r"((?:^///.*\n)+)(?:^#\[.*\n)*^pub (?:struct|enum|trait) (\w+)", re.M)
+TYPE = re.compile(r"((?:^///.*\n)+)(?:^#\[.*\n)*^pub (?:struct|enum|trait|type) (\w+)", re.M)
 
 
 def exported(crate):

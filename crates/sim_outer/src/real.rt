@@ -6,7 +6,7 @@ ghost use Rattle.sim_outer.specs.Files.{prefix_of};
 use crate::inputs::{FetchFault, Inputs, MOST_FETCHED};
 use crate::sink::{PutFailed, Sink};
 use std::alloc::Global;
-use std::io::{self, Read, Write};
+use std::io::{self, Printer, Read, Write};
 use std::marker::Model;
 use std::rt::Files;
 use std::{fs, str};
@@ -50,14 +50,14 @@ impl<'a, R: Files> Inputs for FileInputs<'a, R> {
     }
 }
 
-/// Standard output. Contracts see the count of faults.
+/// A sink over a writer of the system. Contracts see the count of faults.
 #[derive(Drop)]
-pub struct OutSink<'a, R: Print> {
-    rt: &'a R,
+pub struct WriterSink<W: Drop> {
+    writer: W,
     faults: u64,
 }
 
-impl<'a, R: Print> Model for OutSink<'a, R> {
+impl<W: Drop> Model for WriterSink<W> {
     ghost use Rattle.std.specs.Prelude.{ℕ};
 
     ghost Value = { ℕ };
@@ -65,74 +65,55 @@ impl<'a, R: Print> Model for OutSink<'a, R> {
     ghost view = { λ s. s.faults };
 }
 
-impl<'a, R: Print> OutSink<'a, R> {
+impl<W: Write + Drop> Sink for WriterSink<W> {
+    ghost view = { λ s. record { bytes = None; faults = s; calls = None } };
+
+    fn put(&mut self, piece: &[u8]) -> Result<(), PutFailed> {
+        let put = write_whole(&mut self.writer, piece);
+        if put.is_err() {
+            self.faults = self.faults.saturating_add(1);
+        }
+        put
+    }
+
+    fn put_part(&mut self, part: &[u8]) -> Result<(), PutFailed> {
+        self.put(part)
+    }
+}
+
+/// Standard output.
+pub type OutSink<'a, R> = WriterSink<Printer<'a, R>>;
+
+impl<'a, R: Print> WriterSink<Printer<'a, R>> {
     /// The standard output of the system.
     pub fn new(rt: &'a R) -> OutSink<'a, R>
         ensures value { result ≡ 0 }
     {
-        OutSink { rt, faults: 0 }
-    }
-}
-
-impl<'a, R: Print> Sink for OutSink<'a, R> {
-    ghost view = { λ s. record { bytes = None; faults = s; calls = None } };
-
-    fn put(&mut self, piece: &[u8]) -> Result<(), PutFailed> {
-        let put = write_whole(&mut io::writer(self.rt), piece);
-        if put.is_err() {
-            self.faults = self.faults.saturating_add(1);
+        WriterSink {
+            writer: io::writer(rt),
+            faults: 0,
         }
-        put
-    }
-
-    fn put_part(&mut self, part: &[u8]) -> Result<(), PutFailed> {
-        self.put(part)
     }
 }
 
-/// Standard error. It takes only text: nothing of a piece that is not UTF-8. Contracts see the count of faults.
-#[derive(Drop)]
-pub struct ErrSink<'a, R: Eprint> {
-    rt: &'a R,
-    faults: u64,
-}
+/// Standard error. It takes only text: nothing of a piece that is not UTF-8.
+pub type ErrSink<'a, R> = WriterSink<ErrorWriter<'a, R>>;
 
-impl<'a, R: Eprint> Model for ErrSink<'a, R> {
-    ghost use Rattle.std.specs.Prelude.{ℕ};
-
-    ghost Value = { ℕ };
-
-    ghost view = { λ s. s.faults };
-}
-
-impl<'a, R: Eprint> ErrSink<'a, R> {
+impl<'a, R: Eprint> WriterSink<ErrorWriter<'a, R>> {
     /// The standard error of the system.
     pub fn new(rt: &'a R) -> ErrSink<'a, R>
         ensures value { result ≡ 0 }
     {
-        ErrSink { rt, faults: 0 }
-    }
-}
-
-impl<'a, R: Eprint> Sink for ErrSink<'a, R> {
-    ghost view = { λ s. record { bytes = None; faults = s; calls = None } };
-
-    fn put(&mut self, piece: &[u8]) -> Result<(), PutFailed> {
-        let put = write_whole(&mut ErrorWriter { rt: self.rt }, piece);
-        if put.is_err() {
-            self.faults = self.faults.saturating_add(1);
+        WriterSink {
+            writer: ErrorWriter { rt },
+            faults: 0,
         }
-        put
-    }
-
-    fn put_part(&mut self, part: &[u8]) -> Result<(), PutFailed> {
-        self.put(part)
     }
 }
 
-// Standard error as a writer.
+/// Standard error as a writer.
 #[derive(Drop)]
-struct ErrorWriter<'a, R: Eprint> {
+pub struct ErrorWriter<'a, R: Eprint> {
     rt: &'a R,
 }
 
