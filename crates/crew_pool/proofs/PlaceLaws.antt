@@ -2,6 +2,7 @@
 use Rattle.std.proofs.Common.{◌≡◌, ◌≢◌, ℕ, ◌+◌, ◌<◌, List, [], ◌∷◌, ◌++◌, length, set, map, Option, Some, None, IfSome, sym, ap, ◌∙◌, subst, ⊎_elim, arith, get_or}
 use Rattle.std.proofs.lemmas.Bool.{cases_eq}
 use Rattle.std.proofs.lemmas.Grind.{get_or-set_at}
+use Rattle.std.proofs.lemmas.Option.{none-some}
 use Rattle.std.proofs.lemmas.List.{get_or-set_other, get_or-map, length-map, length-set}
 use Rattle.crew_pool.specs.Tasks.{EachAt}
 use Rattle.crew_pool.specs.Deque.{occurrences, one_if_same, one_if_below, numbers, EachPair}
@@ -35,9 +36,6 @@ EachPair-split asks (q ∷ qs) p all = let r = EachPair-split asks qs p all.1 in
 
 -- ---- ArePlaced
 
-none-some : {Y : Type 0} (y : Y) → Some y ≢ None
-none-some {Y} y e = subst (λ (o : Option Y). IfSome o (λ _. ⊥)) (sym e) tt
-
 -- nothing lies at empty places
 pub ArePlaced-empty : {Y : Type 0} (asks : ℕ → Y → Type 0) (places : List (Option Y)) → AreIdle places
     → ArePlaced asks places []
@@ -54,7 +52,7 @@ ArePlaced-put asks places ps p below one all j d less =
     (λ (same : j ≡ p.0).
     let here : get_or (set places p.0 (Some p.1)) j d ≡ Some p.1 = get_or-set_at places p.0 j (Some p.1) d same below in (
       subst (λ o. IfSome o (λ y. asks j y)) (sym here) (subst (λ (n : ℕ). asks n p.1) (sym same) one),
-      λ _ none. none-some p.1 (sym here ∙ none),
+      λ _ none. none-some p.1 (sym none ∙ here),
     ))
     (λ (other : j ≢ p.0).
     let kept : get_or (set places p.0 (Some p.1)) j d ≡ get_or places j d =

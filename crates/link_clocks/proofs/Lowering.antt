@@ -1,8 +1,8 @@
 -- Each link lowers the bound of the station that it leads to.
-use Rattle.std.proofs.Common.{◌≡◌, ℕ, zero, suc, ◌+◌, ◌-◌, ◌<◌, ◌≤◌, ◌==◌, min, List, [], ◌∷◌, ◌++◌, inl, inr, cond}
-use Rattle.std.proofs.Common.{sym, ap, ◌∙◌, arith, map, length, slice_index, slice_set, get_or, eq-eqb}
+use Rattle.std.proofs.Common.{◌≡◌, ℕ, ◌+◌, ◌-◌, ◌<◌, ◌≤◌, ◌==◌, min, List, [], ◌∷◌, ◌++◌, inl, inr, cond}
+use Rattle.std.proofs.Common.{sym, ap, ◌∙◌, arith, map, length, slice_index, slice_set, eq-eqb}
 use Rattle.std.proofs.Common.{append-nil}
-use Rattle.std.specs.List.{filter, AllByRecursion}
+use Rattle.std.specs.List.{filter}
 use Rattle.std.proofs.lemmas.Bool.{cases_eq, ne_eqb}
 use Rattle.std.proofs.lemmas.List.{get_or-set_same, get_or-set_other, map-append}
 use Rattle.std.proofs.lemmas.List.Elements.{filter-append}
@@ -10,14 +10,6 @@ use Rattle.net_model.specs.declared.station.Link.{Link}
 use Rattle.link_laws.specs.Clocks.{least_with}
 use Rattle.link_clocks.specs.NetClocks.{delays_to, AreLowered}
 
--- a property of all elements holds at each place
-pub all_at : {X : Type 0} (P : X → Type 0) (xs : List X) (i : ℕ) (d : X) → AllByRecursion P xs → i < length xs →
-    P (get_or xs i d)
-all_at P [] i d h l = absurd (omega (arith, l))
-all_at P (x ∷ xs) zero d h l = h.0
-all_at P (x ∷ xs) (suc i) d h l = all_at P xs i d h.1 (omega (arith, l))
-
--- one more delay lowers the least
 least_with-push : (t : ℕ) (ds : List ℕ) (d b : ℕ) → least_with t (ds ++ d ∷ []) b ≡ min (least_with t ds b) (t + d)
 least_with-push t [] d b = omega arith
 least_with-push t (e ∷ ds) d b = let h = least_with-push t ds d b in omega (arith, h)

@@ -1,7 +1,7 @@
 -- A station of a network sends to itself, or over one of its links, which takes that link's delay.
 use Rattle.std.proofs.Common.{◌≡◌, ℕ, zero, suc, ◌+◌, ◌-◌, ◌≤◌, ◌==◌, ◌%◌, List, [], ◌∷◌, ◌++◌, ◌⊎◌, inl, inr, cond}
 use Rattle.std.proofs.Common.{Bool, true, false}
-use Rattle.std.proofs.Common.{refl, sym, ap, subst, arith, length, slice_get, Option, Some, None, nat_lt}
+use Rattle.std.proofs.Common.{refl, sym, subst, arith, length, slice_get, Option, Some, None, nat_lt}
 use Rattle.std.specs.List.{AllByRecursion, filter}
 use Rattle.sim_base.specs.declared.message.Msg.{Msg}
 use Rattle.sim_base.specs.declared.message.Job.{Job as JobOf}
@@ -31,15 +31,14 @@ use Rattle.stations.specs.Routers.{router_on}
 use Rattle.stations.specs.Good.{IsGood}
 use Rattle.stations.specs.Runs.{simulation}
 use Rattle.net_model.specs.Rules.{IsNet, IsLink}
-use Rattle.net_model.specs.Net.{HasStation, site_at, no_site}
+use Rattle.net_model.specs.Net.{HasStation}
 use Rattle.run_laws.proofs.Queue.{all_in}
 use Rattle.run_laws.proofs.Lists.{in_filter, filter_keeps}
 use Rattle.run_laws.proofs.Counts.{in_map, map_has}
-use Rattle.std.proofs.Common.{eq-eqb, unwrap_or}
-use Rattle.std.proofs.lemmas.Option.{slice_get_cases}
+use Rattle.std.proofs.Common.{eq-eqb}
 use Rattle.link_laws.specs.Clocks.{KeepsToLinks}
 use Rattle.link_clocks.specs.NetClocks.{delays_to, delays_of}
-use Rattle.stations.proofs.Lawful.{site_valid, number_in, site_is}
+use Rattle.stations.proofs.Lawful.{site_cases, site_valid, number_in, site_is}
 use Rattle.stations.specs.Handling.{StateView, kind_on, handle}
 
 -- a property of both results of a test
@@ -210,14 +209,6 @@ in_delays : (links : List Link) (s d : ℕ) → In d (delays_to links s) → (l 
 in_delays links s d i =
     let h = in_map (λ (l : Link). l.delay) (filter (λ (l : Link). l.to == s) links) d i in
     (h.0, (in_filter (λ (l : Link). l.to == s) links h.0 h.1).0, h.2)
-
--- a number is a station's, or has no links
-site_cases : (net : Net) (x : ℕ) → ((site : Site) × (site_at net x ≡ Some site)) ⊎ (site_of net x ≡ no_site)
-site_cases net zero = inr refl
-site_cases net (suc i) = elim (slice_get_cases net.sites i).1 [
-  | inl found ↦ inl (found.0, found.2)
-  | inr past ↦ inr (ap (λ o. unwrap_or o no_site) past.1)
-]
 
 -- a delay is that of a link of a station
 pub record IsDelayOf (net : Net) (x d : ℕ) : Type 0 where

@@ -1,12 +1,12 @@
 -- Segments that are cut and joined, and their number.
 use Rattle.std.proofs.Common.{◌≡◌, ℕ, zero, suc, ◌+◌, ◌*◌, ◌-◌, ◌^◌, ◌<◌, ◌≤◌}
 use Rattle.std.proofs.Common.{List, [], ◌∷◌, ◌++◌, length, take, drop, get_or, insert, refl}
-use Rattle.std.proofs.Common.{sym, ap, ◌∙◌, arith, append_assoc, append-nil, length-append, length-drop, length-take-le}
+use Rattle.std.proofs.Common.{sym, ap, ◌∙◌, arith, append_assoc, append-nil, length-append, length-take-le}
 use Rattle.std.specs.Prelude.{slice_index}
 use Rattle.std.specs.declared.sync.Arc.{Arc}
-use Rattle.std.proofs.lemmas.List.{length-map, map-append, take-map}
+use Rattle.std.proofs.lemmas.List.{length-map, map-append, take-map, take_rest}
 use Rattle.std.proofs.lemmas.Grind.{flat_map-append}
-use Rattle.std.proofs.Math.Seq.{take-append-add, take-length}
+use Rattle.std.proofs.Math.Seq.{take-append-add}
 use Rattle.std.proofs.Math.Nat.{two-pow-succ}
 use Rattle.std.proofs.Math.Pow.{pow_mono}
 use Rattle.sim_base.specs.Blocks.{of_blocks}
@@ -20,10 +20,6 @@ pub take-insert : {A : Type 0} (xs : List A) (k : ℕ) (x : A) → k ≤ length 
 take-insert xs k x within =
     let long : length (take k xs) ≡ k = length-take-le k xs within in
     rw long at (take-append-add (take k xs) (x ∷ drop k xs) 1)
-
--- all of a list that is left
-pub take-rest : {A : Type 0} (xs : List A) (j : ℕ) → take (length xs - j) (drop j xs) ≡ drop j xs
-take-rest xs j = rw (← length-drop j xs) (take-length (drop j xs))
 
 -- ---- entries_in
 
@@ -114,7 +110,7 @@ module _ {X Z : Type 0} where
   pub entries_in-join : (segments same : List (Arc (List X) Z)) (keep : ℕ) (entries more tail : List X)
       → entries ≡ entries_in (take (length same - keep) (drop keep same)) ++ more → same ≡ segments → more ≡ tail
       → entries ≡ entries_in (drop keep segments) ++ tail
-  entries_in-join segments same keep entries more tail joined e f = rw (take-rest same keep, e, f) at joined
+  entries_in-join segments same keep entries more tail joined e f = rw (take_rest same keep, e, f) at joined
 
   -- the tail has become a segment: the list is the same
   pub entries_in-seal : (segments new : List (Arc (List X) Z)) (keep : ℕ) (s : Arc (List X) Z) (more : List X)

@@ -2,7 +2,7 @@
 use Rattle.std.proofs.Common.{◌≡◌, ℕ, suc, ◌+◌, ◌-◌, ◌*◌, ◌<◌, ◌≤◌, List, ◌++◌, length}
 use Rattle.std.proofs.Common.{take, drop, get_or, sym, ap, ap₂, ◌∙◌, arith, append_assoc, add-one}
 use Rattle.std.specs.declared.sync.Arc.{Arc}
-use Rattle.std.proofs.lemmas.List.{drop-append-le, drop-map, length-map}
+use Rattle.std.proofs.lemmas.List.{drop-append-le, drop-map, length-map, take_rest}
 use Rattle.std.proofs.Math.Seq.{drop-append-add}
 use Rattle.log_chain.specs.Segments.{entries_of_segment, entries_in}
 use Rattle.sim_base.specs.declared.entry.Entry.{Entry}
@@ -13,7 +13,7 @@ use Rattle.log_chain.specs.Blocks.{AreFullButLast}
 use Rattle.log_chain.specs.Packing.{entry_of, entries_of}
 use Rattle.log_chain.specs.declared.packed.PackedEntry.{PackedEntry}
 use Rattle.log_chain.specs.declared.blocks.TheConstants.{ENTRIES_OF_BLOCK}
-use Rattle.log_chain.proofs.Chains.{take-rest, entries_in-around}
+use Rattle.log_chain.proofs.Chains.{entries_in-around}
 use Rattle.log_chain.proofs.Tails.{all_of-drop}
 
 -- ---- drop
@@ -42,7 +42,7 @@ drop-behind xs ys at n place = ap (λ k. drop k (xs ++ ys)) place ∙ drop-appen
 -- the rest of packed entries
 entries_of-drop : (wide : List (Entry Msg Line)) (ps : List PackedEntry) (es : List (Entry Msg Line)) (left : ℕ)
     → entries_of wide ps ≡ es → entries_of wide (take (length ps - left) (drop left ps)) ≡ drop left es
-entries_of-drop wide ps es left is = ap (entries_of wide) (take-rest ps left)
+entries_of-drop wide ps es left is = ap (entries_of wide) (take_rest ps left)
     ∙ (sym (drop-map (entry_of wide) left ps) ∙ ap (drop left) is)
 
 -- ---- entries_of
@@ -63,7 +63,7 @@ pub walk_from_block : (wide : List (Entry Msg Line)) (ps : List PackedEntry) (bs
     ++ of_blocks (take (length bs - (i + 1)) (drop (i + 1) bs)) ≡ drop at (of_blocks bs)
 walk_from_block wide ps bs b i left at h there here is within place =
     ap₂ (λ xs ys. xs ++ ys) (entries_of-drop wide ps b left is)
-    (ap of_blocks (take-rest bs (i + 1) ∙ ap (λ n. drop n bs) (add-one i)))
+    (ap of_blocks (take_rest bs (i + 1) ∙ ap (λ n. drop n bs) (add-one i)))
     ∙ (sym (all_of-drop bs i left b h there here (omega (arith, within, length-entries_of wide ps b is)))
     ∙ ap (λ n. drop n (of_blocks bs)) (sym place))
 
@@ -78,6 +78,6 @@ pub walk_from_segment : {Z : Type 0} (wide : List (Entry Msg Line)) (ps : List P
     ≡ drop at (entries_in segments ++ rest)
 walk_from_segment wide ps segments s rest i left at there here is within place =
     ap₂ (λ xs ys. xs ++ (ys ++ rest)) (entries_of-drop wide ps (entries_of_segment s) left is)
-    (ap entries_in (take-rest segments (i + 1) ∙ ap (λ n. drop n segments) (add-one i)))
+    (ap entries_in (take_rest segments (i + 1) ∙ ap (λ n. drop n segments) (add-one i)))
     ∙ sym (entries_in-drop segments i at left s rest there here place
     (omega (arith, within, length-entries_of wide ps (entries_of_segment s) is)))

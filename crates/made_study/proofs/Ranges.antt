@@ -2,23 +2,15 @@
 use Rattle.std.proofs.Common.{◌≡◌, ℕ, zero, suc, ◌+◌, ◌-◌, ◌≤◌, List, [], ◌∷◌, ◌++◌, ap, ◌∙◌, arith, append-nil}
 use Rattle.std.specs.List.{flat_map, join_by, range_with_len}
 use Rattle.std.proofs.lemmas.Grind.{flat_map-append}
-
--- ---- range_with_len
-
--- one number more comes last
-range-more : (a k : ℕ) → range_with_len a (suc k) ≡ range_with_len a k ++ (a + k) ∷ []
-range-more a zero = ap (λ x. x ∷ []) (omega arith)
-range-more a (suc k) =
-    let e : a + 1 + k ≡ a + suc k = omega arith in
-    ap (λ xs. a ∷ xs) (range-more (a + 1) k ∙ ap (λ x. range_with_len (a + 1) k ++ x ∷ []) e)
+use Rattle.sim_base.proofs.ListLaws.{range_with_len-suc}
 
 -- ---- flat_map
 
--- and so does its text
+-- the text of one number more comes last
 flat_map-more : {A : Type 0} (f : ℕ → List A) (a k : ℕ)
     → flat_map f (range_with_len a (suc k)) ≡ flat_map f (range_with_len a k) ++ f (a + k)
 flat_map-more f a k =
-    ap (flat_map f) (range-more a k)
+    ap (flat_map f) (range_with_len-suc a k)
     ∙ flat_map-append f (range_with_len a k) ((a + k) ∷ [])
     ∙ ap (λ x. flat_map f (range_with_len a k) ++ x) (append-nil (f (a + k)))
 

@@ -1,5 +1,5 @@
 -- The statistics of a log until another time.
-use Rattle.std.proofs.Common.{◌≡◌, ℕ, ◌+◌, ◌-◌, ◌*◌, ◌<◌, ◌≤◌, ◌||◌, List, [], ◌∷◌, ◌++◌, length, refl, sym, ap, ◌∙◌}
+use Rattle.std.proofs.Common.{◌≡◌, ℕ, ◌+◌, ◌-◌, ◌*◌, ◌<◌, ◌≤◌, ◌||◌, List, [], ◌∷◌, length, refl, sym, ap, ◌∙◌}
 use Rattle.std.proofs.Common.{subst, arith, ◌⊎◌, inl, inr, Bool}
 use Rattle.std.specs.List.{AllByRecursion}
 use Rattle.std.proofs.Math.Nat.{add-mul, mul_comm}
@@ -16,12 +16,13 @@ use Rattle.queue_stats.specs.declared.stats.Stats.{Stats}
 use Rattle.queue_stats.specs.Moments.{Event, visit, loss, departure, change, other, Moment, moments, is_visit, is_loss}
 use Rattle.queue_stats.specs.Figures.{one_if, visit_count, loss_count, arrival_count, departure_count, present}
 use Rattle.queue_stats.specs.Figures.{last_in_system}
-use Rattle.queue_stats.specs.Queues.{IsQueue, opened, goes_on, IsServerQueue}
+use Rattle.queue_stats.specs.Queues.{IsServerQueue}
 use Rattle.queue_stats.specs.Tallies.{tally_along, empty_tally}
 use Rattle.queue_stats.specs.Laws.{is_single_by_arrival}
 use Rattle.queue_stats.specs.Stats.{server_stats}
 use Rattle.queue_stats.specs.CommonLogs.{HaveCommonLog}
-use Rattle.queue_stats.proofs.Pushes.{count-cons, last_in_system-push, present-later}
+use Rattle.queue_stats.proofs.Pushes.{count-cons, present-later}
+use Rattle.queue_stats.proofs.Little.{conserved}
 use Rattle.queue_stats.proofs.TallyFigures.{area_until-present}
 use Rattle.queue_stats.proofs.LogStats.{log-within_limits, all-until_end, may_add_all-log, last_time-log}
 use Rattle.queue_stats.proofs.ServerLogs.{server_queue, until-le}
@@ -46,14 +47,6 @@ arrival_count-is (m ∷ ms) =
     let visits = count-cons is_visit m ms in
     let losses = count-cons is_loss m ms in
     omega (arith, rest, here, arrivals, visits, losses)
-
--- visits have ended or are in the system
-last_in_system-is : {servers : ℕ} {ms : List Moment} → IsQueue servers ms
-    → departure_count ms + last_in_system 0 ms ≡ visit_count ms
-last_in_system-is opened = refl
-last_in_system-is {servers} (goes_on {before = ms} m q is f) =
-    subst (λ l. departure_count l + last_in_system 0 l ≡ visit_count l) (sym is)
-    (ap (λ n. departure_count (ms ++ m ∷ []) + n) (last_in_system-push 0 ms m) ∙ f.conserved)
 
 -- ---- the number in the system summed over time
 
@@ -143,7 +136,7 @@ module _ (stats : Stats) (from until : ℕ) (c : HaveCommonLog stats from until)
       let l = lost-is in
       let d = done-is in
       let all = arrival_count-is (moments c.log) in
-      let kept = last_in_system-is from-queue.queue in
+      let kept = conserved from-queue.queue in
       omega (arith, a, l, d, all, kept)
 
   -- the figures have the number in the system
@@ -153,7 +146,7 @@ module _ (stats : Stats) (from until : ℕ) (c : HaveCommonLog stats from until)
       let l = lost-is in
       let d = done-is in
       let all = arrival_count-is (moments c.log) in
-      let kept = last_in_system-is from-queue.queue in
+      let kept = conserved from-queue.queue in
       omega (arith, a, l, d, all, kept)
 
   -- the sum until a later time

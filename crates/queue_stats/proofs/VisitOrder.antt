@@ -1,9 +1,10 @@
 -- If jobs depart in order of arrival, visits end in order of arrival.
-use Rattle.std.proofs.Common.{◌≡◌, ℕ, zero, suc, ◌+◌, ◌-◌, ◌<◌, ◌≤◌, List, [], ◌∷◌, ◌++◌, Bool, true, false, Some, None}
+use Rattle.std.proofs.Common.{◌≡◌, ℕ, zero, suc, ◌+◌, ◌-◌, ◌<◌, ◌≤◌, List, [], ◌∷◌, ◌++◌, Bool, true, false, Some}
 use Rattle.std.proofs.Common.{cond, length, take, get_or, slice_get, refl, sym, ap, ◌∙◌, subst, arith, length-append}
 use Rattle.std.specs.List.{filter}
 use Rattle.std.proofs.lemmas.List.{get_or_past, take-append-le}
 use Rattle.std.proofs.lemmas.List.Elements.{filter-append}
+use Rattle.std.proofs.lemmas.Option.{none-some, same_Some}
 use Rattle.std.proofs.Math.Seq.{take-append-add}
 use Rattle.sim_base.specs.declared.message.Job.{Job as JobOf}
 use Rattle.queue_stats.specs.Moments.{Event, visit, loss, departure, change, other, Moment, same_job}
@@ -15,16 +16,6 @@ use Rattle.queue_stats.specs.Orders.{VisitsEndInOrder}
 use Rattle.queue_stats.proofs.Lists.{filter-cons}
 use Rattle.queue_stats.proofs.Pushes.{count-cons, times-cons, times-length}
 use Rattle.queue_stats.proofs.Little.{same_job-itself}
-
--- ---- options
-
--- equal values, if there are equal values
-some-same : {X : Type 0} (x y : X) → Some x ≡ Some y → x ≡ y
-some-same x y is = cc
-
--- no value is a value
-none-some : {X : Type 0} (x : X) → None ≡ Some x → ⊥
-none-some x is = absurd (cc)
 
 -- ---- occurrences
 
@@ -54,7 +45,7 @@ nth_visit-step : (before jobs : List JobOf) (ts : List ℕ) (later : List Visit)
     → IsNthVisit before (visiting_job e ++ jobs) (cond (is_visit e) (t ∷ []) [] ++ ts) n v
 nth_visit-step before jobs ts later (visit j) t rest zero v is =
     let new : Visit = record { job = j; nth = occurrences j before; time = t } in
-    let first : new ≡ v = some-same new v is in
+    let first : new ≡ v = same_Some new v is in
     let job : j ≡ v.job = ap (λ (w : Visit). w.job) first in
     let nth : occurrences j before ≡ v.nth = ap (λ (w : Visit). w.nth) first in
     let plus : occurrences v.job before ≡ occurrences v.job before + 0 = omega arith in
@@ -93,7 +84,7 @@ nth_departure-step : (j : JobOf) (jobs : List JobOf) (own ts : List ℕ) (h : �
     → get_or (cond (is_departure_of j e) (t ∷ []) [] ++ own) (occurrences j (take n (departing_job e ++ jobs))) h
     ≡ get_or (cond (is_departure e) (t ∷ []) [] ++ ts) n h
 nth_departure-step j jobs own ts h (departure k) t rest zero is =
-    let same : k ≡ j = some-same k j is in
+    let same : k ≡ j = same_Some k j is in
     let own_job : same_job j k ≡ true = subst (λ i. same_job j i ≡ true) (sym same) (same_job-itself j) in
     ap (λ b. get_or (cond b (t ∷ []) [] ++ own) 0 h) own_job
 nth_departure-step j jobs own ts h (departure k) t rest (suc n) is = by (same_job j k) ∙ rest n is

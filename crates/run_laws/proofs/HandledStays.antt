@@ -41,7 +41,7 @@ no_prefixes f (c ∷ cs) h = ap (λ l. prefixes l ++ flat_map prefixes (map f cs
 
 module _ {S M N : Type 0} (sim : Simulation S M N) where
   -- at front 0 each log is empty
-  log_at-0 : (c : Clone) (s : ℕ) → log_at sim c s 0 ≡ []
+  pub log_at-0 : (c : Clone) (s : ℕ) → log_at sim c s 0 ≡ []
   log_at-0 c s = ap (λ w. log_of sim.to s w.at.trace) (run_at_0 sim c)
 
   -- so nothing was handled once at front 0

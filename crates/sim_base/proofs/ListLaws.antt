@@ -4,7 +4,7 @@ use Rattle.std.proofs.Common.{map, slice_set, Bool, not, cond, false, position, 
 use Rattle.std.proofs.Common.{take, arith, append_assoc}
 use mathlib.Core.List.{IsPrefix}
 use Rattle.std.proofs.lemmas.Grind.{common_steps}
-use Rattle.std.specs.List.{AllByRecursion, prefix_len, position_or_len}
+use Rattle.std.specs.List.{AllByRecursion, prefix_len, position_or_len, range_with_len}
 use Rattle.std.proofs.lemmas.List.{length-map}
 use Rattle.std.proofs.lemmas.List.Sums.{fails_before_first}
 use Rattle.std.proofs.Math.Seq.{take-append_seam}
@@ -70,6 +70,15 @@ pub all_at : {X : Type 0} (P : X → Type 0) (xs : List X) (i : ℕ) (d : X) →
 all_at P [] i d h l = absurd (omega arith)
 all_at P (x ∷ xs) zero d h l = h.0
 all_at P (x ∷ xs) (suc i) d h l = all_at P xs i d h.1 (omega arith)
+
+-- ---- range_with_len
+
+-- one number more comes last
+pub range_with_len-suc : (a n : ℕ) → range_with_len a (suc n) ≡ range_with_len a n ++ (a + n) ∷ []
+range_with_len-suc a zero = ap (λ k. k ∷ []) (omega arith)
+range_with_len-suc a (suc n) =
+    let e : a + 1 + n ≡ a + suc n = omega arith in
+    ap (λ xs. a ∷ xs) (range_with_len-suc (a + 1) n ∙ ap (λ k. range_with_len (a + 1) n ++ k ∷ []) e)
 
 -- ---- take
 

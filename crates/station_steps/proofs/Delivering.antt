@@ -16,7 +16,7 @@ use Rattle.run_laws.proofs.Lists.{slice_get-set_same, slice_get-set_other}
 -- ---- AllDelivered by one message
 
 -- without messages for it, a station is unchanged
-IsDeliveredTo-none : (ms : MarkedMessages) (p : ProcView) → ms ≡ [] → IsDeliveredTo ms p p
+pub IsDeliveredTo-none : (ms : MarkedMessages) (p : ProcView) → ms ≡ [] → IsDeliveredTo ms p p
 IsDeliveredTo-none ms p none = record {
   copies = sym (ap (λ l. with_mail l p.copies) none);
   station = refl;

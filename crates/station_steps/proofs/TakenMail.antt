@@ -55,16 +55,6 @@ mail_for-next s ms i x l is = ap (mail_for s) (take_next ms i x l is) ∙ mail_f
 
 -- ---- IsDeliveredTo
 
--- without messages for it, a station is unchanged
-pub IsDeliveredTo-same : (ms : MarkedMessages) (p : ProcView) → ms ≡ [] → IsDeliveredTo ms p p
-IsDeliveredTo-same ms p none = record {
-  copies = sym (ap (λ l. with_mail l p.copies) none);
-  station = refl;
-  living = refl;
-  once = refl;
-  proc = λ net h. h;
-}
-
 -- messages, and then more of them
 pub IsDeliveredTo-then : (xs ys : MarkedMessages) (first second third : ProcView) → IsDeliveredTo xs first second
     → IsDeliveredTo ys second third → IsDeliveredTo (xs ++ ys) first third

@@ -1,8 +1,7 @@
 -- The requirements of the laws of runs, proved of these stations.
-use Rattle.std.proofs.Common.{◌≡◌, ℕ, zero, suc, ◌+◌, ◌<◌, ◌≤◌, ◌⊎◌, inl, inr, List}
-use Rattle.std.proofs.Common.{[], ◌∷◌, length, refl, sym, ap, ◌∙◌, subst, Some, unwrap_or, arith}
+use Rattle.std.proofs.Common.{◌≡◌, ℕ, suc, ◌+◌, ◌<◌, ◌≤◌, inl, inr, List}
+use Rattle.std.proofs.Common.{[], ◌∷◌, length, refl, sym, ap, ◌∙◌, subst, Some, arith}
 use Rattle.std.specs.List.{AllByRecursion}
-use Rattle.std.proofs.lemmas.Option.{slice_get_cases}
 use Rattle.sim_base.specs.declared.message.Msg.{Msg}
 use Rattle.sim_base.proofs.OrderEqual.{msg-keyed, msg-timed}
 use Rattle.run_laws.specs.Queue.{In}
@@ -22,20 +21,10 @@ use Rattle.stations.specs.Opening.{opening_kind, setup}
 use Rattle.stations.specs.Good.{IsGood, next_number, sender_of, number_of}
 use Rattle.stations.specs.Runs.{simulation}
 use Rattle.stations.proofs.KindLaws.{good_kind, kind_on-good}
-use Rattle.stations.proofs.Lawful.{site_valid, number_in, site_is}
+use Rattle.stations.proofs.Lawful.{site_cases, site_valid, number_in, site_is}
 use Rattle.stations.proofs.OpeningLaws.{opening_kind-fits, opening_kind-is_of_kind}
 use Rattle.stations.proofs.OpeningLaws.{first_tick-station, first_tick-first}
 use Rattle.stations.specs.declared.sender.TheConstants.{MOST_SENDS}
-
--- ---- site_of
-
--- a number is that of a station, or no station has it
-site_cases : (net : Net) (s : ℕ) → ((site : Site) × (site_at net s ≡ Some site)) ⊎ (site_of net s ≡ no_site)
-site_cases net zero = inr refl
-site_cases net (suc i) = elim (slice_get_cases net.sites i).1 [
-  | inl found ↦ inl (found.0, found.2)
-  | inr past ↦ inr (ap (λ o. unwrap_or o no_site) past.1)
-]
 
 module _ (net : Net) (valid : IsNet net) where
   -- ---- handle

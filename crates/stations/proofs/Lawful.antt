@@ -1,8 +1,8 @@
 -- The promises of a network about its stations.
-use Rattle.std.proofs.Common.{◌≡◌, ℕ, zero, suc, ◌+◌, ◌<◌, ◌≤◌, List, []}
+use Rattle.std.proofs.Common.{◌≡◌, ◌⊎◌, ℕ, zero, suc, ◌+◌, ◌<◌, ◌≤◌, inl, inr, List, []}
 use Rattle.std.proofs.Common.{length, refl, sym, ap, subst, Some, unwrap_or, arith}
 use Rattle.std.proofs.lemmas.List.{nil_from_length}
-use Rattle.std.proofs.lemmas.Option.{slice_get_within}
+use Rattle.std.proofs.lemmas.Option.{slice_get_cases, slice_get_within}
 use Rattle.sim_base.specs.Weights.{IsWeight}
 use Rattle.sim_base.proofs.ListLaws.{all_weaker}
 use Rattle.net_model.specs.Net.{Net, Site, HasStation, site_at, site_of, no_site}
@@ -20,6 +20,22 @@ use Rattle.stations.proofs.KindLaws.{good_kind, kind_on-good, kind_on-fits}
 use Rattle.stations.specs.declared.sender.TheConstants.{ALL_TIMES, MOST_SENDS}
 
 -- ---- site_at and site_of
+
+-- a number is that of a station, or no station has it
+pub site_cases : (net : Net) (s : ℕ) → ((site : Site) × (site_at net s ≡ Some site)) ⊎ (site_of net s ≡ no_site)
+site_cases net zero = inr refl
+site_cases net (suc i) = elim (slice_get_cases net.sites i).1 [
+  | inl found ↦ inl (found.0, found.2)
+  | inr past ↦ inr (ap (λ o. unwrap_or o no_site) past.1)
+]
+
+-- a number from 1 to that of the last station is that of a station
+pub site_at-within : (net : Net) (s : ℕ) → HasStation net s → (site : Site) × (site_at net s ≡ Some site)
+site_at-within net zero is = absurd (let low = is.low in omega arith)
+site_at-within net (suc i) is = let high = is.high in elim (slice_get_cases net.sites i).1 [
+  | inl found ↦ (found.0, found.2)
+  | inr past ↦ absurd (let beyond = past.0 in omega arith)
+]
 
 -- a station that is there meets the rules
 pub site_valid : (net : Net) (s : ℕ) (site : Site) → IsNet net → site_at net s ≡ Some site → IsSite net site

@@ -1,15 +1,14 @@
 -- The state that a log leads to, and the numbering of a station's sends.
-use Rattle.std.proofs.Common.{◌≡◌, ℕ, zero, suc, ◌+◌, ◌*◌, ◌<◌, ◌≤◌, inl, inr, List, [], ◌∷◌}
-use Rattle.std.proofs.Common.{length, ap, ◌∙◌, subst, Some, nat_lt, Bool, true, false, if◌then◌else◌, arith}
+use Rattle.std.proofs.Common.{◌≡◌, ℕ, ◌+◌, ◌*◌, ◌<◌, ◌≤◌, List, [], ◌∷◌}
+use Rattle.std.proofs.Common.{length, ap, ◌∙◌, subst, nat_lt, Bool, true, false, if◌then◌else◌, arith}
 use Rattle.std.specs.List.{AllByRecursion}
-use Rattle.std.proofs.lemmas.Option.{slice_get_cases}
 use Rattle.sim_base.specs.declared.message.Msg.{Msg}
 use Rattle.sim_base.specs.declared.message.Payload.TheVariants.{Tick}
 use Rattle.sim_base.specs.declared.entry.Entry.{Entry}
 use Rattle.sim_base.specs.declared.entry.Line.{Line}
 use Rattle.run_laws.specs.World as world
 use Rattle.run_laws.proofs.Replaying.{replay-push, replay_is_good}
-use Rattle.net_model.specs.Net.{Net, Site, HasStation, site_at, site_of}
+use Rattle.net_model.specs.Net.{Net, Site, site_at, site_of}
 use Rattle.net_model.specs.Rules.{IsNet}
 use Rattle.stations.specs.declared.kind_state.KindState.{KindState}
 use Rattle.stations.specs.declared.kind_state.KindState.TheVariants.{Source, Server, Delay, Router, Sink}
@@ -22,7 +21,7 @@ use Rattle.stations.specs.Opening.{first_tick, opening_kind, setup}
 use Rattle.stations.specs.Runs.{simulation}
 use Rattle.stations.specs.Sending.{Outgoing, send_later}
 use Rattle.stations.proofs.GoodLaws.{among, handles-good, lawful-stations, opens_good}
-use Rattle.stations.proofs.Lawful.{handles-fitting, site_is}
+use Rattle.stations.proofs.Lawful.{handles-fitting, site_at-within, site_is}
 use Rattle.stations.proofs.OpeningLaws.{setup-well}
 use Rattle.stations.specs.declared.sender.TheConstants.{ALL_TIMES, MOST_SENDS}
 
@@ -62,14 +61,6 @@ module _ (net : Net) where
   -- the replay of one more entry is the replay followed by its message
   pub replay-goes_on : ReplayGoesOn net
   replay-goes_on s log e = replay-push (simulation net) s (setup net s).state log e
-
--- a number from 1 to that of the last station is that of a station
-site_at-within : (net : Net) (s : ℕ) → HasStation net s → (site : Site) × (site_at net s ≡ Some site)
-site_at-within net zero is = absurd (let low = is.low in omega arith)
-site_at-within net (suc i) is = let high = is.high in elim (slice_get_cases net.sites i).1 [
-  | inl found ↦ (found.0, found.2)
-  | inr past ↦ absurd (let beyond = past.0 in omega arith)
-]
 
 module _ (net : Net) (valid : IsNet net) where
   -- at a station of the network it is a state of that station

@@ -1,5 +1,5 @@
 -- Plain data that fits a station restores a state of it.
-use Rattle.std.proofs.Common.{◌≡◌, ℕ, zero, suc, ◌+◌, ◌*◌, ◌≤◌, ◌⊎◌, inl, inr, List, [], ◌∷◌, length, Bool, true, false}
+use Rattle.std.proofs.Common.{◌≡◌, ℕ, ◌+◌, ◌*◌, ◌≤◌, ◌⊎◌, inl, inr, List, [], ◌∷◌, length, Bool, true, false}
 use Rattle.std.proofs.Common.{refl, Some, arith, ◌==◌, ltb-true, eq-eqb, eqb-true}
 use Rattle.std.specs.Prelude.{◌&&◌, ◌||◌, nat_le}
 use Rattle.std.specs.List.{AllByRecursion, list_all}
@@ -8,28 +8,19 @@ use Rattle.sim_base.specs.Weights.{IsWeight}
 use Rattle.net_model.specs.declared.station.Kind.{Kind}
 use Rattle.net_model.specs.declared.station.Kind.TheVariants as kind
 use Rattle.net_model.specs.declared.limits.TheConstants.{MOST_WEIGHT, MOST_TIME}
-use Rattle.net_model.specs.Net.{Net, Site, HasStation, site_at, site_of}
+use Rattle.net_model.specs.Net.{Net, Site, site_at, site_of}
 use Rattle.net_model.specs.Rules.{IsNet, IsSite, IsRange, is_range, is_within, IsKind}
 use Rattle.net_model.proofs.Bounds.{is_range-bounds, is_within-bounds}
 use Rattle.stations.specs.declared.kind_state.KindState.{KindState}
 use Rattle.stations.specs.declared.kind_state.KindState.TheVariants.{Source, Server, Delay, Router, Sink}
 use Rattle.stations.specs.declared.sender.TheConstants.{ALL_STAYS, MOST_SENDS}
 use Rattle.stations.specs.Fits.{FitsKind, IsOfKind}
-use Rattle.stations.proofs.Lawful.{site_is, site_valid}
-use Rattle.std.proofs.lemmas.Option.{slice_get_cases}
+use Rattle.stations.proofs.Lawful.{site_at-within, site_is, site_valid}
 use Rattle.stations.specs.declared.saved.Saved.{Saved}
 use Rattle.stations.specs.declared.saved.Shape.{Shape}
 use Rattle.stations.specs.declared.saved.Shape.TheVariants as shape
 use Rattle.stations.specs.Fitting.{fits_shape, FittingIsRestored}
 use Rattle.stations.specs.Saving.{restored_kind, restored}
-
--- a number from 1 to that of the last station is that of a station
-site_at-within : (net : Net) (s : ℕ) → HasStation net s → (site : Site) × (site_at net s ≡ Some site)
-site_at-within net zero is = absurd (let low = is.low in omega arith)
-site_at-within net (suc i) is = let high = is.high in elim (slice_get_cases net.sites i).1 [
-  | inl found ↦ (found.0, found.2)
-  | inr past ↦ absurd (let beyond = past.0 in omega arith)
-]
 
 -- ---- tests
 

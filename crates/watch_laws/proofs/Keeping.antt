@@ -4,17 +4,16 @@ use Rattle.std.proofs.Common.{sym, ap, ap₂, ◌∙◌, arith, subst, cond, map
 use Rattle.std.specs.Prelude.{IsPermutation}
 use Rattle.std.specs.List.{range_with_len}
 use Rattle.std.proofs.lemmas.Bool.{cases_lt, cases_eq, lt-ltb, le-ltb}
-use Rattle.std.proofs.lemmas.List.{length-map}
+use Rattle.std.proofs.lemmas.List.{length-map, length-set, map-append}
 use Rattle.std.proofs.lemmas.List.FromFn.{length-range_with_len}
 use Rattle.std.proofs.lemmas.List.Sorted.{IsPermutation-refl, IsPermutation-cons, IsPermutation-trans}
 use Rattle.std.proofs.lemmas.List.Sorted.{IsPermutation-sym, IsPermutation-middle, IsPermutation-append_right}
 use Rattle.std.proofs.lemmas.List.Sorted.{IsPermutation-to_front, length_permutation}
 use Rattle.sim_base.specs.Clones.{Clone, clone_at}
+use Rattle.sim_base.proofs.ListLaws.{range_with_len-suc}
 use Rattle.run_laws.specs.Queue.{In}
 use Rattle.run_laws.specs.Simulation.{Simulation}
-use Rattle.run_laws.specs.World.{log_of}
-use Rattle.run_laws.specs.Runs.{log_at}
-use Rattle.run_laws.proofs.Beginning.{run_at_0}
+use Rattle.run_laws.proofs.HandledStays.{log_at-0}
 use Rattle.run_laws.proofs.Places.{clone_push_same, clone_push_other}
 use Rattle.watch_laws.specs.Due.{due_in}
 use Rattle.watch_laws.specs.Branches.{Branch, Trigger, initial_branch, present, with_branch, branch_by, outcomes}
@@ -26,13 +25,6 @@ use Rattle.watch_laws.specs.PassLaws.{HoldsAtStart}
 use Rattle.watch_laws.proofs.Branches.{branches_at-is}
 
 -- ---- range_with_len
-
--- one more place at the end
-range-more : (a n : ℕ) → range_with_len a (suc n) ≡ range_with_len a n ++ (a + n) ∷ []
-range-more a zero = let e : a ≡ a + 0 = omega arith in ap (λ k. k ∷ []) e
-range-more a (suc n) =
-    let e : a + 1 + n ≡ a + suc n = omega arith in
-    ap (λ l. a ∷ l) (range-more (a + 1) n ∙ ap (λ k. range_with_len (a + 1) n ++ k ∷ []) e)
 
 -- its elements are below its end
 pub range-below : (a n k : ℕ) → In k (range_with_len a n) → k < a + n
@@ -111,11 +103,6 @@ option_at-set_other (p ∷ os) zero (suc j) o n = refl
 option_at-set_other (p ∷ os) (suc i) zero o n = refl
 option_at-set_other (p ∷ os) (suc i) (suc j) o n = option_at-set_other os i j o (λ e. n (ap suc e))
 
-length-slice_set : {X : Type 0} (os : List (Option X)) (i : ℕ) (o : Option X) → length (slice_set os i o) ≡ length os
-length-slice_set [] i o = refl
-length-slice_set (p ∷ os) zero o = refl
-length-slice_set (p ∷ os) (suc i) o = ap suc (length-slice_set os i o)
-
 -- ---- IsPlaced
 
 -- one more clone leaves the branches at their places
@@ -178,10 +165,6 @@ clone_at-range cs before (c ∷ ls) f =
     let e : length (before ++ c ∷ []) + k ≡ length before + suc k = omega (arith, more) in
     ap (clone_at cs) e ∙ f (suc k) (omega (arith, l)))))
 
-map_append : {X Y : Type 0} (f : X → Y) (xs ys : List X) → map f (xs ++ ys) ≡ map f xs ++ map f ys
-map_append f [] ys = refl
-map_append f (x ∷ xs) ys = ap (λ l. f x ∷ l) (map_append f xs ys)
-
 -- the clones of the script's branches
 initial_branch-clones : (ls : List Clone) → map (λ (b : Branch). b.clone) (map initial_branch ls) ≡ ls
 initial_branch-clones [] = refl
@@ -197,31 +180,27 @@ module _ {S M N : Type 0} (sim : Simulation S M N) where
   pub clones_in_trigger_order : ClonesInTriggerOrder sim
   clones_in_trigger_order front ls ws cs places k =
       let bs : List Branch = map initial_branch ls in
-      map_append (clone_at cs) (range_with_len 0 (length ls)) (present places)
+      map-append (clone_at cs) (range_with_len 0 (length ls)) (present places)
       ∙ ap₂ (λ (xs ys : List Clone). xs ++ ys) (clone_at-range cs [] ls (λ i l. ap (clone_at cs)
       (let e : 0 + i ≡ i = omega arith in e) ∙ k.script i l))
       (clone_at-placed cs (outcomes sim front (map initial_branch ls) ws) places
       (k.same_length ∙ sym (length-outcomes front (map initial_branch ls) ws)) k.placed)
       ∙ ap (λ xs. xs ++ map (λ (b : Branch). b.clone) (present (outcomes sim front (map initial_branch ls) ws)))
       (sym (initial_branch-clones ls))
-      ∙ sym (map_append (λ (b : Branch). b.clone) (map initial_branch ls)
+      ∙ sym (map-append (λ (b : Branch). b.clone) (map initial_branch ls)
       (present (outcomes sim front (map initial_branch ls) ws)))
       ∙ ap (map (λ (b : Branch). b.clone)) (sym (branches_at-is sim front (map initial_branch ls) ws))
 
   -- ---- HoldsBranches
 
-  -- at front 0 each log is empty
-  log_at-0 : (c : Clone) (s : ℕ) → log_at sim c s 0 ≡ []
-  log_at-0 c s = ap (λ w. log_of sim.to s w.at.trace) (run_at_0 sim c)
-
-  -- so no trigger makes a branch
+  -- at front 0 each log is empty, so no trigger makes a branch
   branch_by-0 : (bs : List Branch) (w : Trigger N) → branch_by sim 0 bs w ≡ None
   branch_by-0 bs w = by (branch_named w.who bs)
     where
       by : (o : Option Branch) → branch_from sim 0 w o ≡ None
       by None = refl
       by (Some b) = ap (λ es. branch_if_due sim w b.clone (due_in sim.time w.condition b.start es))
-          (log_at-0 b.clone w.station)
+          (log_at-0 sim b.clone w.station)
 
   outcomes-0 : (bs : List Branch) (ws : List (Trigger N)) (i : ℕ) → option_at (outcomes sim 0 bs ws) i ≡ None
   outcomes-0 bs [] i = refl
@@ -335,7 +314,7 @@ module _ {S M N : Type 0} (sim : Simulation S M N) where
         record {
           script = λ k l. clone_push_other cs y.clone k (λ d. let no : ⊥ = omega (arith, d, l, enough) in no)
               ∙ h.script k l;
-          same_length = length-slice_set places i (Some (length cs)) ∙ many;
+          same_length = length-set places i (Some (length cs)) ∙ many;
           placed = λ j. elim (cases_eq j i) [
             | inl is ↦ subst (λ k. IsPlaced (cs ++ y.clone ∷ []) (outcome_after sim front bound ls ws (i + 1) k)
                 (option_at (slice_set places i (Some (length cs))) k)) (sym is)
@@ -352,7 +331,7 @@ module _ {S M N : Type 0} (sim : Simulation S M N) where
           order =
               subst (λ n. IsPlaceOrder n (trigger_order (length ls) (slice_set places i (Some (length cs))))) (sym more)
               (subst (λ l. IsPermutation l (trigger_order (length ls) (slice_set places i (Some (length cs)))))
-              (sym (range-more 0 (length cs) ∙ ap (λ k. range_with_len 0 (length cs) ++ k ∷ [])
+              (sym (range_with_len-suc 0 (length cs) ∙ ap (λ k. range_with_len 0 (length cs) ++ k ∷ [])
               (let z : 0 + length cs ≡ length cs = omega arith in z)))
               (IsPermutation-trans (range_with_len 0 (length cs) ++ length cs ∷ [])
               (length cs ∷ trigger_order (length ls) places)

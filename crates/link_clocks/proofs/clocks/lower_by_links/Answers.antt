@@ -1,10 +1,11 @@
 use Rattle.std.proofs.Common.{◌≡◌, ◌+◌, ◌≤◌, length, List, [], ◌∷◌, ◌++◌, take, subst, sym, get_or, ap, ◌∙◌, slice_set}
 use Rattle.std.proofs.Common.{◌-◌}
 use Rattle.std.proofs.lemmas.List.{take_more}
+use Rattle.sim_base.proofs.ListLaws.{all_at}
 use Rattle.net_model.specs.declared.station.Link.{Link}
 use Rattle.net_model.specs.declared.limits.TheConstants.{MOST_TIME}
 use Rattle.link_clocks.specs.NetClocks.{AreLowered}
-use Rattle.link_clocks.proofs.Lowering.{lowered_more, all_at}
+use Rattle.link_clocks.proofs.Lowering.{lowered_more}
 use Rattle.link_clocks.proofs.clocks.lower_by_links.Goals as goal
 use Rattle.link_clocks.proofs.clocks.lower_by_links.Goals.{then-link-x, else-link-x}
 

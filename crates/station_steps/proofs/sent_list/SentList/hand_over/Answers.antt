@@ -2,7 +2,8 @@ use Rattle.std.proofs.Common.{◌≡◌, ◌<◌, ◌∷◌, [], ap, sym, subst,
 use Rattle.phys_proc.specs.Own.{MarkedMessages}
 use Rattle.station_steps.specs.Mail.{SentView}
 use Rattle.station_steps.specs.Windows.{IsDeliveredTo, mail_for}
-use Rattle.station_steps.proofs.TakenMail.{IsDeliveredTo-same, IsDeliveredTo-then, mail_for-next, mail_for-other}
+use Rattle.station_steps.proofs.Delivering.{IsDeliveredTo-none}
+use Rattle.station_steps.proofs.TakenMail.{IsDeliveredTo-then, mail_for-next, mail_for-other}
 use Rattle.station_steps.proofs.TakenMail.{mail_for-own}
 use Rattle.station_steps.proofs.sent_list.SentList.hand_over.Goals.{then-pair-station+in_ok-deliver, else-pair-station}
 use Rattle.station_steps.proofs.sent_list.SentList.hand_over.Goals as goal
@@ -29,6 +30,6 @@ loop-pair-preserved c =
           (sym (mail_for-own s x (w.if-pair-station.true ∙ c.station-station.ensures.value)))
           (record { copies = e.given; station = e.station; living = e.living; once = e.handled; proc = e.proc }))
       | else-pair-station w ↦ subst (IsDeliveredTo (mail_for s (x ∷ [])) c.loop-pair.proc) (sym w.proc-is)
-          (IsDeliveredTo-same (mail_for s (x ∷ [])) c.loop-pair.proc
+          (IsDeliveredTo-none (mail_for s (x ∷ [])) c.loop-pair.proc
           (mail_for-other s x (λ e. w.if-pair-station.false (e ∙ sym c.station-station.ensures.value))))
     ]))
