@@ -1,0 +1,4 @@
+pub mod ExactForms
+pub mod JoinedWords
+pub mod ExactTexts
+pub mod Written

@@ -1,0 +1,51 @@
+//! What is proved of forms and texts: each function's contract is a law, and there is nothing to run.
+ghost use Rattle.std.specs.Prelude.{◌≡◌, ℕ, List, Bool, true, false, ◌<◌, ◌^◌};
+ghost use Rattle.std.specs.declared.option.Option.{Option as OptionOf};
+ghost use Rattle.exact_words.specs.Forms.{Form, IsExact, IsLedByOthers, IsReadJoined, WritesOnly, WritesSome};
+ghost use Rattle.exact_words.specs.Forms.{and_then, joined, led, led_or, many, nothing, number, silent};
+ghost use Rattle.exact_words.specs.Forms.{such};
+ghost use Rattle.exact_words.specs.Texts.{FirstBadLine, LinesAreRead, TextIsOfLines};
+
+/// Two forms that are read exactly.
+pub trait TwoForms<A, B> {
+    ghost first: { Form A };
+
+    ghost second: { Form B };
+
+    ghost first_is: { IsExact first };
+
+    ghost second_is: { IsExact second };
+}
+
+/// Forms of one word are read exactly.
+pub fn words_are_exact()
+    ensures nothing { IsExact nothing }
+    ensures silent { (n : ℕ) → IsExact (silent n) }
+    ensures such { (p : List ℕ → Bool) → IsExact (such p) }
+    ensures number { (most : ℕ) → most < 2 ^ 64 → IsExact (number most) }
+{}
+
+/// Forms that are made of such forms are read exactly, from words and from one line or word.
+pub fn forms_are_exact<A, B, T: TwoForms<A, B>>()
+    ensures both { IsExact (and_then T.first T.second) }
+    ensures many { (n : ℕ) → IsExact (many T.first n) }
+    ensures led { (w : List ℕ) → IsExact (led w T.first) }
+    ensures either { (w : List ℕ) → IsLedByOthers w T.second → IsExact (led_or w T.first T.second) }
+    ensures line { (p : ℕ → Bool) (between : ℕ) → p between ≡ false → WritesOnly p T.first → WritesSome T.first
+        → IsReadJoined between T.first }
+    ensures word { (between : ℕ) → IsReadJoined between T.first → IsExact (joined between T.first) }
+{}
+
+/// A machine that reads lines: the state after a line, and the states in which a text may end.
+pub trait LineReader<S> {
+    ghost step: { S → List ℕ → OptionOf S };
+
+    ghost ends: { S → Bool };
+}
+
+/// A text is read exactly if it is lines that lead to an end. Any other text is refused at its first bad line.
+pub fn texts_are_exact<S, T: LineReader<S>>()
+    ensures read { LinesAreRead T.step T.ends }
+    ensures exact { TextIsOfLines T.step T.ends }
+    ensures bad { FirstBadLine T.step T.ends }
+{}
