@@ -1,0 +1,5 @@
+pub mod Grammar
+pub mod WordsLeft
+pub mod ServerWords
+pub mod Examples
+pub mod Spaced
