@@ -161,7 +161,7 @@ module _ (net : Net) (valid : IsNet net) where
   completions_in-le p = omega arith
 
   -- a turn of the world keeps the invariant
-  run_keeps-step : (x : World StateView Msg Line) (m : Msg) (q : List Msg) → ((s : ℕ) → IsGood net s (x.states s)) →
+  pub run_keeps-step : (x : World StateView Msg Line) (m : Msg) (q : List Msg) → ((s : ℕ) → IsGood net s (x.states s)) →
       m.key.time < net.horizon → RunKeepsWorld net (record { at = x; pending = m ∷ q }) →
       RunKeepsWorld net (config_after msg_cmp (world_step (simulation net).to (simulation net).handle) x m q)
   run_keeps-step x m q good early kept =
@@ -400,7 +400,7 @@ module _ (net : Net) (valid : IsNet net) where
       (record { job = tt; time_max = omega (arith, far, now) }, set_messages-keeps (suc k) ps early.1)
 
   -- a run begins with the invariant
-  first_world-keeps : (plans : List Planned) → AllByRecursion (λ p. p.at < net.horizon) plans →
+  pub first_world-keeps : (plans : List Planned) → AllByRecursion (λ p. p.at < net.horizon) plans →
       RunKeepsWorld net (first_world (simulation net) plans)
   first_world-keeps plans early =
       let firsts : List Msg = first_messages (simulation net) (length net.sites) in
