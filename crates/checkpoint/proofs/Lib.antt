@@ -1,0 +1,12 @@
+pub mod LinesText
+pub mod Earlier
+pub mod FittingStations
+pub mod AcceptedStarts
+pub mod GoingOn
+pub mod RestoredStates
+pub mod NoSets
+pub mod ShortTexts
+pub mod SayableRuns
+pub mod RunSnapshots
+pub mod SoloSnapshots
+pub mod ResumedTexts

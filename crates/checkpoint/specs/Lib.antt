@@ -1,0 +1,7 @@
+pub mod TraceLines
+pub mod Snapshots
+pub mod Due
+pub mod Accepted
+pub mod RunSnapshots
+pub mod Laws
+pub mod Examples
