@@ -1,0 +1,9 @@
+pub mod Machine
+pub mod Leading
+pub mod TextLaws
+pub mod Parts
+pub mod Counting
+pub mod Sayable
+pub mod TextParts
+pub mod AcceptedForms
+pub mod RunTexts

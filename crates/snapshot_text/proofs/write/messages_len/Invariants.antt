@@ -1,0 +1,12 @@
+use Rattle.std.proofs.Common.{◌≡◌, ◌+◌, ◌*◌, ◌^◌, ◌≤◌, drop, length, map}
+use Rattle.std.specs.List.{flat_map}
+use Rattle.exact_words.specs.Forms.{line_of}
+use Rattle.exact_words.specs.Texts.{ended}
+use Rattle.snapshot_lines.specs.Grammar.{message_line}
+use Rattle.snapshot_text.proofs.write.messages_len.Given as goal
+
+abbrev pub invariant-loop-message : goal.invariant-loop-message
+invariant-loop-message l =
+    (l.len + length (flat_map ended (map (line_of message_line) (drop l.message-index l.due)))
+    ≡ length (flat_map ended (map (line_of message_line) l.due)))
+    × (l.len ≤ l.message-index * 2 ^ 67)

@@ -1,0 +1,9 @@
+use Rattle.std.proofs.Common.{◌≡◌, ◌+◌, ◌++◌, drop}
+use Rattle.std.specs.List.{flat_map}
+use Rattle.exact_words.specs.Texts.{ended}
+use Rattle.snapshot_text.specs.SnapshotTexts.{station_lines}
+use Rattle.snapshot_text.proofs.write.push_stations.Given as goal
+
+abbrev pub invariant-loop-s : goal.invariant-loop-s
+invariant-loop-s l = l.out.items ++ flat_map ended (station_lines l.model (1 + l.s) (drop l.s l.saved))
+    ≡ l.fn.out.items ++ flat_map ended (station_lines l.model 1 l.saved)
