@@ -42,7 +42,7 @@ use Rattle.stations.specs.Saving.{saved_of, shape_of, restored}
 use Rattle.stations.specs.declared.kind_state.KindState.{KindState}
 use Rattle.stations.specs.declared.kind_state.KindState.TheVariants.{Source, Server, Delay, Router, Sink}
 use Rattle.stations.specs.declared.saved.Saved.{Saved}
-use Rattle.stations.specs.declared.sender.TheConstants.{ALL_TIMES}
+use Rattle.stations.specs.declared.sender.TheConstants.{MAX_EVENT_TIMES}
 use Rattle.stations.proofs.GoodLaws.{lawful-stations, stations-to_stations, fresh-stations}
 use Rattle.resume_laws.specs.Numbers.{PendingNumbersAreUsed}
 use Rattle.resume_laws.specs.Resume as resume
@@ -314,7 +314,7 @@ module _ (net : Net) (valid : IsNet net) (c : Clone) (front : ℕ) (at : HasSnap
       let there = used.to_station m i in
       and-true _ _ (and-true _ _ (comes_after-follows last m i h) (and-true _ _ (le-leb front m.key.time
       (all_in (λ (x : Msg). front ≤ x.key.time) w.pending m reached.0 i))
-      (lt-ltb m.key.time ALL_TIMES message.time_max)))
+      (lt-ltb m.key.time MAX_EVENT_TIMES message.time_max)))
       (and-true _ _ (and-true _ _ (and-true _ _ (lt-ltb 0 m.to there.0) (le-leb m.to (length net.sites) there.1))
       (le-leb m.key.sender (length net.sites) number.0))
       (and-true _ _ (lt-ltb m.key.number (next_of saved m.key.sender) number.1)

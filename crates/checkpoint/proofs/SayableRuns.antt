@@ -25,7 +25,7 @@ use Rattle.run_laws.proofs.Running.{fine_keeps}
 use Rattle.run_laws.proofs.Worlds.{begins_fine, in_first_messages, put_cases, put_same, run_reached, world_lawful}
 use Rattle.net_model.specs.Net.{Net, HasStation, site_of}
 use Rattle.net_model.specs.Rules.{IsNet}
-use Rattle.net_model.specs.declared.limits.TheConstants.{MOST_JOBS, MOST_LIMIT, MOST_ROOM, MOST_SERVERS}
+use Rattle.net_model.specs.declared.limits.TheConstants.{MAX_JOBS, MAX_LIMIT, MAX_ROOM, MAX_SERVERS}
 use Rattle.net_model.specs.declared.station.Kind.{Kind}
 use Rattle.net_model.specs.declared.station.Kind.TheVariants as kind
 use Rattle.stations.specs.Fits.{GoodKind}
@@ -35,7 +35,7 @@ use Rattle.stations.specs.Opening.{opening_kind}
 use Rattle.stations.specs.Runs.{simulation}
 use Rattle.stations.specs.declared.kind_state.KindState.{KindState}
 use Rattle.stations.specs.declared.kind_state.KindState.TheVariants.{Source, Server, Delay, Router, Sink}
-use Rattle.stations.specs.declared.sender.TheConstants.{ALL_TIMES}
+use Rattle.stations.specs.declared.sender.TheConstants.{MAX_EVENT_TIMES}
 use Rattle.stations.proofs.GoodLaws.{fresh-stations, handles-good, lawful-stations, stations-to_stations}
 use Rattle.resume_laws.specs.RunKeeps.{CarriesJobOf, RunKeepsKind, RunKeepsState, RunKeepsWorld}
 use Rattle.resume_laws.specs.SavedLaws.{IsRunState}
@@ -56,11 +56,11 @@ CountsJobs handled _ = Unit {0}
 
 -- counts of a station that has handled at most this number of messages
 abbrev CountsOf : ℕ → Line → Type 0
-CountsOf handled (line.Source sent) = sent ≤ MOST_JOBS + handled
+CountsOf handled (line.Source sent) = sent ≤ MAX_JOBS + handled
 CountsOf handled (line.Server busy wait done lost) =
-    (busy ≤ MOST_SERVERS) × (wait ≤ MOST_ROOM) × (done ≤ handled) × (lost ≤ handled)
+    (busy ≤ MAX_SERVERS) × (wait ≤ MAX_ROOM) × (done ≤ handled) × (lost ≤ handled)
 CountsOf handled (line.Passed passed) = passed ≤ handled
-CountsOf handled (line.Sink got stay) = (got ≤ handled) × (stay ≤ ALL_TIMES * handled)
+CountsOf handled (line.Sink got stay) = (got ≤ handled) × (stay ≤ MAX_EVENT_TIMES * handled)
 
 -- they are counts after more messages too
 counts-more : (a b : ℕ) (l : Line) → a ≤ b → CountsOf a l → CountsOf b l
@@ -89,7 +89,7 @@ counts-line_of net (kind.Delay lo hi) handled (Sink s) good kept jobs = absurd k
 counts-line_of net (kind.Router turn) handled (Sink s) good kept jobs = absurd kept
 
 -- counts of at most the greatest limit are small
-counts-small : (net : Net) (valid : IsNet net) (handled : ℕ) (l : Line) → handled ≤ MOST_LIMIT → CountsOf handled l →
+counts-small : (net : Net) (valid : IsNet net) (handled : ℕ) (l : Line) → handled ≤ MAX_LIMIT → CountsOf handled l →
     AreSmall net valid l
 counts-small net valid handled (line.Source sent) le is = omega (arith, le, is)
 counts-small net valid handled (line.Server busy wait done lost) le is =

@@ -22,11 +22,11 @@ use Rattle.sim_base.specs.declared.message.Param.{Param}
 use Rattle.sim_base.specs.declared.message.Param.TheVariants.{Every, Service, Hold, Servers, Room, Weight}
 use Rattle.sim_base.specs.declared.message.Payload.{Payload}
 use Rattle.sim_base.specs.declared.message.Payload.TheVariants.{Tick, Job, Done, Set}
-use Rattle.decision_script.specs.declared.number.TheConstants.{MOST_NUMBER}
+use Rattle.decision_script.specs.declared.number.TheConstants.{MAX_NUMBER}
 use Rattle.decision_script.proofs.JoinedWords.{list_all-weaker}
 use Rattle.net_model.specs.Net.{Net, Site, class_from, class_of_kind, is_source, site_at, site_of}
 use Rattle.net_model.specs.Rules.{IsKind, IsNet}
-use Rattle.net_model.specs.declared.limits.TheConstants.{MOST_JOBS}
+use Rattle.net_model.specs.declared.limits.TheConstants.{MAX_JOBS}
 use Rattle.net_model.specs.declared.station.Kind.{Kind}
 use Rattle.net_model.specs.declared.station.Kind.TheVariants as kind
 use Rattle.stations.specs.Fitting.{is_job_of}
@@ -78,7 +78,7 @@ decimal_printed : (n : ℕ) → n < 2 ^ 64 → list_all is_printed (decimal n) �
 decimal_printed n wide = list_all-weaker is_digit is_printed digit_printed (decimal n)
     (digits_decimal (numerals_by_value _ digits_printed) n wide)
 
-short-decimal : (n : ℕ) → n ≤ MOST_NUMBER → IsShort 10 (decimal n)
+short-decimal : (n : ℕ) → n ≤ MAX_NUMBER → IsShort 10 (decimal n)
 short-decimal n le =
     let wide : n < 2 ^ 64 = omega arith in
     record {
@@ -119,17 +119,17 @@ module _ (net : Net) (valid : IsNet net) where
       by None is = record { length_max = omega arith; printed = refl }
       by (Some site) is = short-name site.name (site_valid net s site valid is).named
 
-  class_of_kind-le : (k : Kind) → IsKind k → class_of_kind k ≤ MOST_NUMBER
+  class_of_kind-le : (k : Kind) → IsKind k → class_of_kind k ≤ MAX_NUMBER
   class_of_kind-le (kind.Source lo hi jobs class) is = let last = is.last in omega (arith, last)
   class_of_kind-le (kind.Server servers room lo hi by_class) is = omega arith
   class_of_kind-le (kind.Delay lo hi) is = omega arith
   class_of_kind-le (kind.Router turn) is = omega arith
   class_of_kind-le kind.Sink is = omega arith
 
-  class_from-le : (s : ℕ) → class_from net s ≤ MOST_NUMBER
+  class_from-le : (s : ℕ) → class_from net s ≤ MAX_NUMBER
   class_from-le s = by (site_at net s) refl
     where
-      by : (o : Option Site) → site_at net s ≡ o → class_from net s ≤ MOST_NUMBER
+      by : (o : Option Site) → site_at net s ≡ o → class_from net s ≤ MAX_NUMBER
       by None is = rw is (omega arith)
       by (Some site) is = rw is (class_of_kind-le site.kind (site_valid net s site valid is).kind)
 
@@ -144,10 +144,10 @@ module _ (net : Net) (valid : IsNet net) where
   short-job_text : (j : JobOf) → is_job_of net j ≡ true → IsShort 38 (job_text net j)
   short-job_text j own =
       let h = and_parts (is_source (site_of net j.source).kind)
-      (nat_lt j.count MOST_JOBS && nat_lt j.born net.horizon) own in
-      let counts = and_parts (nat_lt j.count MOST_JOBS) (nat_lt j.born net.horizon) h.1 in
-      let less = ltb-true j.count MOST_JOBS counts.0 in
-      let few : j.count ≤ MOST_NUMBER = omega (arith, less) in
+      (nat_lt j.count MAX_JOBS && nat_lt j.born net.horizon) own in
+      let counts = and_parts (nat_lt j.count MAX_JOBS) (nat_lt j.born net.horizon) h.1 in
+      let less = ltb-true j.count MAX_JOBS counts.0 in
+      let few : j.count ≤ MAX_NUMBER = omega (arith, less) in
       short-append 27 11 _ (class_text net j.source) (short-append 17 10 _ (decimal j.count)
       (short-append 16 1 (station_name net j.source) (codes ".") (short-station_name j.source)
       (short-codes 1 (codes ".") (omega arith) refl)) (short-decimal j.count few)) (short-class_text j.source)
@@ -155,13 +155,13 @@ module _ (net : Net) (valid : IsNet net) where
   -- ---- payload_text
 
   -- a word and one value, or two
-  short-one : (word : List ℕ) (a : ℕ) → IsShort 7 word → a ≤ MOST_NUMBER →
+  short-one : (word : List ℕ) (a : ℕ) → IsShort 7 word → a ≤ MAX_NUMBER →
       IsShort 29 (join_with_byte 32 (word ∷ decimal a ∷ []))
   short-one word a is le = short-weaker 18 29 _ (omega arith) (short-append 7 11 word (32 ∷ decimal a) is
       (short-append 1 10 (32 ∷ []) (decimal a) (short-codes _ _ (omega arith) refl)
       (short-decimal a le)))
 
-  short-two : (word : List ℕ) (a b : ℕ) → IsShort 7 word → a ≤ MOST_NUMBER → b ≤ MOST_NUMBER →
+  short-two : (word : List ℕ) (a b : ℕ) → IsShort 7 word → a ≤ MAX_NUMBER → b ≤ MAX_NUMBER →
       IsShort 29 (join_with_byte 32 (word ∷ decimal a ∷ decimal b ∷ []))
   short-two word a b is le leb = short-append 7 22 word _ is
       (short-append 1 21 (32 ∷ []) _ (short-codes _ _ (omega arith) refl)
@@ -172,17 +172,17 @@ module _ (net : Net) (valid : IsNet net) where
   short-change : (p : Param) (a b : ℕ) → is_sayable (record { param = p; a = a; b = b }) ≡ true →
       IsShort 29 (change_text (record { param = p; a = a; b = b }))
   short-change Every a b may = let h = and_parts _ _ may in short-two (param_word Every) a b
-      (short-codes _ _ (omega arith) refl) (leb-true a MOST_NUMBER h.0) (leb-true b MOST_NUMBER h.1)
+      (short-codes _ _ (omega arith) refl) (leb-true a MAX_NUMBER h.0) (leb-true b MAX_NUMBER h.1)
   short-change Service a b may = let h = and_parts _ _ may in short-two (param_word Service) a b
-      (short-codes _ _ (omega arith) refl) (leb-true a MOST_NUMBER h.0) (leb-true b MOST_NUMBER h.1)
+      (short-codes _ _ (omega arith) refl) (leb-true a MAX_NUMBER h.0) (leb-true b MAX_NUMBER h.1)
   short-change Hold a b may = let h = and_parts _ _ may in short-two (param_word Hold) a b
-      (short-codes _ _ (omega arith) refl) (leb-true a MOST_NUMBER h.0) (leb-true b MOST_NUMBER h.1)
+      (short-codes _ _ (omega arith) refl) (leb-true a MAX_NUMBER h.0) (leb-true b MAX_NUMBER h.1)
   short-change Servers a b may = let h = and_parts _ _ may in short-one (param_word Servers) a
-      (short-codes _ _ (omega arith) refl) (leb-true a MOST_NUMBER h.0)
+      (short-codes _ _ (omega arith) refl) (leb-true a MAX_NUMBER h.0)
   short-change Room a b may = let h = and_parts _ _ may in short-one (param_word Room) a
-      (short-codes _ _ (omega arith) refl) (leb-true a MOST_NUMBER h.0)
+      (short-codes _ _ (omega arith) refl) (leb-true a MAX_NUMBER h.0)
   short-change Weight a b may = let h = and_parts _ _ may in short-two (param_word Weight) a b
-      (short-codes _ _ (omega arith) refl) (leb-true a MOST_NUMBER h.0) (leb-true b MOST_NUMBER h.1)
+      (short-codes _ _ (omega arith) refl) (leb-true a MAX_NUMBER h.0) (leb-true b MAX_NUMBER h.1)
 
   short-payload_text : (p : Payload) → CarriesJobOf net p → is_sayable_payload p ≡ true →
       IsShort 43 (payload_text net p)
@@ -198,11 +198,11 @@ module _ (net : Net) (valid : IsNet net) where
 
   -- counts with at most ten digits each; a sum of stays has up to twenty
   abbrev pub AreSmall : Line → Type 0
-  AreSmall (Source sent) = sent ≤ MOST_NUMBER
+  AreSmall (Source sent) = sent ≤ MAX_NUMBER
   AreSmall (Server busy wait done lost) =
-      (busy ≤ MOST_NUMBER) × (wait ≤ MOST_NUMBER) × (done ≤ MOST_NUMBER) × (lost ≤ MOST_NUMBER)
-  AreSmall (Passed passed) = passed ≤ MOST_NUMBER
-  AreSmall (Sink got stay) = (got ≤ MOST_NUMBER) × (stay < 2 ^ 64)
+      (busy ≤ MAX_NUMBER) × (wait ≤ MAX_NUMBER) × (done ≤ MAX_NUMBER) × (lost ≤ MAX_NUMBER)
+  AreSmall (Passed passed) = passed ≤ MAX_NUMBER
+  AreSmall (Sink got stay) = (got ≤ MAX_NUMBER) × (stay < 2 ^ 64)
 
   short-counts_text : (l : Line) → AreSmall l → IsShort 63 (counts_text l)
   short-counts_text (Source sent) is = short-weaker 15 63 _ (omega arith) (short-append 5 10 (codes "sent=")
@@ -226,8 +226,8 @@ module _ (net : Net) (valid : IsNet net) where
 
   -- an entry of whose numbers all but a sum of stays have at most ten digits, and whose payload words can say
   pub record IsSmallEntry (e : Entry Msg Line) : Type 0 where
-    pub time : e.msg.key.time ≤ MOST_NUMBER
-    pub number : e.msg.key.number ≤ MOST_NUMBER
+    pub time : e.msg.key.time ≤ MAX_NUMBER
+    pub number : e.msg.key.number ≤ MAX_NUMBER
     pub job : CarriesJobOf net e.msg.payload
     pub sayable : is_sayable_payload e.msg.payload ≡ true
     pub counts : AreSmall e.line
@@ -243,7 +243,7 @@ module _ (net : Net) (valid : IsNet net) where
   short-space : IsShort 1 (codes " ")
   short-space = short-codes 1 (codes " ") (omega arith) refl
 
-  short-start : (time to sender number : ℕ) → time ≤ MOST_NUMBER → number ≤ MOST_NUMBER →
+  short-start : (time to sender number : ℕ) → time ≤ MAX_NUMBER → number ≤ MAX_NUMBER →
       IsShort 56 (line_start net (record { time = time; sender = sender; number = number }) to)
   short-start time to sender number few least =
       short-append 55 1 _ (codes " ") (short-append 45 10 _ (decimal number)

@@ -5,27 +5,27 @@ use Rattle.std.specs.declared.cmp.Ordering.{Ordering}
 use Rattle.std.specs.declared.cmp.Ordering.TheVariants.{Less, Equal, Greater}
 use Rattle.sim_base.specs.Order.{key_cmp}
 use Rattle.sim_base.specs.Params.{param_values}
-use Rattle.sim_base.specs.declared.lists.TheConstants.{MOST_DECISIONS}
+use Rattle.sim_base.specs.declared.lists.TheConstants.{MAX_DECISIONS}
 use Rattle.sim_base.specs.declared.message.Change.{Change}
 use Rattle.sim_base.specs.declared.message.Msg.{Msg}
 use Rattle.sim_base.specs.declared.message.Payload.{Payload}
 use Rattle.sim_base.specs.declared.message.Payload.TheVariants.{Tick, Job, Done, Set}
 use Rattle.net_model.specs.Net.{Net}
-use Rattle.decision_script.specs.declared.number.TheConstants.{MOST_NUMBER}
+use Rattle.decision_script.specs.declared.number.TheConstants.{MAX_NUMBER}
 use Rattle.stations.specs.Fitting.{is_job_of}
 use Rattle.stations.specs.declared.saved.Saved.{Saved}
 use Rattle.stations.specs.declared.saved.Shape.{Shape}
 use Rattle.stations.specs.declared.saved.Shape.TheVariants as shape
-use Rattle.stations.specs.declared.sender.TheConstants.{ALL_TIMES}
+use Rattle.stations.specs.declared.sender.TheConstants.{MAX_EVENT_TIMES}
 use Rattle.resume_laws.specs.RunKeeps.{completions_to}
 use Rattle.resume_laws.specs.Tally.{tally}
 
 -- ---- what a text can say
 
--- whether words can say a change: its values are at most `MOST_NUMBER`, and a parameter with one value has no second
+-- whether words can say a change: its values are at most `MAX_NUMBER`, and a parameter with one value has no second
 abbrev pub is_sayable : Change → Bool
-is_sayable change = nat_le change.a MOST_NUMBER
-    && (if param_values change.param == 1 then change.b == 0 else nat_le change.b MOST_NUMBER)
+is_sayable change = nat_le change.a MAX_NUMBER
+    && (if param_values change.param == 1 then change.b == 0 else nat_le change.b MAX_NUMBER)
 
 -- whether words can say the change of a decision; any other payload can be said
 abbrev pub is_sayable_payload : Payload → Bool
@@ -54,7 +54,7 @@ next_in (Some x) = x.next
 
 -- the number of a sender's next message. The numbers of decisions are places in a list of decisions
 abbrev pub next_of : List Saved → ℕ → ℕ
-next_of saved zero = MOST_DECISIONS
+next_of saved zero = MAX_DECISIONS
 next_of saved (suc i) = next_in (slice_get saved i)
 
 -- the number of jobs in service, if the shape is a server's
@@ -84,7 +84,7 @@ may_carry net saved completions to (Done j) =
 -- whether a message may be pending after `last`, and after this number of completions at its receiver
 abbrev pub may_be_due : Net → ℕ → List Saved → ℕ → Option Msg → Msg → Bool
 may_be_due net front saved completions last m =
-    (comes_after last m && (nat_le front m.key.time && nat_lt m.key.time ALL_TIMES))
+    (comes_after last m && (nat_le front m.key.time && nat_lt m.key.time MAX_EVENT_TIMES))
     && (((nat_lt 0 m.to && nat_le m.to (length net.sites)) && nat_le m.key.sender (length net.sites))
     && (nat_lt m.key.number (next_of saved m.key.sender) && may_carry net saved completions m.to m.payload))
 

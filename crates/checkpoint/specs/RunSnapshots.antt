@@ -5,7 +5,7 @@ use Rattle.sim_base.specs.Clones.{Clone}
 use Rattle.sim_base.specs.Names.{is_name}
 use Rattle.sim_base.specs.declared.entry.Entry.{Entry}
 use Rattle.sim_base.specs.declared.entry.Line.{Line}
-use Rattle.sim_base.specs.declared.lists.TheConstants.{MOST_DECISIONS}
+use Rattle.sim_base.specs.declared.lists.TheConstants.{MAX_DECISIONS}
 use Rattle.sim_base.specs.declared.message.Msg.{Msg}
 use Rattle.run_laws.specs.Handlers.{AreForStations}
 use Rattle.run_laws.specs.Runs.{run, end_of}
@@ -44,7 +44,7 @@ pub record IsSayableClone (net : Net) (c : Clone) : Type 0 where
   pub name : is_name c.name ≡ true
   pub stations : AreForStations (simulation net) c.plans
   pub early : AllByRecursion (λ p. p.at < net.horizon) c.plans
-  pub few : length c.plans ≤ MOST_DECISIONS
+  pub few : length c.plans ≤ MAX_DECISIONS
   pub sayable : AllByRecursion (λ p. is_sayable p.change ≡ true) c.plans
   pub end : IfSome c.end (λ at. at < net.horizon)
 

@@ -5,7 +5,7 @@ ghost use Rattle.sim_base.specs.Clones.{Clone};
 ghost use Rattle.stations.specs.Saving.{saved_of};
 ghost use Rattle.trace_report.specs.Slots.{AreNames};
 ghost use Rattle.trace_report.specs.TraceText.{entry_line};
-ghost use Rattle.trace_report.specs.declared.line.TheConstants.{MOST_LINE};
+ghost use Rattle.trace_report.specs.declared.line.TheConstants.{MAX_LINE};
 ghost use Rattle.checkpoint.specs.Accepted.{IsAccepted};
 ghost use Rattle.checkpoint.specs.RunSnapshots.{IsRunAt, snapshot_of, trace_line};
 ghost use Rattle.checkpoint.specs.TraceLines.{is_trace_line};
@@ -18,7 +18,7 @@ use sim_base::{Entry, Name, NoMemory};
 use solo_run::Solo;
 use stations::Saved;
 use std::alloc::Global;
-use trace_report::{MOST_LINE, Names, line_len, write_line};
+use trace_report::{MAX_LINE, Names, line_len, write_line};
 
 impl Snapshot {
     /// The snapshot of a clone's run that has come to a front: the clone's name, the front, the clone's end, and the
@@ -84,7 +84,7 @@ fn print_lines(alloc: Global, model: &Model, trace: &Log) -> Result<TraceLines, 
     ensures value { IfOk result (λ lines. lines ≡ map (trace_line model.now) trace.now) }
 {
     let names = Names::of(model);
-    let mut page = [0u8; MOST_LINE];
+    let mut page = [0u8; MAX_LINE];
     let mut lines = TraceLines::new(alloc);
     let mut walk = trace.walk_from(0);
     while let Some(entry) = walk.next() {
@@ -102,7 +102,7 @@ fn push_line(
     entry: &Entry,
 ) -> Result<(), NoMemory>
     requires names { AreNames model.now names.now }
-    requires page { MOST_LINE ≤ length page.old }
+    requires page { MAX_LINE ≤ length page.old }
     requires line { is_trace_line (trace_line model.now entry.now) ≡ true }
     ensures ok { OnOk result (lines.new ≡ lines.old ++ trace_line model.now entry.now ∷ []) }
     ensures page { length page.new ≡ length page.old }

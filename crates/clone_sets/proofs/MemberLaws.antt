@@ -12,7 +12,7 @@ use Rattle.std.specs.List.Sorted.{IsStrictlyIncreasing}
 use Rattle.std.proofs.lemmas.List.Elements.{All-filter, All-contains, filter_passes, All-from_get_or}
 use Rattle.std.proofs.lemmas.List.Kept.{IsStrictlyIncreasing-filter}
 use Rattle.std.proofs.lemmas.List.FromFn.{length-range_with_len, get_or-range_with_len}
-use Rattle.sim_base.specs.declared.lists.TheConstants.{MOST_CLONES}
+use Rattle.sim_base.specs.declared.lists.TheConstants.{MAX_CLONES}
 use Rattle.sim_base.proofs.Elements.{contains_tail}
 use Rattle.clone_sets.specs.Sets.{has, empty, without, size, IsFirst, members}
 use Rattle.clone_sets.proofs.SetLaws.{has-empty, has-without}
@@ -71,12 +71,12 @@ members_among_first (suc k) c s f h l m =
 -- the empty set has no members
 pub members-empty : members empty ≡ []
 unfolding members
-members-empty = members_among-empty MOST_CLONES 0
+members-empty = members_among-empty MAX_CLONES 0
 
 -- the first member is the least clone, and the others are those of the set without it
-pub members_first : (s f : ℕ) → IsFirst s f → f < MOST_CLONES → members s ≡ f ∷ members (without s f)
+pub members_first : (s f : ℕ) → IsFirst s f → f < MAX_CLONES → members s ≡ f ∷ members (without s f)
 unfolding members
-members_first s f h l = members_among_first MOST_CLONES 0 s f h (omega arith) (omega arith)
+members_first s f h l = members_among_first MAX_CLONES 0 s f h (omega arith) (omega arith)
 
 -- ---- length
 
@@ -98,43 +98,43 @@ length-members_among (suc k) c s l =
     ∙ sym (ones_step (s / 2 ^ c))
 
 -- there are as many members as the set's size
-pub length-members : (s : ℕ) → s < 2 ^ MOST_CLONES → length (members s) ≡ size s
+pub length-members : (s : ℕ) → s < 2 ^ MAX_CLONES → length (members s) ≡ size s
 unfolding members size
 length-members s l =
     let e : s / 2 ^ 0 ≡ s = omega arith in
-    length-members_among MOST_CLONES 0 s (omega arith) ∙ ap count_ones e
+    length-members_among MAX_CLONES 0 s (omega arith) ∙ ap count_ones e
 
 -- ---- All, IsStrictlyIncreasing and Contains of members
 
 -- the numbers that are looked at are below the limit
-numbers_below : All (λ c. c < MOST_CLONES) (range_with_len 0 MOST_CLONES)
+numbers_below : All (λ c. c < MAX_CLONES) (range_with_len 0 MAX_CLONES)
 numbers_below =
-    All-from_get_or (λ c. c < MOST_CLONES) (range_with_len 0 MOST_CLONES) 0
-    (λ i l. let low : i < MOST_CLONES = omega (arith, length-range_with_len 0 MOST_CLONES) in
-    omega (arith, get_or-range_with_len 0 MOST_CLONES i 0 low))
+    All-from_get_or (λ c. c < MAX_CLONES) (range_with_len 0 MAX_CLONES) 0
+    (λ i l. let low : i < MAX_CLONES = omega (arith, length-range_with_len 0 MAX_CLONES) in
+    omega (arith, get_or-range_with_len 0 MAX_CLONES i 0 low))
 
 -- and they rise
-numbers_rise : IsStrictlyIncreasing (range_with_len 0 MOST_CLONES)
+numbers_rise : IsStrictlyIncreasing (range_with_len 0 MAX_CLONES)
 numbers_rise = λ k l.
-    let low : k + 1 < MOST_CLONES = omega (arith, length-range_with_len 0 MOST_CLONES) in
-    let here = get_or-range_with_len 0 MOST_CLONES k 0 (omega arith) in
-    let next = get_or-range_with_len 0 MOST_CLONES (k + 1) 0 low in
+    let low : k + 1 < MAX_CLONES = omega (arith, length-range_with_len 0 MAX_CLONES) in
+    let here = get_or-range_with_len 0 MAX_CLONES k 0 (omega arith) in
+    let next = get_or-range_with_len 0 MAX_CLONES (k + 1) 0 low in
     omega (arith, here, next)
 
 -- the members are below the limit
-pub members_below : (s : ℕ) → All (λ c. c < MOST_CLONES) (members s)
+pub members_below : (s : ℕ) → All (λ c. c < MAX_CLONES) (members s)
 unfolding members
-members_below s = All-filter (has s) (λ c. c < MOST_CLONES) (range_with_len 0 MOST_CLONES) numbers_below
+members_below s = All-filter (has s) (λ c. c < MAX_CLONES) (range_with_len 0 MAX_CLONES) numbers_below
 
 -- the members rise
 pub members_rise : (s : ℕ) → IsStrictlyIncreasing (members s)
 unfolding members
-members_rise s = IsStrictlyIncreasing-filter (has s) (range_with_len 0 MOST_CLONES) numbers_rise
+members_rise s = IsStrictlyIncreasing-filter (has s) (range_with_len 0 MAX_CLONES) numbers_rise
 
 -- each member is in the set
 pub members_in : (s c : ℕ) → Contains (members s) c → has s c ≡ true
 unfolding members
-members_in s c = All-contains (λ d. has s d ≡ true) (members s) c (filter_passes (has s) (range_with_len 0 MOST_CLONES))
+members_in s c = All-contains (λ d. has s d ≡ true) (members s) c (filter_passes (has s) (range_with_len 0 MAX_CLONES))
 
 -- a list keeps its elements with x at its head, whether b is true or not
 Contains-cons_if : (b : Bool) (x c : ℕ) (xs : List ℕ) → Contains xs c → Contains (cons_if b x xs) c
@@ -154,6 +154,6 @@ in_members_among (suc k) c s d l m h =
     ]
 
 -- each clone of the set is a member
-pub in_members : (s c : ℕ) → c < MOST_CLONES → has s c ≡ true → Contains (members s) c
+pub in_members : (s c : ℕ) → c < MAX_CLONES → has s c ≡ true → Contains (members s) c
 unfolding members
-in_members s c l h = in_members_among MOST_CLONES 0 s c (omega arith) (omega arith) h
+in_members s c l h = in_members_among MAX_CLONES 0 s c (omega arith) (omega arith) h

@@ -8,7 +8,7 @@ use Rattle.std.proofs.lemmas.Nat.Bits.{bit_at_and, bit_at_xor, bit_at_not, bit_a
 use Rattle.std.proofs.lemmas.Nat.Bits.{same_from_bits_below, bit_at_cat_low, bit_at_cat_high, bit_at-trailing_zeros}
 use Rattle.std.specs.Int.Bits.{xor_self}
 use Rattle.std.proofs.lemmas.Bool.{cases_eq, cases_lt, ne_eqb}
-use Rattle.sim_base.specs.declared.lists.TheConstants.{MOST_CLONES}
+use Rattle.sim_base.specs.declared.lists.TheConstants.{MAX_CLONES}
 use Rattle.clone_sets.specs.Sets.{has, one, union, meet, minus, size, IsFirst}
 use Rattle.clone_sets.specs.Words.{above_word, low_word, high_words, set_of, AreWords, words_back, bit_in_word}
 use Rattle.clone_sets.proofs.SetLaws.{has-empty}
@@ -282,7 +282,7 @@ module _ (w0 w1 w2 w3 : ℕ) (h : AreWords w0 w1 w2 w3) where
       (omega (arith, le_or_r (bit_or (bit_or w0 w1) w2) w3))) words_empty
 
   -- a set is below the number that has a bit for each clone
-  pub set_of-lt : set_of w0 w1 w2 w3 < 2 ^ MOST_CLONES
+  pub set_of-lt : set_of w0 w1 w2 w3 < 2 ^ MAX_CLONES
   unfolding above_word
   set_of-lt = omega (arith, h.word0, h.word1, h.word2, h.word3)
 
@@ -299,6 +299,6 @@ one_by (suc (suc (suc zero))) c r l e = let f : c ≡ 192 + r = omega arith in
 one_by (suc (suc (suc (suc q)))) c r l e = absurd (omega arith)
 
 -- the words of one clone alone make the set of it
-pub set_of-one : (c : ℕ) → c < MOST_CLONES
+pub set_of-one : (c : ℕ) → c < MAX_CLONES
     → set_of (bit_in_word c 0) (bit_in_word c 1) (bit_in_word c 2) (bit_in_word c 3) ≡ one c
 set_of-one c l = one_by (c / 64) c (c % 64) (omega arith) (omega arith)

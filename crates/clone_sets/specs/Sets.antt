@@ -3,7 +3,7 @@ use Rattle.std.specs.Prelude.{◌≡◌, ℕ, ◌^◌, ◌<◌, ◌==◌, Bool, 
 use Rattle.std.specs.Prelude.{Option, Some, None, if◌then◌else◌, filter, bit_and, bit_or, bit_xor, count_ones}
 use Rattle.std.specs.Int.{bit_at}
 use Rattle.std.specs.List.{range_with_len}
-use Rattle.sim_base.specs.declared.lists.TheConstants.{MOST_CLONES}
+use Rattle.sim_base.specs.declared.lists.TheConstants.{MAX_CLONES}
 use Rattle.clone_sets.specs.declared.set.CloneSet.{CloneSet}
 
 -- whether a clone is in the set
@@ -44,7 +44,7 @@ size s = count_ones s
 
 -- the clones of the set, in rising order
 unfoldable pub members : CloneSet → List ℕ
-members s = filter (has s) (range_with_len 0 MOST_CLONES)
+members s = filter (has s) (range_with_len 0 MAX_CLONES)
 
 -- the clone is the least of the set
 pub record IsFirst (s : CloneSet) (c : ℕ) : Type 0 where

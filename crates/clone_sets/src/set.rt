@@ -7,7 +7,7 @@ ghost use Rattle.clone_sets.specs.Sets.{has, empty, one, union, meet, minus, wit
 ghost use Rattle.clone_sets.specs.Words.{bit_in_word};
 
 use crate::members::Members;
-use sim_base::MOST_CLONES;
+use sim_base::MAX_CLONES;
 use std::marker::Model;
 
 /// A set of clone numbers below `CloneSet::LIMIT`.
@@ -65,7 +65,7 @@ impl Eq for CloneSet {
 
 impl CloneSet {
     /// Clone numbers are below this.
-    pub const LIMIT: u32 = MOST_CLONES;
+    pub const LIMIT: u32 = MAX_CLONES;
 
     /// The empty set.
     pub fn empty() -> CloneSet

@@ -4,7 +4,7 @@ use Rattle.std.proofs.Common.{refl, ap, sym, ◌∙◌, arith, Ok, Err}
 use Rattle.std.proofs.lemmas.Bool.Decides.{nat_tests}
 use Rattle.std.proofs.lemmas.List.{length-take, take_all}
 use Rattle.sim_base.specs.Chain.{◌>>=◌}
-use Rattle.sim_base.specs.declared.limits.TheConstants.{MOST_FILE_BYTES}
+use Rattle.sim_base.specs.declared.limits.TheConstants.{MAX_FILE_BYTES}
 use Rattle.sim_outer.specs.Files.{prefix_of}
 use Rattle.net_model.specs.Text.{model_of_tree, tree}
 use Rattle.net_model.specs.declared.fault.ModelFault.TheVariants as bad_model
@@ -43,9 +43,9 @@ module _ {A : Type 0} (most : ℕ) (refusal : A) (reading : List ℕ → A) wher
 pub prefixes_state_the_same : PrefixesStateTheSame
 unfolding prefix_of
 prefixes_state_the_same file = record {
-  model_is = within-take MOST_FILE_BYTES (Err bad_model.TooLong) (λ t. model_of_tree (tree t)) file;
-  script_is = within-take MOST_FILE_BYTES (Err bad_script.TooLong)
+  model_is = within-take MAX_FILE_BYTES (Err bad_model.TooLong) (λ t. model_of_tree (tree t)) file;
+  script_is = within-take MAX_FILE_BYTES (Err bad_script.TooLong)
       (λ t. after_lines 1 new_reader (lines t) >>= λ r. Ok (script_of r)) file;
-  watches_are = within-take MOST_FILE_BYTES (Err bad_watches.TooLong)
+  watches_are = within-take MAX_FILE_BYTES (Err bad_watches.TooLong)
       (λ t. watch_text.after_lines 1 [] (lines t)) file;
 }

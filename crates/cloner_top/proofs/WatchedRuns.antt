@@ -8,7 +8,7 @@ use Rattle.std.proofs.lemmas.List.{length-map}
 use Rattle.std.proofs.lemmas.List.Sorted.{IsPermutation-sym}
 use Rattle.sim_base.specs.Clones.{Clone, clone_at}
 use Rattle.sim_base.specs.declared.message.TheConstants.{WORD_NUMBERS}
-use Rattle.sim_base.specs.declared.lists.TheConstants.{MOST_CLONES, MOST_DECISIONS}
+use Rattle.sim_base.specs.declared.lists.TheConstants.{MAX_CLONES, MAX_DECISIONS}
 use Rattle.net_model.specs.Net.{Net}
 use Rattle.run_laws.specs.Queue.{In}
 use Rattle.run_laws.specs.Sharing.{IsWithinLimit}
@@ -142,21 +142,21 @@ branches_short net planned cs ws plans fits k there =
     let made = in_map (λ (b : Branch). b.clone) (branches_at (simulation net) net.horizon (map initial_branch cs)
     (triggers_of net ws)) (clone_at (clones_with_branches net cs ws) k)
     (clone_in (clones_with_branches net cs ws) k there) in
-    let few = branches_plans (simulation net) net.horizon (map initial_branch cs) (triggers_of net ws) MOST_DECISIONS
+    let few = branches_plans (simulation net) net.horizon (map initial_branch cs) (triggers_of net ws) MAX_DECISIONS
     initial made.0 made.1 in
     let same = ap (λ (c : Clone). length c.plans) made.2 in
     let watches = watches_max ws (accepted_watches_fit net cs ws fits).clones_max in
     let count = length-map ws (trigger_of net) in
     omega (arith, few, same, watches, count)
   where
-    initial : HaveFewPlans MOST_DECISIONS (map initial_branch cs)
+    initial : HaveFewPlans MAX_DECISIONS (map initial_branch cs)
     initial b i =
         let from = in_map initial_branch cs b i in
-        subst (λ (x : Branch). length x.clone.plans ≤ MOST_DECISIONS) (sym from.2)
+        subst (λ (x : Branch). length x.clone.plans ≤ MAX_DECISIONS) (sym from.2)
         (all_in (IsPlanned planned) cs from.0 plans.each from.1).short
 
-    watches_max : (xs : List Watch) → (0 < length xs → length cs + length xs ≤ MOST_CLONES)
-        → length xs ≤ MOST_CLONES
+    watches_max : (xs : List Watch) → (0 < length xs → length cs + length xs ≤ MAX_CLONES)
+        → length xs ≤ MAX_CLONES
     watches_max [] h = omega arith
     watches_max (x ∷ xs) h = let l = h (omega arith) in omega (arith, l)
 

@@ -1,8 +1,8 @@
 //! Text lines of bounded length: the error message, and the rounds of `links`.
 ghost use Rattle.std.specs.Prelude.{◌≡◌, ◌+◌, ◌≤◌, ◌++◌, [], decimal, length};
-ghost use Rattle.cloner_top.specs.declared.error_line.TheConstants.{LONGEST_LINE};
-ghost use Rattle.sim_base.specs.declared.name.TheConstants.{LONGEST_NAME};
-ghost use Rattle.trace_report.specs.declared.digits.TheConstants.{LONGEST_NUMBER};
+ghost use Rattle.cloner_top.specs.declared.error_line.TheConstants.{MAX_ERROR_LINE};
+ghost use Rattle.sim_base.specs.declared.name.TheConstants.{MAX_NAME_LEN};
+ghost use Rattle.trace_report.specs.declared.digits.TheConstants.{MAX_NUMBER_LEN};
 
 use arrayvec::ArrayString;
 use itoa::Buffer;
@@ -10,12 +10,12 @@ use sim_base::Name;
 use std::marker::Model;
 
 /// The maximum number of bytes in a line. The longest usage line is shorter.
-pub const LONGEST_LINE: usize = 320;
+pub const MAX_ERROR_LINE: usize = 320;
 
-/// A text line of at most [`LONGEST_LINE`] bytes: an error message, or the rounds of `links`. It needs no allocation.
+/// A text line of at most [`MAX_ERROR_LINE`] bytes: an error message, or the rounds of `links`. It needs no allocation.
 #[derive(Drop)]
 pub struct ErrorLine {
-    text: ArrayString<LONGEST_LINE>,
+    text: ArrayString<MAX_ERROR_LINE>,
 }
 
 impl Model for ErrorLine {
@@ -38,7 +38,7 @@ impl ErrorLine {
 
     /// Appends a piece.
     pub fn push(&mut self, piece: &str)
-        requires free { length self.old + length piece.now ≤ LONGEST_LINE }
+        requires free { length self.old + length piece.now ≤ MAX_ERROR_LINE }
         ensures { self.new ≡ self.old ++ piece.now }
     {
         let Ok(()) = self.text.try_push_str(piece) else {
@@ -48,9 +48,9 @@ impl ErrorLine {
 
     /// Appends a number in decimal.
     pub fn push_number(&mut self, number: u64)
-        requires free { length self.old + LONGEST_NUMBER ≤ LONGEST_LINE }
+        requires free { length self.old + MAX_NUMBER_LEN ≤ MAX_ERROR_LINE }
         ensures value { self.new ≡ self.old ++ decimal number }
-        ensures short { length self.new ≤ length self.old + LONGEST_NUMBER }
+        ensures short { length self.new ≤ length self.old + MAX_NUMBER_LEN }
     {
         let mut buffer = Buffer::new();
         self.push(buffer.format(number));
@@ -59,9 +59,9 @@ impl ErrorLine {
     /// Appends a name.
     #[tactic(auto, using(sim_base::proofs::NameBytes::short_name))]
     pub fn push_name(&mut self, name: &Name)
-        requires free { length self.old + LONGEST_NAME ≤ LONGEST_LINE }
+        requires free { length self.old + MAX_NAME_LEN ≤ MAX_ERROR_LINE }
         ensures value { self.new ≡ self.old ++ name.now }
-        ensures short { length self.new ≤ length self.old + LONGEST_NAME }
+        ensures short { length self.new ≤ length self.old + MAX_NAME_LEN }
     {
         self.push(name.text());
     }

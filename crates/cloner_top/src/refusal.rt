@@ -1,7 +1,7 @@
 //! Why the output is missing or incomplete.
 ghost use Rattle.std.specs.Prelude.{◌≡◌, ◌≤◌, length};
 ghost use Rattle.cloner_top.specs.Refusals.{error_line, status_of, unread_line};
-ghost use Rattle.cloner_top.specs.declared.error_line.TheConstants.{LONGEST_LINE};
+ghost use Rattle.cloner_top.specs.declared.error_line.TheConstants.{MAX_ERROR_LINE};
 
 use crate::error_line::ErrorLine;
 use crate::excess::Excess;
@@ -38,7 +38,7 @@ pub enum Refusal {
 
 // An error line without numbers.
 fn line_of_text(text: &str) -> ErrorLine
-    requires { length text.now ≤ LONGEST_LINE }
+    requires { length text.now ≤ MAX_ERROR_LINE }
     ensures { result ≡ text.now }
 {
     let mut line = ErrorLine::new();

@@ -2,9 +2,9 @@
 ghost use Rattle.std.specs.Prelude.{◌≡◌, ◌+◌, ◌++◌, ◌≤◌, length};
 ghost use Rattle.cloner_top.specs.Stops.{key_part, stop_line, stop_status, model_line};
 ghost use Rattle.cloner_top.specs.Stops.{script_line, decision_line, no_clone_line, watch_line, watches_line};
-ghost use Rattle.cloner_top.specs.declared.error_line.TheConstants.{LONGEST_LINE};
+ghost use Rattle.cloner_top.specs.declared.error_line.TheConstants.{MAX_ERROR_LINE};
 ghost use Rattle.net_model.specs.Faults.{fault_key};
-ghost use Rattle.net_model.specs.declared.key_text.TheConstants.{LONGEST_KEY_TEXT};
+ghost use Rattle.net_model.specs.declared.key_text.TheConstants.{MAX_KEY_TEXT_LEN};
 
 use crate::error_line::ErrorLine;
 use decision_book::Reply;
@@ -46,9 +46,9 @@ fn line_of_model(fault: &ModelFault) -> ErrorLine
 
 // Appends the key that a refusal names, if any.
 fn push_key(line: &mut ErrorLine, fault: &ModelFault)
-    requires free { length line.old + 5 + LONGEST_KEY_TEXT ≤ LONGEST_LINE }
+    requires free { length line.old + 5 + MAX_KEY_TEXT_LEN ≤ MAX_ERROR_LINE }
     ensures value { line.new ≡ line.old ++ key_part (fault_key fault.now) }
-    ensures short { length line.new ≤ length line.old + 5 + LONGEST_KEY_TEXT }
+    ensures short { length line.new ≤ length line.old + 5 + MAX_KEY_TEXT_LEN }
 {
     if let Some(key) = fault.key() {
         line.push(" key ");

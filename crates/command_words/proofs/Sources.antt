@@ -1,7 +1,7 @@
 -- The request of a study that is generated from a number.
 use Rattle.std.proofs.Common.{◌≡◌, ◌&&◌, ℕ, Bool, true, false, cond, List, [], ◌∷◌, codes, refl, subst, IfSome}
 use Rattle.std.proofs.Common.{Option, Some, None, bytes_eq, option_map, option_and_then}
-use Rattle.command_words.specs.declared.request.TheConstants.{MOST_STUDY}
+use Rattle.command_words.specs.declared.request.TheConstants.{MAX_STUDY}
 use Rattle.command_words.specs.Numbers.{number_to}
 use Rattle.command_words.specs.declared.request.Mode.{Mode}
 use Rattle.command_words.specs.declared.request.Mode.TheVariants.{Links, Report, Run, Solo, Stats}
@@ -69,7 +69,7 @@ made-reports (Some n) workers = map-reports (study_of (Number n) Report) workers
 -- one more positional
 one-reports : (mode number : List ℕ) (v : GivenView) → AreReportsIfMade (form_of_one mode number v)
 one-reports mode number v = cond-reports (bytes_eq mode (codes "gen")) _ None
-    (made-reports (number_to MOST_STUDY number) (workers_alone v.workers v.clone)) tt
+    (made-reports (number_to MAX_STUDY number) (workers_alone v.workers v.clone)) tt
 
 -- two more positionals
 two-reports : (mode first second : List ℕ) (v : GivenView) → AreReportsIfMade (form_of_two mode first second v)

@@ -10,7 +10,7 @@ use Rattle.command_words.specs.declared.request.Mode.TheVariants.{Links, Report,
 use Rattle.command_words.specs.declared.request.Request.{Request}
 use Rattle.command_words.specs.declared.request.Source.{Source}
 use Rattle.command_words.specs.declared.request.Source.TheVariants as origin
-use Rattle.command_words.specs.declared.request.TheConstants.{MOST_STUDY, MOST_WORKERS}
+use Rattle.command_words.specs.declared.request.TheConstants.{MAX_STUDY, MAX_WORKERS}
 use Rattle.command_words.specs.Numbers.{number_to}
 use Rattle.command_words.specs.Rules.{values}
 use Rattle.command_words.specs.Values.{GivenView}
@@ -56,10 +56,10 @@ abbrev pub is_text : List ℕ → Bool
 is_text [] = false
 is_text (b ∷ bs) = true
 
--- 1 to `MOST_WORKERS`, and 1 if there is no such option
+-- 1 to `MAX_WORKERS`, and 1 if there is no such option
 abbrev pub workers_of : Option (List ℕ) → Option ℕ
 workers_of None = Some 1
-workers_of (Some word) = number_to MOST_WORKERS word
+workers_of (Some word) = number_to MAX_WORKERS word
 
 -- a word as a name
 abbrev pub name_of : List ℕ → Option (List ℕ)
@@ -119,7 +119,7 @@ watch_form model script watches v =
 abbrev pub gen_form : List ℕ → GivenView → Option RequestView
 gen_form number v =
     option_and_then (λ n. option_map (study_of (Number n) Report) (workers_alone v.workers v.clone))
-    (number_to MOST_STUDY number)
+    (number_to MAX_STUDY number)
 
 -- the mode with one more positional
 abbrev pub form_of_one : List ℕ → List ℕ → GivenView → Option RequestView

@@ -35,5 +35,5 @@ pub mod request;
 pub mod usage;
 
 pub use reading::read_words;
-pub use request::{Assignment, MOST_WORKERS, Mode, Request, Source, WordsFault};
+pub use request::{Assignment, MAX_WORKERS, Mode, Request, Source, WordsFault};
 pub use usage::usage_line;

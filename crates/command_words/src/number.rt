@@ -5,7 +5,7 @@ ghost use Rattle.command_words.specs.Numbers.{is_positive, number_to as number_i
 use sim_base::number::{are_digits, may_lead, value};
 
 // The number of digits of the greatest number that a command line may have.
-pub(crate) const LONGEST_GIVEN_NUMBER: usize = 6;
+pub(crate) const MAX_GIVEN_NUMBER_LEN: usize = 6;
 
 // Whether a word is a number from 1 on, without a leading zero or sign.
 fn is_positive_number(word: &[u8]) -> bool
@@ -24,7 +24,7 @@ pub(crate) fn number_to(most: u32, word: &[u8]) -> Option<u32>
     ensures some { IfSome result (λ n. 1 ≤ n) }
     ensures few { IfSome result (λ n. n ≤ most) }
 {
-    if !is_positive_number(word) || word.len() > LONGEST_GIVEN_NUMBER {
+    if !is_positive_number(word) || word.len() > MAX_GIVEN_NUMBER_LEN {
         return None;
     }
     let number = value(word);

@@ -8,7 +8,7 @@ ghost use Rattle.command_words.specs.Views.{given_view};
 
 use crate::given::{Given, given_words};
 use crate::number::number_to;
-use crate::request::{Assignment, MOST_STUDY, MOST_WORKERS, Mode, Request, Source, WordsFault};
+use crate::request::{Assignment, MAX_STUDY, MAX_WORKERS, Mode, Request, Source, WordsFault};
 use sim_base::Name;
 use sim_outer::Word;
 use std::alloc::{AllocError, Global};
@@ -27,11 +27,11 @@ fn is_text(text: &str) -> bool
 fn workers_of(word: Option<&str>) -> Option<u32>
     ensures value { result ≡ workers_in (option_map (λ s. s.now) word.entry) }
     ensures some { IfSome result (λ n. 1 ≤ n) }
-    ensures few { IfSome result (λ n. n ≤ MOST_WORKERS) }
+    ensures few { IfSome result (λ n. n ≤ MAX_WORKERS) }
 {
     match word {
         None => Some(1),
-        Some(word) => number_to(MOST_WORKERS, word.as_bytes()),
+        Some(word) => number_to(MAX_WORKERS, word.as_bytes()),
     }
 }
 
@@ -39,7 +39,7 @@ fn workers_of(word: Option<&str>) -> Option<u32>
 fn workers_alone(given: &Given) -> Option<u32>
     ensures value { result ≡ workers_alone_of (given_view given.now).workers (given_view given.now).clone }
     ensures some { IfSome result (λ n. 1 ≤ n) }
-    ensures few { IfSome result (λ n. n ≤ MOST_WORKERS) }
+    ensures few { IfSome result (λ n. n ≤ MAX_WORKERS) }
 {
     match given.clone {
         None => workers_of(given.workers),
@@ -135,7 +135,7 @@ fn watch_request<'a>(
 fn gen_request<'a>(number: &str, given: &Given) -> Option<Request<'a>>
     ensures value { option_map request_view result ≡ gen_form number.now (given_view given.now) }
 {
-    let number = number_to(MOST_STUDY, number.as_bytes())?;
+    let number = number_to(MAX_STUDY, number.as_bytes())?;
     let workers = workers_alone(given)?;
     let source = Source::Number(number);
     Some(Request {

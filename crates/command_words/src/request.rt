@@ -1,14 +1,14 @@
 //! The request of a command line: what to do, and with how many workers.
 ghost use Rattle.std.specs.Prelude.{◌≤◌};
-ghost use Rattle.command_words.specs.declared.request.TheConstants.{MOST_WORKERS};
+ghost use Rattle.command_words.specs.declared.request.TheConstants.{MAX_WORKERS};
 
 use sim_base::Name;
 
 /// The maximum number of workers.
-pub const MOST_WORKERS: u32 = sim_base::limits::MOST_WORKERS;
+pub const MAX_WORKERS: u32 = sim_base::limits::MAX_WORKERS;
 
 /// The greatest number from which a study may be generated.
-pub(crate) const MOST_STUDY: u32 = 999_999;
+pub(crate) const MAX_STUDY: u32 = 999_999;
 
 /// The mode of a study whose decisions are all made first: which clones are run, and what is written of them.
 #[derive(Clone, Copy, Debug, PartialEq, Eq)]
@@ -60,10 +60,10 @@ pub enum Assignment<'a> {
 pub struct Request<'a> {
     /// What to do.
     pub assignment: Assignment<'a>,
-    /// The number of workers, from 1 to [`MOST_WORKERS`].
+    /// The number of workers, from 1 to [`MAX_WORKERS`].
     pub workers: u32,
     ghost some: { 1 ≤ workers },
-    ghost few: { workers ≤ MOST_WORKERS },
+    ghost few: { workers ≤ MAX_WORKERS },
 }
 
 /// Why there is no request.

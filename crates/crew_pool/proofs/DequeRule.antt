@@ -35,7 +35,7 @@ use Rattle.crew_pool.specs.Deque.{seat_view, occurrences, one_if_same, one_if_be
 use Rattle.crew_pool.specs.Deque.{KnowsDealt, EachKnowsDealt, TasksOnce, TakesTasks, DealsTask, IsComplete}
 use Rattle.crew_pool.specs.Deque.{numbers, IsItemAt, view_after}
 use Rattle.crew_pool.proofs.Pairs.{numbers-push, EachPair-push, EachPair-weaken, EachPair-none, IsItemAt-more, IsItemAt-last}
-use Rattle.crew_pool.specs.declared.task_deque.TheConstants.{ALL_PARTS}
+use Rattle.crew_pool.specs.declared.task_deque.TheConstants.{MAX_PARTS}
 
 -- ---- occurrences
 
@@ -65,7 +65,7 @@ sum_by-bounds f (u ∷ us) (suc port) v e = omega (arith, sum_by-bounds f us por
 
 -- if one seat has every part, the others have none
 sum_by-alone : {X : Type 0} (views : List (SeatView X)) (port : ℕ) (v : SeatView X)
-    → sum_by (λ u. u.parts) views ≡ ALL_PARTS → get_elem? views port ≡ some v → v.parts ≡ ALL_PARTS
+    → sum_by (λ u. u.parts) views ≡ MAX_PARTS → get_elem? views port ≡ some v → v.parts ≡ MAX_PARTS
     → (j : ℕ) (u : SeatView X) → j ≢ port → get_elem? views j ≡ some u → u.parts ≡ 0
 sum_by-alone {X} views port v sum at every j u other e =
     let w : SeatView X = seat_view 0 [] [] in
@@ -117,13 +117,13 @@ EachKnowsDealt-idle {X} x dealt (u ∷ us) each none =
 -- ---- TasksOnce
 
 -- the rule holds of an empty deque whose owner has every part
-pub TasksOnce-begins : {X : Type 0} → TasksOnce {X = X} [] (seat_view ALL_PARTS [] [] ∷ [])
+pub TasksOnce-begins : {X : Type 0} → TasksOnce {X = X} [] (seat_view MAX_PARTS [] [] ∷ [])
 TasksOnce-begins {X} = ([], refl, (λ x. none x), only, tt)
   where
     none : (x : ℕ) → 0 + 0 + 0 ≡ one_if_below x 0
     none x = grind arith
 
-    only : EachKnowsDealt {X = X} [] (seat_view ALL_PARTS [] [] ∷ [])
+    only : EachKnowsDealt {X = X} [] (seat_view MAX_PARTS [] [] ∷ [])
     only zero v e =
         subst (λ (u : SeatView X). KnowsDealt [] u) (some-injective _ v e) ((λ _. refl), λ _. refl)
     only (suc j) v e = absurd (some-ne-none v (sym e))
@@ -154,7 +154,7 @@ TasksOnce-takes port v part [] rest views less most h at = absurd (omega (arith,
 TasksOnce-takes port v part (x ∷ y ∷ ys) rest views less most h at = absurd (omega (arith, most))
 
 -- and when a seat with every part deals one more task, whose number is the next
-pub TasksOnce-deals : {X : Type 0} (port : ℕ) (v : SeatView X) (i : ℕ) (x : X) → v.parts ≡ ALL_PARTS
+pub TasksOnce-deals : {X : Type 0} (port : ℕ) (v : SeatView X) (i : ℕ) (x : X) → v.parts ≡ MAX_PARTS
     → i ≡ length v.dealt
     → Pushes TasksOnce port v ((i, x) ∷ []) (DealsTask v ((i, x) ∷ []))
 TasksOnce-deals {X} port v i x every number tasks views h at =
@@ -219,7 +219,7 @@ TasksOnce-forks {X} port v two tasks views h at =
 
 -- and when a seat with every part, which has taken each task that was dealt, forgets them: a call has ended, and the
 -- deque is empty; the seat that is made has no part
-pub TasksOnce-renews : {X : Type 0} (port : ℕ) (v : SeatView X) → v.parts ≡ ALL_PARTS → IsComplete v
+pub TasksOnce-renews : {X : Type 0} (port : ℕ) (v : SeatView X) → v.parts ≡ MAX_PARTS → IsComplete v
     → Forks TasksOnce port v (seat_view v.parts [] []) (seat_view 0 [] [])
 TasksOnce-renews {X} port v every complete tasks views h at =
     let l : SeatView X = seat_view v.parts [] [] in

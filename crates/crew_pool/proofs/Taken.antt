@@ -1,7 +1,7 @@
 -- The knowledge of the owner during a call.
 use Rattle.std.proofs.Common.{◌≡◌, ℕ, ◌+◌, ◌-◌, ◌<◌, List, [], refl, sym, ap, ◌∙◌, subst, arith}
-use Rattle.crew_pool.specs.declared.workers.TheConstants.{MOST_WORKERS}
-use Rattle.crew_pool.specs.declared.task_deque.TheConstants.{ALL_PARTS}
+use Rattle.crew_pool.specs.declared.workers.TheConstants.{MAX_WORKERS}
+use Rattle.crew_pool.specs.declared.task_deque.TheConstants.{MAX_PARTS}
 use Rattle.crew_pool.specs.declared.task_deque.SeatView.{SeatView}
 use Rattle.crew_pool.specs.Deque.{seat_view, numbers, EachPair}
 
@@ -31,9 +31,9 @@ HasTaken-next {X} asks parts more now items v w taken ps e sum h =
 
 -- after the owner has popped, taken n seats back and popped again, it has every part, and knows the items
 pub parts_back : {X : Type 0} (n : ℕ) (items : List X) (v0 v1 v2 v3 : SeatView X) (l1 l2 l3 : List ℕ)
-    → n < MOST_WORKERS → v0 ≡ seat_view (ALL_PARTS - n) items [] → v1 ≡ seat_view v0.parts v0.dealt l1
+    → n < MAX_WORKERS → v0 ≡ seat_view (MAX_PARTS - n) items [] → v1 ≡ seat_view v0.parts v0.dealt l1
     → v2 ≡ seat_view (v1.parts + n) v1.dealt l2 → v3 ≡ seat_view v2.parts v2.dealt l3
-    → (v3.parts ≡ ALL_PARTS) × (v3.dealt ≡ items) × (v3.taken ≡ l3) × (v2.dealt ≡ items)
+    → (v3.parts ≡ MAX_PARTS) × (v3.dealt ≡ items) × (v3.taken ≡ l3) × (v2.dealt ≡ items)
 parts_back {X} n items v0 v1 v2 v3 l1 l2 l3 few e0 e1 e2 e3 =
     let parts : SeatView X → ℕ = λ v. v.parts in
     let dealt : SeatView X → List X = λ v. v.dealt in

@@ -23,11 +23,11 @@ use Rattle.atomic_blocks.specs.Lent.{RowsId}
 use Rattle.crossbeam_deque.specs.Handles.{Pass, view, IsPassOf, worker_flavor, worker_view}
 use Rattle.crossbeam_deque.specs.declared.handles.Worker.{Worker}
 use Rattle.crew_pool.specs.Tasks.{EachAt}
-use Rattle.crew_pool.specs.declared.crew.TheConstants.{MOST_TASKS}
-use Rattle.crew_pool.specs.declared.workers.TheConstants.{MOST_WORKERS}
+use Rattle.crew_pool.specs.declared.crew.TheConstants.{MAX_TASKS}
+use Rattle.crew_pool.specs.declared.workers.TheConstants.{MAX_WORKERS}
 use Rattle.crew_pool.specs.Deque.{seat_view, numbers, occurrences, EachPair, IsComplete}
 use Rattle.crew_pool.specs.declared.task_deque.SeatView.{SeatView}
-use Rattle.crew_pool.specs.declared.task_deque.TheConstants.{ALL_PARTS}
+use Rattle.crew_pool.specs.declared.task_deque.TheConstants.{MAX_PARTS}
 
 -- a call that was started: the work, and the items of its tasks
 pub record CallView (W X : Type 0) : Type 0 where
@@ -64,16 +64,16 @@ HasTaken asks parts items owner pairs = (worker_view owner ≡ seat_view parts i
 -- the owner between two calls: it has every part, and all tasks were taken
 pub record IsResting {X A P : Type 0} (owner : Worker (ℕ × X) A (SeatView X) P) : Type 0 where
   pub fifo : worker_flavor owner ≡ 0
-  pub every : (worker_view owner).parts ≡ ALL_PARTS
+  pub every : (worker_view owner).parts ≡ MAX_PARTS
   pub complete : IsComplete (worker_view owner)
 
 -- the owner once all tasks of a call were dealt and `out` parts were cut off: it has taken nothing
 pub record IsDealt {X A P : Type 0} (takes : ℕ → X → Type 0) (out : ℕ) (items : List X)
     (owner : Worker (ℕ × X) A (SeatView X) P) : Type 0 where
   pub fifo : worker_flavor owner ≡ 0
-  pub dealt : worker_view owner ≡ seat_view (ALL_PARTS - out) items []
-  pub few : out < MOST_WORKERS
-  pub tasks : length items ≤ MOST_TASKS
+  pub dealt : worker_view owner ≡ seat_view (MAX_PARTS - out) items []
+  pub few : out < MAX_WORKERS
+  pub tasks : length items ≤ MAX_TASKS
   pub ready : EachAt takes items
 
 -- no job is out at these callers

@@ -22,7 +22,7 @@ use lib.ListN.{get_elem?}
 use Rattle.crossbeam_deque.specs.Handles.{worker_deque, worker_flavor}
 use Rattle.crossbeam_deque.specs.declared.handles.Worker.{Worker}
 use Rattle.crew_pool.specs.declared.task_deque.SeatView.{SeatView}
-use Rattle.crew_pool.specs.declared.task_deque.TheConstants.{ALL_PARTS}
+use Rattle.crew_pool.specs.declared.task_deque.TheConstants.{MAX_PARTS}
 
 -- both handles are on the same deque, and both are first in, first out, or neither is
 abbrev pub SameDeque : {T A V P : Type 0} → Worker T A V P → Worker T A V P → Type 0
@@ -71,7 +71,7 @@ EachKnowsDealt {X} dealt views =
 -- its item
 abbrev pub TasksOnce : {X : Type 0} → List (ℕ × X) → List (SeatView X) → Type 0
 TasksOnce {X} tasks views =
-    (dealt : List X) × (sum_by (λ v. v.parts) views ≡ ALL_PARTS)
+    (dealt : List X) × (sum_by (λ v. v.parts) views ≡ MAX_PARTS)
     × ((x : ℕ) → sum_by (λ v. occurrences x v.taken) views + occurrences x (numbers tasks)
     ≡ one_if_below x (length dealt))
     × EachKnowsDealt dealt views × EachPair (IsItemAt dealt) tasks
@@ -90,4 +90,4 @@ DealsTask v tasks w = w ≡ seat_view v.parts (v.dealt ++ map (λ p. p.1) tasks)
 
 -- if the seat has every part, it has taken each number that was dealt, once
 abbrev pub IsComplete : {X : Type 0} → SeatView X → Type 0
-IsComplete v = v.parts ≡ ALL_PARTS → (x : ℕ) → occurrences x v.taken ≡ one_if_below x (length v.dealt)
+IsComplete v = v.parts ≡ MAX_PARTS → (x : ℕ) → occurrences x v.taken ≡ one_if_below x (length v.dealt)

@@ -1,6 +1,6 @@
 -- The tasks of a crew, and its results.
 use Rattle.std.specs.Prelude.{◌≡◌, ℕ, ◌+◌, ◌<◌, ◌≤◌, List, length, slice_index_or, sum_by}
-use Rattle.crew_pool.specs.declared.crew.TheConstants.{MOST_TASKS}
+use Rattle.crew_pool.specs.declared.crew.TheConstants.{MAX_TASKS}
 
 -- `asks` holds of each element and its place
 abbrev pub EachAt : {X : Type 0} → (ℕ → X → Type 0) → List X → Type 0
@@ -12,7 +12,7 @@ AnswersTo {X} answers items i out = (d : X) → answers i (slice_index_or items 
 
 -- all tasks may be run on these items: no more than a call may have, each ready for the task of its place
 pub record MayRunAll {X : Type 0} (takes : ℕ → X → Type 0) (items : List X) : Type 0 where
-  pub few : length items ≤ MOST_TASKS
+  pub few : length items ≤ MAX_TASKS
   pub ready : EachAt takes items
 
 -- all tasks have run on these items: there is an answer for each, at its place, and the counter has grown by their cost

@@ -15,7 +15,7 @@ use std::sync::ledger::Ledger;
 use std::sync::{Arc, Wait};
 
 /// The greatest number of tasks of a call.
-pub const MOST_TASKS: usize = 64;
+pub const MAX_TASKS: usize = 64;
 
 /// The caller's handle on a crew: workers that stay from call to call, one of them the caller. After a call was out of
 /// memory the crew is spent, and each later call reports out of memory at once. Contracts see nothing of it.

@@ -2,9 +2,9 @@
 ghost use Rattle.std.specs.Prelude.{◌≡◌, ◌<◌, ◌≤◌, Some, map, length, IfOk, IfSome};
 ghost use Rattle.crew_pool.specs.Tasks.{MayRunAll, HaveRunAll};
 ghost use Rattle.crew_pool.specs.Slots.{slot_with, answer_in, EachSlotReady, SlotAnswers, EachSlotAnswers};
-ghost use Rattle.crew_pool.specs.declared.crew.TheConstants.{MOST_TASKS};
+ghost use Rattle.crew_pool.specs.declared.crew.TheConstants.{MAX_TASKS};
 
-use crate::crew::MOST_TASKS;
+use crate::crew::MAX_TASKS;
 use crate::gate::Gate;
 use crate::lists::add;
 use crate::own_counter::{run_with_own_counter, tick_costs};
@@ -98,7 +98,7 @@ fn run_slots<W: Work, G: Gate, R: Threads + Wait + Sync>(
     workers: Workers,
     slots: &mut [Slot<W::In, W::Out>],
 )
-    requires few { length slots.old ≤ MOST_TASKS }
+    requires few { length slots.old ≤ MAX_TASKS }
     requires ready { EachSlotReady (W.ready work.now) slots.old }
     ensures answers { EachSlotAnswers (W.answers work.now) slots.old slots.new }
 {
@@ -110,7 +110,7 @@ fn run_slots<W: Work, G: Gate, R: Threads + Wait + Sync>(
         slots,
         threads,
         &|i: usize, slot: &mut Slot<W::In, W::Out>|
-            requires { (i < MOST_TASKS) × (1 ≤ size) × IfSome slot.now.item (λ x. W.ready work.now i x) }
+            requires { (i < MAX_TASKS) × (1 ≤ size) × IfSome slot.now.item (λ x. W.ready work.now i x) }
             ensures { SlotAnswers (W.answers work.entry.now) i slot.entry.now slot.exit.now }
         { run_slot(rt, alloc, work, gate, (i / size) as u32, i as u32, slot) },
     );

@@ -2,7 +2,7 @@
 ghost use Rattle.std.specs.Prelude.{◌≡◌, ◌+◌, ◌<◌, Some, None, IfOk, OnOk, length};
 ghost use Rattle.crossbeam_deque.specs.Handles.{worker_deque, worker_view};
 ghost use Rattle.crew_pool.specs.Tasks.{MayRunAll};
-ghost use Rattle.crew_pool.specs.declared.workers.TheConstants.{MOST_WORKERS};
+ghost use Rattle.crew_pool.specs.declared.workers.TheConstants.{MAX_WORKERS};
 ghost use Rattle.crew_pool.specs.Deque.{SameDeque};
 ghost use Rattle.crew_pool.specs.Calls.{IsDealt, AreIdle, AreOut};
 
@@ -35,14 +35,14 @@ pub struct IdleCrew<W: Work> {
 
 impl<W: Work> std::marker::Model for IdleCrew<W> {
     ghost use Rattle.std.specs.Prelude.{◌<◌, length};
-    ghost use Rattle.crew_pool.specs.declared.workers.TheConstants.{MOST_WORKERS};
+    ghost use Rattle.crew_pool.specs.declared.workers.TheConstants.{MAX_WORKERS};
     ghost use Rattle.crew_pool.specs.Calls.{AreIdle, IsResting};
 
     ghost Value = { Unit {0} };
 
     ghost view = { λ _. tt };
 
-    ghost invariant = { λ c. IsResting c.deque × AreIdle c.callers.items × (length c.callers.items < MOST_WORKERS) };
+    ghost invariant = { λ c. IsResting c.deque × AreIdle c.callers.items × (length c.callers.items < MAX_WORKERS) };
 }
 
 /// Gives one member a job.
@@ -54,7 +54,7 @@ fn give_job<W: Work + Send + Drop>(
 ) -> Result<JobCaller<W>, NoMemory>
     requires idle { caller ≡ None }
     requires dealt { IsDealt (W.ready work.now.value) out (worker_view deque.old).dealt deque.old }
-    requires few { out + 1 < MOST_WORKERS }
+    requires few { out + 1 < MAX_WORKERS }
     ensures same { SameDeque deque.old deque.new }
     ensures dealt { OnOk result (IsDealt (W.ready work.now.value) (out + 1) (worker_view deque.old).dealt deque.new) }
     ensures given { IfOk result (λ c. c ≡ Some (record {
@@ -83,7 +83,7 @@ fn give_jobs<W: Work + Send + Drop>(
     most: usize,
 ) -> Result<(Vec<JobCaller<W>>, Vec<JobCaller<W>>), NoMemory>
     requires idle { AreIdle callers.items }
-    requires few { length callers.items < MOST_WORKERS }
+    requires few { length callers.items < MAX_WORKERS }
     requires dealt { IsDealt (W.ready work.now.value) 0 (worker_view deque.old).dealt deque.old }
     ensures same { SameDeque deque.old deque.new }
     ensures dealt { IfOk result (λ r. IsDealt (W.ready work.now.value) (length r.0.items) (worker_view deque.old).dealt

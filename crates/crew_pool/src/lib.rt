@@ -61,7 +61,7 @@ pub mod work;
 pub mod workers;
 
 pub use bell::Bell;
-pub use crew::{Crew, MOST_TASKS};
+pub use crew::{Crew, MAX_TASKS};
 pub use forked::Forked;
 pub use gate::{Gate, NoGate};
 pub use lists::{add, add_all};
@@ -69,4 +69,4 @@ pub use member::{Member, serve, serve_all};
 pub use own_counter::{run_with_own_counter, tick_costs};
 pub use started::Started;
 pub use work::Work;
-pub use workers::{MOST_WORKERS, Workers};
+pub use workers::{MAX_WORKERS, Workers};

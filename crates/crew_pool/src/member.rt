@@ -11,7 +11,7 @@ use std::thread;
 use std::thread::Threads;
 
 /// How often a member looks for a job without success before it sleeps.
-const MOST_LOOKS: u32 = 2_000;
+const MAX_LOOKS: u32 = 2_000;
 
 /// A member's end of its mailbox.
 pub type JobWorker<W> = Worker<Job<W>, End<W>, ByStealing>;
@@ -57,7 +57,7 @@ impl<'g, W: Work, G: Gate> Member<'g, W, G> {
 }
 
 /// Runs each job that a member is given, until the bell says that no more calls come. Between two jobs the member looks
-/// for the next one `MOST_LOOKS` times, and then sleeps until it is woken.
+/// for the next one `MAX_LOOKS` times, and then sleeps until it is woken.
 pub fn serve<W: Work + Send + Drop, G: Gate, R: Wait>(
     rt: &R,
     alloc: Global,
@@ -81,7 +81,7 @@ pub fn serve<W: Work + Send + Drop, G: Gate, R: Wait>(
                 jobs.answer(end);
             }
             looks = 0;
-        } else if looks < MOST_LOOKS {
+        } else if looks < MAX_LOOKS {
             looks += 1;
             thread::yield_now();
         } else {

@@ -40,7 +40,7 @@ pub struct Started<'g, W: Work, G: Gate> {
 impl<'g, W: Work, G: Gate> std::marker::Model for Started<'g, W, G> {
     ghost use Rattle.std.specs.Prelude.{◌≡◌, ◌+◌, ◌<◌, length};
     ghost use Rattle.crossbeam_deque.specs.Handles.{worker_deque, worker_view};
-    ghost use Rattle.crew_pool.specs.declared.workers.TheConstants.{MOST_WORKERS};
+    ghost use Rattle.crew_pool.specs.declared.workers.TheConstants.{MAX_WORKERS};
     ghost use Rattle.crew_pool.specs.Calls.{CallView, IsDealt, AreOut, AreIdle};
 
     ghost Value = { CallView W W.In };
@@ -53,7 +53,7 @@ impl<'g, W: Work, G: Gate> std::marker::Model for Started<'g, W, G> {
         s.busy.items
         × AreIdle s.idle.items
         × (s.tasks ≡ length (worker_view s.deque).dealt)
-        × (length s.busy.items + length s.idle.items < MOST_WORKERS) };
+        × (length s.busy.items + length s.idle.items < MAX_WORKERS) };
 }
 
 impl<'g, W: Work + Send + Drop, G: Gate> Started<'g, W, G> {

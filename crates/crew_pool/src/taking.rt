@@ -19,7 +19,7 @@ use std::sync::Wait;
 use std::sync::ledger::Blank;
 
 /// How often a thief tries to steal in one call, at most. The owner runs what no thief took.
-const MOST_TRIES: u32 = 4_096;
+const MAX_TRIES: u32 = 4_096;
 
 /// Runs one task, and adds its answer together with its number.
 fn run_task<W: Work>(
@@ -68,7 +68,7 @@ pub(crate) fn pop_all<W: Work, G: Gate, R: Wait>(
     Ok(())
 }
 
-/// Steals tasks and runs them until the deque is empty, or [`MOST_TRIES`] tries were made.
+/// Steals tasks and runs them until the deque is empty, or [`MAX_TRIES`] tries were made.
 fn steal_tasks<W: Work, G: Gate, R: Wait>(
     rt: &R,
     alloc: Global,
@@ -86,7 +86,7 @@ fn steal_tasks<W: Work, G: Gate, R: Wait>(
     ensures view { OnOk result (view seat.new ≡ seat_view 1 (dealt_of seat.old) (numbers outs.new.items)) }
     ensures answers { OnOk result (EachPair (AnswersTo (W.answers work.now) (dealt_of seat.old)) outs.new.items) }
 {
-    for _try in 0..MOST_TRIES {
+    for _try in 0..MAX_TRIES {
         let (i, item) = match thief.steal_as::<StealTask>(seat) {
             Steal::Success(task) => task,
             Steal::Empty => break,

@@ -8,10 +8,10 @@
 ghost use Rattle.std.specs.Prelude.{◌≡◌, ◌≤◌, [], OnOk, IfOk, length};
 ghost use Rattle.crossbeam_deque.specs.Handles.{worker_view, worker_flavor};
 ghost use Rattle.crew_pool.specs.Deque.{SameDeque, seat_view, IsComplete};
-ghost use Rattle.crew_pool.specs.declared.crew.TheConstants.{MOST_TASKS};
-ghost use Rattle.crew_pool.specs.declared.task_deque.TheConstants.{ALL_PARTS};
+ghost use Rattle.crew_pool.specs.declared.crew.TheConstants.{MAX_TASKS};
+ghost use Rattle.crew_pool.specs.declared.task_deque.TheConstants.{MAX_PARTS};
 
-use crate::crew::MOST_TASKS;
+use crate::crew::MAX_TASKS;
 use crossbeam_deque::protocol::{Join, Outcome, Protocol, Split};
 use crossbeam_deque::{Pass, Stealer, Worker};
 use sim_base::NoMemory;
@@ -19,7 +19,7 @@ use std::alloc::Global;
 use std::collections::LinkedList;
 
 /// The number of parts of a deque. The owner begins with all of them.
-pub const ALL_PARTS: u64 = 1_024;
+pub const MAX_PARTS: u64 = 1_024;
 
 /// What a seat knows: its parts of the deque, the items of this call's tasks in order, and the numbers of its taken
 /// tasks. Only clauses use it; the program never makes a value.
@@ -38,11 +38,11 @@ pub struct EachOnce;
 impl<X> Protocol<(u32, X), SeatView<X>> for EachOnce {
     ghost use Rattle.std.specs.Prelude.{[]};
     ghost use Rattle.crew_pool.specs.Deque.{seat_view, TasksOnce};
-    ghost use Rattle.crew_pool.specs.declared.task_deque.TheConstants.{ALL_PARTS};
+    ghost use Rattle.crew_pool.specs.declared.task_deque.TheConstants.{MAX_PARTS};
 
     ghost holds = { TasksOnce };
 
-    ghost first = { seat_view ALL_PARTS [] [] };
+    ghost first = { seat_view MAX_PARTS [] [] };
 
     ghost guest = { seat_view 0 [] [] };
 }
@@ -121,9 +121,9 @@ pub type Seat<X> = Pass<(u32, X), SeatView<X>>;
 /// An empty deque.
 pub(crate) fn open_deque<X: Send + Drop>(alloc: Global) -> Result<Owner<X>, NoMemory>
     ensures fifo { IfOk result (λ owner. worker_flavor owner ≡ 0) }
-    ensures fresh { IfOk result (λ owner. worker_view owner ≡ seat_view ALL_PARTS [] []) }
+    ensures fresh { IfOk result (λ owner. worker_view owner ≡ seat_view MAX_PARTS [] []) }
 {
-    match Owner::<X>::fifo_as(alloc, MOST_TASKS) {
+    match Owner::<X>::fifo_as(alloc, MAX_TASKS) {
         Ok(owner) => Ok(owner),
         Err(_) => Err(NoMemory),
     }
@@ -131,10 +131,10 @@ pub(crate) fn open_deque<X: Send + Drop>(alloc: Global) -> Result<Owner<X>, NoMe
 
 /// Forgets the tasks of the call before.
 pub(crate) fn forget<X: Send + Drop>(owner: &mut Owner<X>)
-    requires every { (worker_view owner.old).parts ≡ ALL_PARTS }
+    requires every { (worker_view owner.old).parts ≡ MAX_PARTS }
     requires complete { IsComplete (worker_view owner.old) }
     ensures same { SameDeque owner.old owner.new }
-    ensures fresh { worker_view owner.new ≡ seat_view ALL_PARTS [] [] }
+    ensures fresh { worker_view owner.new ≡ seat_view MAX_PARTS [] [] }
 {
     let none = owner.another::<ForgetTasks>();
     drop(none);
@@ -142,10 +142,10 @@ pub(crate) fn forget<X: Send + Drop>(owner: &mut Owner<X>)
 
 /// Deals a task for each item. Tasks are numbered from 0.
 pub(crate) fn deal<X: Send + Drop>(owner: &mut Owner<X>, items: Vec<X>) -> Result<(), NoMemory>
-    requires few { length items.items ≤ MOST_TASKS }
-    requires fresh { worker_view owner.old ≡ seat_view ALL_PARTS [] [] }
+    requires few { length items.items ≤ MAX_TASKS }
+    requires fresh { worker_view owner.old ≡ seat_view MAX_PARTS [] [] }
     ensures same { SameDeque owner.old owner.new }
-    ensures dealt { OnOk result (worker_view owner.new ≡ seat_view ALL_PARTS items.items []) }
+    ensures dealt { OnOk result (worker_view owner.new ≡ seat_view MAX_PARTS items.items []) }
 {
     let mut i: u32 = 0;
     for item in items {

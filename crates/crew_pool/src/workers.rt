@@ -1,25 +1,25 @@
-//! The number of workers of a crew: 1 to [`MOST_WORKERS`], including the caller's thread.
+//! The number of workers of a crew: 1 to [`MAX_WORKERS`], including the caller's thread.
 ghost use Rattle.std.specs.Prelude.{◌≡◌, ◌≤◌, MatchOption};
-ghost use Rattle.crew_pool.specs.declared.workers.TheConstants.{MOST_WORKERS};
+ghost use Rattle.crew_pool.specs.declared.workers.TheConstants.{MAX_WORKERS};
 
 /// The greatest number of workers of a crew.
-pub const MOST_WORKERS: u32 = sim_base::limits::MOST_WORKERS;
+pub const MAX_WORKERS: u32 = sim_base::limits::MAX_WORKERS;
 
-/// The number of workers of a crew: 1 to `MOST_WORKERS`.
+/// The number of workers of a crew: 1 to `MAX_WORKERS`.
 #[derive(Clone, Copy, Debug, PartialEq, Eq)]
 pub struct Workers {
     /// The number.
     pub count: u32,
     ghost some: { 1 ≤ count },
-    ghost few: { count ≤ MOST_WORKERS },
+    ghost few: { count ≤ MAX_WORKERS },
 }
 
 impl Workers {
     /// This number of workers, if a crew may have that many.
     pub fn new(count: u32) -> Option<Workers>
-        ensures value { MatchOption result (¬ ((1 ≤ count) × (count ≤ MOST_WORKERS))) (λ w. w.count ≡ count) }
+        ensures value { MatchOption result (¬ ((1 ≤ count) × (count ≤ MAX_WORKERS))) (λ w. w.count ≡ count) }
     {
-        if count >= 1 && count <= MOST_WORKERS {
+        if count >= 1 && count <= MAX_WORKERS {
             Some(Workers { count })
         } else {
             None

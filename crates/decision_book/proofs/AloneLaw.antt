@@ -9,7 +9,7 @@ use Rattle.std.proofs.lemmas.Bool.Decides.{nat_tests}
 use Rattle.sim_base.specs.declared.decision.Decision.{Decision}
 use Rattle.sim_base.specs.declared.decision.Decision.TheVariants.{Fork, Set, End}
 use Rattle.sim_base.specs.Clones.{Clone, clone_at, place_of, clones_with_fork, base, fork_of}
-use Rattle.sim_base.specs.declared.lists.TheConstants.{MOST_CLONES}
+use Rattle.sim_base.specs.declared.lists.TheConstants.{MAX_CLONES}
 use Rattle.net_model.specs.Net.{Net}
 use Rattle.decision_book.specs.declared.call.Reply.TheVariants.{Accepted, NameTaken, TooManyClones}
 use Rattle.decision_script.specs.Alone.{history, history_if, changed_clone}
@@ -70,14 +70,14 @@ not_many h = cc
 -- the rows of an accepted fork
 record IsFresh (clones : List Clone) (new : List ℕ) : Type 0 where
   pub fresh : place_of new clones ≡ None
-  pub few : nat_le MOST_CLONES (length clones) ≡ false
+  pub few : nat_le MAX_CLONES (length clones) ≡ false
 
 -- the rows of an accepted fork hold nowhere, so its name is new and there is a free place
 fresh_from : (clones : List Clone) (new : List ℕ) → first_row (fork_rows clones new) ≡ Accepted → IsFresh clones new
 fresh_from clones new h =
     let one = first_row-Accepted (is_some (place_of new clones)) NameTaken
-    (row (nat_le MOST_CLONES (length clones)) TooManyClones ∷ []) not_taken h in
-    let two = first_row-Accepted (nat_le MOST_CLONES (length clones)) TooManyClones [] not_many one.1 in
+    (row (nat_le MAX_CLONES (length clones)) TooManyClones ∷ []) not_taken h in
+    let two = first_row-Accepted (nat_le MAX_CLONES (length clones)) TooManyClones [] not_many one.1 in
     record { fresh = is_none_from (place_of new clones) one.0; few = two.0 }
 
 -- and this is so in a state with no other clones, and no more of them

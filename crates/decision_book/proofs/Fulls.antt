@@ -8,7 +8,7 @@ use Rattle.sim_base.specs.Reserved.{ReservedView}
 use Rattle.sim_base.specs.Clones.{ListsView}
 use Rattle.net_model.specs.Net.{Net}
 use Rattle.decision_book.specs.declared.call.Call.{Call}
-use Rattle.decision_book.specs.declared.call.TheConstants.{MOST_CALLS}
+use Rattle.decision_book.specs.declared.call.TheConstants.{MAX_CALLS}
 use Rattle.decision_book.specs.declared.call.Reply.{Reply}
 use Rattle.decision_book.specs.declared.call.Reply.TheVariants.{Full, Closed}
 use Rattle.decision_book.specs.Journal.{Event, Situation, NewCall, call_of, calls_of}
@@ -44,20 +44,20 @@ at_row true os h e = refl
 at_row false os h e = absurd (h e)
 
 -- a reply that is Full is that of a full journal
-full_is_full : (s : Situation) (d : Decision) → reply s d ≡ Full → MOST_CALLS ≤ s.calls
+full_is_full : (s : Situation) (d : Decision) → reply s d ≡ Full → MAX_CALLS ≤ s.calls
 full_is_full s d e =
     let others : List (Option Reply) =
     row (s.front == s.net.horizon) Closed ∷ clone_rows s d (place_of (subject d) s.clones) in
-    let b = at_row (nat_le MOST_CALLS s.calls) others (first_row-each (λ r. r ≡ Full → ⊥) others (λ x. absurd cc) (
+    let b = at_row (nat_le MAX_CALLS s.calls) others (first_row-each (λ r. r ≡ Full → ⊥) others (λ x. absurd cc) (
       row-each (λ r. r ≡ Full → ⊥) (s.front == s.net.horizon) Closed (λ x. absurd cc),
       clone_rows-each (λ r. r ≡ Full → ⊥) s (none_full s.front) d (place_of (subject d) s.clones),
     )) e in
     grind (arith, b)
 
 -- and the reply of a full journal is Full
-full_is_said : (s : Situation) (d : Decision) → MOST_CALLS ≤ s.calls → reply s d ≡ Full
+full_is_said : (s : Situation) (d : Decision) → MAX_CALLS ≤ s.calls → reply s d ≡ Full
 full_is_said s d h =
-    let b : nat_le MOST_CALLS s.calls ≡ true = grind (arith, h) in
+    let b : nat_le MAX_CALLS s.calls ≡ true = grind (arith, h) in
     ap (λ x. first_row (row x Full ∷ row (s.front == s.net.horizon) Closed ∷ clone_rows s d
     (place_of (subject d) s.clones))) b
 
@@ -67,7 +67,7 @@ calls_are net es = ap (λ (s : Situation). s.calls) (situation_of_journal net es
 
 -- the reply is Full exactly if the journal holds as many calls as it may
 pub full_where_full : (net : Net) (es : List Event) (d : Decision) (r : Reply) → r ≡ reply (after net es) d
-    → (r ≡ Full) ↔ (MOST_CALLS ≤ length (calls_of es))
+    → (r ≡ Full) ↔ (MAX_CALLS ≤ length (calls_of es))
 full_where_full net es d r is = (
   (λ e. omega (arith, full_is_full (after net es) d (sym is ∙ e), calls_are net es)),
   λ h. is ∙ full_is_said (after net es) d (omega (arith, h, calls_are net es)),

@@ -8,7 +8,7 @@ use Rattle.sim_base.specs.declared.decision.Decision.TheVariants.{Fork, Set, End
 use Rattle.sim_base.specs.Clones.{Clone}
 use Rattle.net_model.specs.Net.{Net}
 use Rattle.decision_book.specs.declared.call.Call.{Call}
-use Rattle.decision_book.specs.declared.call.TheConstants.{MOST_CALLS}
+use Rattle.decision_book.specs.declared.call.TheConstants.{MAX_CALLS}
 use Rattle.decision_book.specs.declared.call.Reply.{Reply}
 use Rattle.decision_book.specs.declared.call.Reply.TheVariants.{Accepted, PastHorizon, Late}
 use Rattle.decision_book.specs.Journal.{Event, Situation, NewFront, NewCall, after}
@@ -61,7 +61,7 @@ accepted_at_start : (s : Situation) (m : ℕ) (d : Decision) → 0 < s.net.horiz
 accepted_at_start s m d some_time few h =
     let o = IsOpen-accepted s d h in
     let running : (0 == s.net.horizon) ≡ false = grind (arith, some_time) in
-    let free : nat_le MOST_CALLS m ≡ false = grind (arith, few, o.few) in
+    let free : nat_le MAX_CALLS m ≡ false = grind (arith, few, o.few) in
     reply-IsOpen (at_start s m) d (record {
       few = free;
       running = running;

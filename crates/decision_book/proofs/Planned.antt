@@ -6,7 +6,7 @@ use Rattle.std.proofs.lemmas.List.{length_push}
 use Rattle.sim_base.specs.declared.decision.Planned.{Planned}
 use Rattle.sim_base.specs.Clones.{Clone, clone_at, clones_with_fork, clones_with_plan, clones_with_end, fork_of}
 use Rattle.sim_base.specs.Clones.{with_plan}
-use Rattle.sim_base.specs.declared.lists.TheConstants.{MOST_CLONES, MOST_DECISIONS}
+use Rattle.sim_base.specs.declared.lists.TheConstants.{MAX_CLONES, MAX_DECISIONS}
 use Rattle.sim_base.proofs.ListLaws.{all_push, all_set, all_weaker}
 use Rattle.std.specs.Str.{bytes_eq}
 use Rattle.sim_base.specs.declared.message.Change.{Change}
@@ -27,7 +27,7 @@ planned_at net (k ∷ ks) (suc c) h = planned_at net ks c h.1
 
 -- a fork keeps the lists planned if there is a free place for one more clone
 pub planned_forked : (net : Net) (clones : List Clone) (new : List ℕ) (old : ℕ) → ArePlanned net clones
-    → length clones < MOST_CLONES → ArePlanned net (clones_with_fork clones new old)
+    → length clones < MAX_CLONES → ArePlanned net (clones_with_fork clones new old)
 planned_forked net clones new old h few =
     let from = planned_at net clones old h.each in
     let fork : Clone = fork_of (clone_at clones old) new in
@@ -52,7 +52,7 @@ planned_ended net clones c at h early =
 
 -- and so does one more set that may be planned, if the clone's list has a free place
 pub planned_added : (net : Net) (clones : List Clone) (c : ℕ) (plan : Planned) → ArePlanned net clones
-    → length (clone_at clones c).plans < MOST_DECISIONS → IsPlan net plan
+    → length (clone_at clones c).plans < MAX_DECISIONS → IsPlan net plan
     → ArePlanned net (clones_with_plan clones c plan)
 planned_added net clones c plan h s p =
     let from = planned_at net clones c h.each in

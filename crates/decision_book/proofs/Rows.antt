@@ -4,7 +4,7 @@ use Rattle.std.proofs.Common.{length, Option, Some, None, IfSome, is_some, is_no
 use Rattle.std.proofs.lemmas.Bool.Decides.{nat_tests}
 use Rattle.sim_base.specs.declared.decision.Decision.{Decision}
 use Rattle.sim_base.specs.declared.decision.Decision.TheVariants.{Fork, Set, End}
-use Rattle.sim_base.specs.declared.lists.TheConstants.{MOST_CLONES, MOST_DECISIONS}
+use Rattle.sim_base.specs.declared.lists.TheConstants.{MAX_CLONES, MAX_DECISIONS}
 use Rattle.sim_base.specs.declared.message.Change.{Change}
 use Rattle.sim_base.specs.Clones.{clone_at, place_of}
 use Rattle.sim_base.specs.Decisions.{subject}
@@ -12,7 +12,7 @@ use Rattle.net_model.specs.Net.{Net, site_of, station_named}
 use Rattle.stations.specs.declared.change.ChangeFault.{ChangeFault}
 use Rattle.stations.specs.declared.change.ChangeFault.TheVariants as refused
 use Rattle.stations.specs.Changes.{accepts}
-use Rattle.decision_book.specs.declared.call.TheConstants.{MOST_CALLS}
+use Rattle.decision_book.specs.declared.call.TheConstants.{MAX_CALLS}
 use Rattle.decision_book.specs.declared.call.Reply.{Reply}
 use Rattle.decision_book.specs.declared.call.Reply.TheVariants.{Accepted, Full, Closed, UnknownClone, Ended, NameTaken}
 use Rattle.decision_book.specs.declared.call.Reply.TheVariants.{TooManyClones, UnknownStation, WrongParameter}
@@ -114,14 +114,14 @@ module _ (P : Reply → Type 0) (s : Situation) (of : OfClone P s.front) where
   rows-each : (clone : ℕ) (d : Decision) → EachRow P (rows s clone d)
   rows-each clone (Fork new old) = (
     row-each P (is_some (place_of new s.clones)) NameTaken of.name_taken,
-    (row-each P (nat_le MOST_CLONES (length s.clones)) TooManyClones of.too_many_clones, tt),
+    (row-each P (nat_le MAX_CLONES (length s.clones)) TooManyClones of.too_many_clones, tt),
   )
   rows-each clone (Set who at station change) = (
     row-each P (is_none (station_named station s.net)) UnknownStation of.unknown_station,
     (
       change-each (station_named station s.net) change,
       (
-        row-each P (nat_le MOST_DECISIONS (length (clone_at s.clones clone).plans)) ListFull of.list_full,
+        row-each P (nat_le MAX_DECISIONS (length (clone_at s.clones clone).plans)) ListFull of.list_full,
         times-each at,
       ),
     ),
@@ -141,7 +141,7 @@ module _ (P : Reply → Type 0) (s : Situation) (of : OfClone P s.front) where
 
 -- the findings of an accepted decision
 pub record IsOpen (j : Situation) (d : Decision) : Type 0 where
-  pub few : nat_le MOST_CALLS j.calls ≡ false
+  pub few : nat_le MAX_CALLS j.calls ≡ false
   pub running : (j.front == j.net.horizon) ≡ false
   pub clone : ℕ
   pub place : place_of (subject d) j.clones ≡ Some clone
@@ -157,7 +157,7 @@ not_closed : Closed ≡ Accepted → ⊥
 not_closed h = cc
 
 -- if no row from the clone on refuses, the decision finds all that it needs
-open_clone : (j : Situation) (d : Decision) → nat_le MOST_CALLS j.calls ≡ false → (j.front == j.net.horizon) ≡ false
+open_clone : (j : Situation) (d : Decision) → nat_le MAX_CALLS j.calls ≡ false → (j.front == j.net.horizon) ≡ false
     → (o : Option ℕ) → place_of (subject d) j.clones ≡ o → first_row (clone_rows j d o) ≡ Accepted → IsOpen j d
 open_clone j d few running None e h = absurd cc
 open_clone j d few running (Some clone) e h =
@@ -167,7 +167,7 @@ open_clone j d few running (Some clone) e h =
 -- an accepted decision found a free place in the journal, a front before the horizon, and its clone without an end
 pub IsOpen-accepted : (j : Situation) (d : Decision) → reply j d ≡ Accepted → IsOpen j d
 IsOpen-accepted j d h =
-    let one = first_row-Accepted (nat_le MOST_CALLS j.calls) Full
+    let one = first_row-Accepted (nat_le MAX_CALLS j.calls) Full
     (row (j.front == j.net.horizon) Closed ∷ clone_rows j d (place_of (subject d) j.clones)) not_full h in
     let two = first_row-Accepted (j.front == j.net.horizon) Closed
     (clone_rows j d (place_of (subject d) j.clones)) not_closed one.1 in

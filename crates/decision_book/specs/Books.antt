@@ -2,11 +2,11 @@
 use Rattle.std.specs.Prelude.{◌≡◌, ◌≢◌, ℕ, ◌-◌, ◌≤◌, Option, MatchOption, List, [], ◌∷◌, ◌++◌, length, map, take, drop}
 use Rattle.sim_base.specs.Reserved.{ReservedView}
 use Rattle.sim_base.specs.Clones.{Clone, ListsView}
-use Rattle.sim_base.specs.declared.lists.TheConstants.{MOST_CLONES, MOST_DECISIONS}
-use Rattle.net_model.specs.declared.limits.TheConstants.{MOST_HORIZON}
+use Rattle.sim_base.specs.declared.lists.TheConstants.{MAX_CLONES, MAX_DECISIONS}
+use Rattle.net_model.specs.declared.limits.TheConstants.{MAX_HORIZON}
 use Rattle.net_model.specs.Net.{Net}
 use Rattle.decision_book.specs.declared.call.Call.{Call}
-use Rattle.decision_book.specs.declared.call.TheConstants.{MOST_CALLS}
+use Rattle.decision_book.specs.declared.call.TheConstants.{MAX_CALLS}
 use Rattle.sim_base.specs.declared.decision.Decision.{Decision}
 use Rattle.decision_book.specs.declared.call.Reply.{Reply}
 use Rattle.decision_book.specs.declared.call.Reply.TheVariants.{Full}
@@ -37,8 +37,8 @@ AreInOrder n all (c ∷ cs) = (n ≤ c.fronts) × AreInOrder c.fronts all cs
 -- the lists of a book: they are planned, and memory is reserved for all clones and decisions
 pub record AreBookLists (net : Net) (lists : ListsView) : Type 0 where
   pub planned : ArePlanned net lists.clones
-  pub reserved_clones : lists.reserved_clones ≡ MOST_CLONES
-  pub reserved_plans : lists.reserved_plans ≡ MOST_DECISIONS
+  pub reserved_clones : lists.reserved_clones ≡ MAX_CLONES
+  pub reserved_plans : lists.reserved_plans ≡ MAX_DECISIONS
 
 -- a decision on such lists had the reply of this row of the table. They have the new clones if it was accepted, are
 -- otherwise unchanged, and are planned
@@ -61,9 +61,9 @@ pub record IsBook (net : Net) (lists : ListsView) (calls : ReservedView Call) (f
   pub stamps : AreInOrder 0 (length fronts.items) calls.items
   pub few : length fronts.items ≤ last
   pub early : last ≤ net.horizon
-  pub soon : net.horizon ≤ MOST_HORIZON
+  pub soon : net.horizon ≤ MAX_HORIZON
   pub lists_are : AreBookLists net lists
-  pub reserved_calls : calls.reserved ≡ MOST_CALLS
+  pub reserved_calls : calls.reserved ≡ MAX_CALLS
 
 -- the call of a decision with this reply, and the book whose last entry it is
 pub record IsEntry (old : BookView) (caller : ℕ) (d : Decision) (reply : Reply) (call : Call) (new : BookView) :

@@ -2,7 +2,7 @@
 use Rattle.std.specs.Prelude.{◌≡◌, ◌<◌, ◌≤◌, List, length, true, IfSome}
 use Rattle.std.specs.List.{AllByRecursion}
 use Rattle.sim_base.specs.declared.decision.Planned.{Planned}
-use Rattle.sim_base.specs.declared.lists.TheConstants.{MOST_CLONES, MOST_DECISIONS}
+use Rattle.sim_base.specs.declared.lists.TheConstants.{MAX_CLONES, MAX_DECISIONS}
 use Rattle.sim_base.specs.Clones.{Clone}
 use Rattle.net_model.specs.Net.{Net, HasStation, site_of}
 use Rattle.stations.specs.Changes.{is_accepted}
@@ -13,13 +13,13 @@ pub record IsPlan (net : Net) (plan : Planned) : Type 0 where
   pub is_station : HasStation net plan.station
   pub taken : is_accepted (site_of net plan.station) plan.change ≡ true
 
--- a clone with such decisions, at most MOST_DECISIONS, and with an end before the horizon if it has one
+-- a clone with such decisions, at most MAX_DECISIONS, and with an end before the horizon if it has one
 pub record IsPlanned (net : Net) (clone : Clone) : Type 0 where
   pub plans : AllByRecursion (IsPlan net) clone.plans
-  pub short : length clone.plans ≤ MOST_DECISIONS
+  pub short : length clone.plans ≤ MAX_DECISIONS
   pub end : IfSome clone.end (λ at. at < net.horizon)
 
--- such clones, at most MOST_CLONES
+-- such clones, at most MAX_CLONES
 pub record ArePlanned (net : Net) (clones : List Clone) : Type 0 where
-  pub few : length clones ≤ MOST_CLONES
+  pub few : length clones ≤ MAX_CLONES
   pub each : AllByRecursion (IsPlanned net) clones

@@ -4,7 +4,7 @@ use Rattle.std.specs.Prelude.{length, Option, Some, None, Result, Ok, Err, is_no
 use Rattle.sim_base.specs.declared.decision.Decision.{Decision}
 use Rattle.sim_base.specs.declared.decision.Decision.TheVariants.{Fork, Set, End}
 use Rattle.sim_base.specs.declared.message.Change.{Change}
-use Rattle.sim_base.specs.declared.lists.TheConstants.{MOST_CLONES, MOST_DECISIONS}
+use Rattle.sim_base.specs.declared.lists.TheConstants.{MAX_CLONES, MAX_DECISIONS}
 use Rattle.sim_base.specs.Clones.{Clone, clone_at, place_of}
 use Rattle.net_model.specs.Net.{Net, station_named, site_of}
 use Rattle.stations.specs.declared.change.ChangeFault.{ChangeFault}
@@ -15,7 +15,7 @@ use Rattle.decision_book.specs.declared.call.Reply.TheVariants.{Accepted, Full, 
 use Rattle.decision_book.specs.declared.call.Reply.TheVariants.{TooManyClones, UnknownStation, WrongParameter}
 use Rattle.decision_book.specs.declared.call.Reply.TheVariants.{OutOfRange, ListFull, PastHorizon, Late}
 use Rattle.sim_base.specs.Decisions.{subject}
-use Rattle.decision_book.specs.declared.call.TheConstants.{MOST_CALLS}
+use Rattle.decision_book.specs.declared.call.TheConstants.{MAX_CALLS}
 use Rattle.decision_book.specs.Journal.{Situation}
 
 -- a row: the refusal, if its condition holds
@@ -32,7 +32,7 @@ first_row (None ∷ more) = first_row more
 -- the rows of a fork
 abbrev pub fork_rows : List Clone → List ℕ → List (Option Reply)
 fork_rows clones new = row (is_some (place_of new clones)) NameTaken
-    ∷ row (nat_le MOST_CLONES (length clones)) TooManyClones
+    ∷ row (nat_le MAX_CLONES (length clones)) TooManyClones
     ∷ []
 
 -- the rows of the time of a set or an end
@@ -56,7 +56,7 @@ change_row net (Some s) change = fault_row (accepts (site_of net s) change)
 abbrev pub set_rows : Net → List Clone → ℕ → ℕ → ℕ → List ℕ → Change → List (Option Reply)
 set_rows net clones front clone at station change = row (is_none (station_named station net)) UnknownStation
     ∷ change_row net (station_named station net) change
-    ∷ row (nat_le MOST_DECISIONS (length (clone_at clones clone).plans)) ListFull
+    ∷ row (nat_le MAX_DECISIONS (length (clone_at clones clone).plans)) ListFull
     ∷ time_rows net front at
 
 -- the rows of a decision on the clone at this place
@@ -72,6 +72,6 @@ clone_rows s d (Some clone) = option_map (λ at. Ended at) (clone_at s.clones cl
 
 -- the reply: the first row of the whole table, in its order
 abbrev pub reply : Situation → Decision → Reply
-reply s d = first_row (row (nat_le MOST_CALLS s.calls) Full
+reply s d = first_row (row (nat_le MAX_CALLS s.calls) Full
     ∷ row (s.front == s.net.horizon) Closed
     ∷ clone_rows s d (place_of (subject d) s.clones))

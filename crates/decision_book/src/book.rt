@@ -2,10 +2,10 @@
 ghost use Rattle.std.specs.Prelude.{◌≡◌};
 ghost use Rattle.decision_book.specs.Journal.{is_full as is_full'};
 
-use crate::call::{Call, MOST_CALLS, Reply};
+use crate::call::{Call, MAX_CALLS, Reply};
 use crate::reply::decide_by_table;
 use net_model::Model;
-use sim_base::{Decision, Lists, MOST_CLONES, MOST_DECISIONS, NoMemory, Reserved};
+use sim_base::{Decision, Lists, MAX_CLONES, MAX_DECISIONS, NoMemory, Reserved};
 use std::alloc::Global;
 use std::sync::Arc;
 
@@ -41,7 +41,7 @@ fn is_full(reply: Reply) -> bool
 impl Book {
     ghost use Rattle.std.specs.Prelude.{◌≡◌, ◌≢◌, ◌↔◌, ◌≤◌, ◌<◌, ◌++◌, ◌∷◌, [], length, OnOk, OnErr, IfOk};
     ghost use Rattle.decision_book.specs.declared.call.Reply.TheVariants.{Full};
-    ghost use Rattle.decision_book.specs.declared.call.TheConstants.{MOST_CALLS};
+    ghost use Rattle.decision_book.specs.declared.call.TheConstants.{MAX_CALLS};
     ghost use Rattle.decision_book.specs.Journal.{after, NewCall, call_of, calls_of, fronts_of, NewFront};
     ghost use Rattle.decision_book.specs.Books.{journal_of, IsCallUnlessFull};
     ghost use Rattle.decision_book.specs.Replies.{reply};
@@ -55,8 +55,8 @@ impl Book {
     pub fn begin(alloc: Global, model: Arc<Model>) -> Result<Book, NoMemory>
         ensures value { IfOk result (λ book. book ≡ record { net = model.value; events = [] }) }
     {
-        let lists = Lists::with_room(alloc, MOST_CLONES, MOST_DECISIONS)?;
-        let calls = Reserved::with_capacity(alloc, MOST_CALLS)?;
+        let lists = Lists::with_room(alloc, MAX_CLONES, MAX_DECISIONS)?;
+        let calls = Reserved::with_capacity(alloc, MAX_CALLS)?;
         // for its clause: the model is a network that keeps the rules
         let _horizon = model.horizon();
         Ok(Book {
@@ -81,7 +81,7 @@ impl Book {
         // and the situation is the one after the decision
         ensures next { after self.old.net self.new.events ≡ after_decision (after self.old.net self.old.events) d }
         // it is Full exactly if the journal holds as many calls as it may
-        ensures full { (result ≡ Full) ↔ (MOST_CALLS ≤ length (calls_of self.old.events)) }
+        ensures full { (result ≡ Full) ↔ (MAX_CALLS ≤ length (calls_of self.old.events)) }
         // otherwise the call is the last entry
         ensures entry { result ≢ Full →
             self.new.events ≡ self.old.events ++ NewCall (call_of caller self.old.events d result) ∷ [] }
@@ -107,7 +107,7 @@ impl Book {
     pub fn ask(&mut self, caller: u32, d: &Decision) -> (Reply, Option<Call>)
         ensures reply { result.0 ≡ reply (after self.old.net self.old.events) d.now }
         ensures call { IsCallUnlessFull self.old caller d.now result.0 result.1 self.new }
-        ensures full { (result.0 ≡ Full) ↔ (MOST_CALLS ≤ length (calls_of self.old.events)) }
+        ensures full { (result.0 ≡ Full) ↔ (MAX_CALLS ≤ length (calls_of self.old.events)) }
     {
         let fronts = self.fronts.len() as u32;
         let reply = self.decide(caller, *d);

@@ -6,14 +6,14 @@ ghost use Rattle.decision_book.specs.Numbers.{reply_number};
 use sim_base::Decision;
 
 /// The most calls of a journal: as many as a script may have items, so a script alone never gets the reply `Full`.
-pub const MOST_CALLS: usize = decision_script::MOST_ITEMS;
+pub const MAX_CALLS: usize = decision_script::MAX_ITEMS;
 
 /// The reply to a decision: `Accepted`, or the first refusal whose condition holds, in this order.
 #[derive(Clone, Copy, Debug, PartialEq, Eq)]
 pub enum Reply {
     /// No refusal holds.
     Accepted,
-    /// The journal holds [`MOST_CALLS`] calls. Such a call is not added to it.
+    /// The journal holds [`MAX_CALLS`] calls. Such a call is not added to it.
     Full,
     /// The front is the horizon.
     Closed,
@@ -23,7 +23,7 @@ pub enum Reply {
     Ended { at: u64 },
     /// The new name of a fork is the name of a clone.
     NameTaken,
-    /// A fork, and there are already as many clones as allowed, [`MOST_CLONES`](sim_base::MOST_CLONES).
+    /// A fork, and there are already as many clones as allowed, [`MAX_CLONES`](sim_base::MAX_CLONES).
     TooManyClones,
     /// A set, and the station does not exist.
     UnknownStation,
@@ -31,7 +31,7 @@ pub enum Reply {
     WrongParameter,
     /// A set, and a value is out of the parameter's range.
     OutOfRange,
-    /// A set, and the clone's list is full: it holds [`MOST_DECISIONS`](sim_base::MOST_DECISIONS).
+    /// A set, and the clone's list is full: it holds [`MAX_DECISIONS`](sim_base::MAX_DECISIONS).
     ListFull,
     /// The time of a set or an end is the horizon or later.
     PastHorizon,

@@ -3,7 +3,7 @@
 //! The decisions and the expected clones are in `specs/Examples.antt`. Each function's contract is a theorem; there is
 //! nothing to run.
 ghost use Rattle.std.specs.Prelude.{◌≡◌, ◌∷◌, [], Some, None, codes};
-ghost use Rattle.sim_base.specs.declared.lists.TheConstants.{MOST_CLONES, MOST_DECISIONS};
+ghost use Rattle.sim_base.specs.declared.lists.TheConstants.{MAX_CLONES, MAX_DECISIONS};
 ghost use Rattle.stations.specs.Examples.OneDesk.{one_desk};
 ghost use Rattle.decision_script.specs.Alone.{alone};
 ghost use Rattle.decision_book.specs.Examples.{during_a_run, clones_of_the_run, late_set_accepted, script};
@@ -11,14 +11,14 @@ ghost use Rattle.decision_book.specs.Examples.{clones_of_the_script, script_of_b
 ghost use Rattle.decision_book.specs.Journal.{NewFront, after};
 ghost use Rattle.decision_book.specs.Right.{IsRight};
 ghost use Rattle.decision_book.specs.Scripts.{lists_of, first_refusal};
-ghost use Rattle.decision_book.specs.declared.call.TheConstants.{MOST_CALLS};
+ghost use Rattle.decision_book.specs.declared.call.TheConstants.{MAX_CALLS};
 ghost use Rattle.decision_book.specs.declared.call.Reply.TheVariants.{UnknownClone};
 
 /// The limits of a journal and its lists, in numbers.
 pub fn limits_in_numbers()
-    ensures clones { MOST_CLONES ≡ 256 }
-    ensures decisions { MOST_DECISIONS ≡ 256 }
-    ensures calls { MOST_CALLS ≡ 4096 }
+    ensures clones { MAX_CLONES ≡ 256 }
+    ensures decisions { MAX_DECISIONS ≡ 256 }
+    ensures calls { MAX_CALLS ≡ 4096 }
 {}
 
 /// At front 10 a set at 10 is accepted and a set at 9 is late, and at the horizon nothing is accepted.

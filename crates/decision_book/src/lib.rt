@@ -35,4 +35,4 @@ pub mod laws;
 mod reply;
 
 pub use book::Book;
-pub use call::{Call, MOST_CALLS, Reply};
+pub use call::{Call, MAX_CALLS, Reply};

@@ -6,9 +6,9 @@ ghost use Rattle.decision_book.specs.Journal.{clones_after, plan_of_set};
 ghost use Rattle.decision_book.specs.Plans.{ArePlanned};
 ghost use Rattle.decision_book.specs.Replies.{first_row, fork_rows, set_rows, time_rows, reply as reply_of};
 
-use crate::call::{MOST_CALLS, Reply};
+use crate::call::{MAX_CALLS, Reply};
 use net_model::Model;
-use sim_base::{Change, Decision, Lists, MOST_CLONES, MOST_DECISIONS, Name, Planned};
+use sim_base::{Change, Decision, Lists, MAX_CLONES, MAX_DECISIONS, Name, Planned};
 use stations::change::{ChangeFault, accepts};
 
 #[tactic(auto, using(crate::proofs::Planned::planned_forked))]
@@ -21,7 +21,7 @@ fn decide_fork(model: &Model, lists: &mut Lists, clone: u32, new: Name) -> Reply
     if lists.find(&new).is_some() {
         return Reply::NameTaken;
     }
-    if lists.len() >= MOST_CLONES {
+    if lists.len() >= MAX_CLONES {
         return Reply::TooManyClones;
     }
     lists.fork_in_reserved(new, clone);
@@ -80,7 +80,7 @@ fn decide_set(
         Err(ChangeFault::OutOfRange) => return Reply::OutOfRange,
         Ok(()) => {}
     }
-    if lists.list(clone).len() >= MOST_DECISIONS as usize {
+    if lists.list(clone).len() >= MAX_DECISIONS as usize {
         return Reply::ListFull;
     }
     let reply = time_reply(model, front, at);
@@ -114,7 +114,7 @@ pub fn decide_by_table(
       calls = calls;
     }) d.now) (clones_after model.now lists.old.clones d.now) result lists.old lists.new }
 {
-    if calls >= MOST_CALLS {
+    if calls >= MAX_CALLS {
         return Reply::Full;
     }
     if front == model.horizon() {

@@ -7,7 +7,7 @@ use mathlib.Core.List.{IsPrefix}
 use Rattle.atomic_table.specs.Table.{Me}
 use Rattle.sim_base.specs.declared.decision.Decision.{Decision}
 use Rattle.decision_book.specs.declared.call.Call.{Call}
-use Rattle.decision_book.specs.declared.call.TheConstants.{MOST_CALLS}
+use Rattle.decision_book.specs.declared.call.TheConstants.{MAX_CALLS}
 use Rattle.decision_book.specs.Journal.{Event, calls_of, front_of}
 use Rattle.decision_desk.specs.declared.view.View.{View}
 use Rattle.decision_desk.specs.declared.pass.Receipt.{Receipt}
@@ -42,7 +42,7 @@ comes_to_turn m m1 m2 a t j rest drew turn =
 -- a pass at rest that has drawn a ticket, and whose ticket is served, has come to its turn
 pub has_turn : (m m1 m2 : Hand) (a : Account) (t : ℕ) (j : List Event) → m ≡ (pass_view m.0.net m.0.seen a, [])
     → m1 ≡ (view_with_turn m.0 true t false m.0.seen, m.1)
-    → IsPrefix m1.0.seen j → length (calls_of j) ≤ MOST_CALLS → AreAccounts j m1.0.accounts
+    → IsPrefix m1.0.seen j → length (calls_of j) ≤ MAX_CALLS → AreAccounts j m1.0.accounts
     → m2 ≡ (view_with_turn m1.0 true m1.0.ticket true j, (0, book_of m1.0.net j) ∷ m1.1)
     → front_of m1.0.seen ≤ front_of j → PassHasTurn m.0.net m.0.seen a m2 j
 has_turn m m1 m2 a t j rest drew begins few right turn rises =

@@ -6,7 +6,7 @@ use Rattle.std.proofs.lemmas.List.{map-append}
 use mathlib.Core.List.{IsPrefix, prefix-append}
 use Rattle.sim_base.proofs.ListLaws.{prefix_trans}
 use Rattle.decision_book.specs.declared.call.Call.{Call}
-use Rattle.decision_book.specs.declared.call.TheConstants.{MOST_CALLS}
+use Rattle.decision_book.specs.declared.call.TheConstants.{MAX_CALLS}
 use Rattle.decision_book.specs.Journal.{Event, NewFront, NewCall, calls_of, front_from, front_of}
 use Rattle.decision_book.proofs.Growing.{calls_of-push_call, calls_of-push_front}
 use Rattle.decision_desk.specs.Accounts.{Account, calls_from, calls_by, RisesFrom}
@@ -185,7 +185,7 @@ account_raised es f a i = record {
 }
 
 -- it stays right if another caller submits a call, and the journal is not full
-account_other : (es : List Event) (c : Call) (a : Account) → c.caller ≢ a.caller → length (calls_of es) < MOST_CALLS
+account_other : (es : List Event) (c : Call) (a : Account) → c.caller ≢ a.caller → length (calls_of es) < MAX_CALLS
     → IsAccount es a → IsAccount (es ++ NewCall c ∷ []) a
 account_other es c a other free i = record {
   calls = i.calls ∙ sym (calls_by-other a.caller es c other);
@@ -195,7 +195,7 @@ account_other es c a other free i = record {
 
 -- it stays right if its own caller submits a call, with the call and the front added to it, and the journal is not full
 pub account_called : (es : List Event) (c : Call) (a : Account) → c.caller ≡ a.caller
-    → length (calls_of es) < MOST_CALLS → IsAccount es a
+    → length (calls_of es) < MAX_CALLS → IsAccount es a
     → IsAccount (es ++ NewCall c ∷ [])
     (record a { calls = a.calls ++ (length (calls_of es), c) ∷ []; fronts = a.fronts ++ front_of es ∷ [] })
 account_called es c a same free i = record {
@@ -217,7 +217,7 @@ account_looked es a i = record {
 }
 
 -- it stays right with the mark of Full, if the journal is full
-pub account_full : (es : List Event) (a : Account) → length (calls_of es) ≡ MOST_CALLS → IsAccount es a
+pub account_full : (es : List Event) (a : Account) → length (calls_of es) ≡ MAX_CALLS → IsAccount es a
     → IsAccount es (record a { full = true })
 account_full es a whole i = record { calls = i.calls; fronts = i.fronts; full = λ _. whole }
 
@@ -248,7 +248,7 @@ accounts_raised es f (a ∷ as') all = (account_raised es f a all.0, accounts_ra
 
 -- they stay right if a caller without one of them submits a call, and the journal is not full
 pub accounts_other : (es : List Event) (c : Call) (as' : List Account) → accounts_of c.caller as' ≡ 0
-    → length (calls_of es) < MOST_CALLS → AreAccounts es as' → AreAccounts (es ++ NewCall c ∷ []) as'
+    → length (calls_of es) < MAX_CALLS → AreAccounts es as' → AreAccounts (es ++ NewCall c ∷ []) as'
 accounts_other es c [] none free all = tt
 accounts_other es c (a ∷ as') none free all =
     let n = not_counted (nat_eq a.caller c.caller) (accounts_of c.caller as') none in

@@ -8,7 +8,7 @@ use Rattle.std.proofs.lemmas.List.Sums.{fold-append}
 use Rattle.sim_base.specs.Clones.{clone_at}
 use Rattle.sim_base.specs.declared.decision.Decision.{Decision}
 use Rattle.sim_base.specs.declared.decision.Decision.TheVariants.{Fork, Set, End}
-use Rattle.sim_base.specs.declared.lists.TheConstants.{MOST_DECISIONS}
+use Rattle.sim_base.specs.declared.lists.TheConstants.{MAX_DECISIONS}
 use Rattle.sim_base.specs.declared.message.Change.{Change}
 use Rattle.net_model.specs.Net.{Net, station_named}
 use Rattle.decision_book.specs.declared.call.Reply.TheVariants.{Accepted, ListFull, UnknownStation}
@@ -30,12 +30,12 @@ accepted_set s who at station change h =
     let o = IsOpen-accepted s (Set who at station change) h in
     let a = first_row-Accepted (is_none (station_named station s.net)) UnknownStation
     (change_row s.net (station_named station s.net) change
-    ∷ row (nat_le MOST_DECISIONS (length (clone_at s.clones o.clone).plans)) ListFull
+    ∷ row (nat_le MAX_DECISIONS (length (clone_at s.clones o.clone).plans)) ListFull
     ∷ time_rows s.net s.front at) (λ e. absurd cc) o.rest in
     let b = first_row-change s.net (station_named station s.net) change
-    (row (nat_le MOST_DECISIONS (length (clone_at s.clones o.clone).plans)) ListFull ∷ time_rows s.net s.front at)
+    (row (nat_le MAX_DECISIONS (length (clone_at s.clones o.clone).plans)) ListFull ∷ time_rows s.net s.front at)
     a.1 in
-    let c = first_row-Accepted (nat_le MOST_DECISIONS (length (clone_at s.clones o.clone).plans)) ListFull
+    let c = first_row-Accepted (nat_le MAX_DECISIONS (length (clone_at s.clones o.clone).plans)) ListFull
     (time_rows s.net s.front at) (λ e. absurd cc) b in
     (first_row-times s.net s.front at c.1).0
 

@@ -13,7 +13,7 @@ use Rattle.sim_base.specs.declared.decision.Decision.TheVariants.{Fork, Set, End
 use Rattle.sim_base.specs.Clones.{Clone, clone_at, place_of, nobody, fork_of, with_plan, with_end}
 use Rattle.sim_base.specs.Decisions.{subject}
 use Rattle.sim_base.specs.declared.message.Change.{Change}
-use Rattle.sim_base.specs.declared.lists.TheConstants.{MOST_DECISIONS}
+use Rattle.sim_base.specs.declared.lists.TheConstants.{MAX_DECISIONS}
 use Rattle.net_model.specs.Net.{Net, station_named}
 use Rattle.net_model.specs.Rules.{IsNet}
 use Rattle.run_laws.specs.Fronts.{earlier, least_of, least, window_end, next_front}
@@ -96,12 +96,12 @@ IsTimely s at = (s.front ≤ at) × (at < s.net.horizon)
 timely_set : (s : Situation) (clone : ℕ) (who : List ℕ) (at : ℕ) (station : List ℕ) (change : Change)
     → first_row (rows s clone (Set who at station change)) ≡ Accepted → IsTimely s at
 timely_set s clone who at station change h =
-    let full = row (nat_le MOST_DECISIONS (length (clone_at s.clones clone).plans)) ListFull in
+    let full = row (nat_le MAX_DECISIONS (length (clone_at s.clones clone).plans)) ListFull in
     let times = time_rows s.net s.front at in
     let one = first_row-Accepted (is_none (station_named station s.net)) UnknownStation
     (change_row s.net (station_named station s.net) change ∷ full ∷ times) (λ e. cc) h in
     let two = first_row-change s.net (station_named station s.net) change (full ∷ times) one.1 in
-    let three = first_row-Accepted (nat_le MOST_DECISIONS (length (clone_at s.clones clone).plans)) ListFull times
+    let three = first_row-Accepted (nat_le MAX_DECISIONS (length (clone_at s.clones clone).plans)) ListFull times
     (λ e. cc) two in
     first_row-times s.net s.front at three.1
 

@@ -5,7 +5,7 @@ use Rattle.decision_book.specs.Books.{BookView, IsCallUnlessFull}
 use Rattle.sim_base.specs.declared.decision.Decision.{Decision}
 use Rattle.net_model.specs.Net.{Net}
 use Rattle.decision_book.specs.declared.call.Call.{Call}
-use Rattle.decision_book.specs.declared.call.TheConstants.{MOST_CALLS}
+use Rattle.decision_book.specs.declared.call.TheConstants.{MAX_CALLS}
 use Rattle.decision_book.specs.declared.call.Reply.{Reply}
 use Rattle.decision_book.specs.declared.call.Reply.TheVariants.{Full}
 use Rattle.decision_book.specs.Journal.{Event, NewFront, NewCall, calls_of}
@@ -27,14 +27,14 @@ fronts_are_next-told old new caller d r (Some c) h t =
 
 -- if the reply is Full exactly when the book is full, a call that is returned had room
 pub places_told : (old new : BookView) (caller : ℕ) (d : Decision) (r : Reply) (told : Option Call)
-    → IsCallUnlessFull old caller d r told new → (r ≡ Full) ↔ (MOST_CALLS ≤ length (calls_of old.events))
-    → MatchOption told (MOST_CALLS ≤ length (calls_of old.events)) (λ _. length (calls_of old.events) < MOST_CALLS)
+    → IsCallUnlessFull old caller d r told new → (r ≡ Full) ↔ (MAX_CALLS ≤ length (calls_of old.events))
+    → MatchOption told (MAX_CALLS ≤ length (calls_of old.events)) (λ _. length (calls_of old.events) < MAX_CALLS)
 places_told old new caller d r None call full = full.0 call.0
 places_told old new caller d r (Some c) call full =
     let free = below (length (calls_of old.events)) (λ h. call.0 (full.1 h)) in
     omega (arith, free)
   where
-    below : (n : ℕ) → (MOST_CALLS ≤ n → ⊥) → n + 1 ≤ MOST_CALLS
+    below : (n : ℕ) → (MAX_CALLS ≤ n → ⊥) → n + 1 ≤ MAX_CALLS
     below n h = grind (arith, h)
 
 -- a journal whose fronts are the next ones stays so with the next front

@@ -11,9 +11,9 @@ use mathlib.Core.List.{IsPrefix}
 use Rattle.atomic_table.specs.Table.{Me, Allows, carried_after, Splits, Joins, opening, Final, Seen, rest, keeps, gives}
 use Rattle.atomic_table.proofs.Lists.{at_set, at_snoc, at_longer, set_else, set_here}
 use Rattle.net_model.specs.Net.{Net}
-use Rattle.decision_book.specs.declared.call.TheConstants.{MOST_CALLS}
+use Rattle.decision_book.specs.declared.call.TheConstants.{MAX_CALLS}
 use Rattle.decision_book.specs.Journal.{Event, calls_of, front_of}
-use Rattle.decision_desk.specs.declared.desk.TheConstants.{ALL_PARTS}
+use Rattle.decision_desk.specs.declared.desk.TheConstants.{MAX_PARTS}
 use Rattle.decision_desk.specs.declared.view.View.{View}
 use Rattle.atomic_table.specs.Seated.{TableId}
 use Rattle.decision_book.specs.Books.{BookView}
@@ -125,7 +125,7 @@ Allows-look slots id m idle still some_part plain a mine s k one at small =
 
 -- a pass may end its turn with its account marked Full, if the journal is full
 Allows-full : (slots id : ℕ) (v : View) → 0 < v.parts → v.turn ≡ true → (a : Account) → v.accounts ≡ a ∷ []
-    → length (calls_of v.seen) ≡ MOST_CALLS
+    → length (calls_of v.seen) ≡ MAX_CALLS
     → Allows IsDesk slots id (v, (0, book_of v.net v.seen) ∷ []) 2 (λ n. (n + 1) % 2 ^ 64)
     (λ _ m'. m' ≡ (record (view_with_turn v false 0 false v.seen) { accounts = full_account a ∷ [] }, []))
 Allows-full slots id v some_part turn a mine whole s k one at small =
@@ -141,7 +141,7 @@ Allows-full slots id v some_part turn a mine whole s k one at small =
     let idle = others_idle s k id v at t.0 t.1 in
     let line = ticket_in_line s k id v at t.0 in
     let right : IsAccount k.journal a = (subst (AreAccounts k.journal) mine f.accounts).0 in
-    let whole' : length (calls_of k.journal) ≡ MOST_CALLS = ap (λ l. length (calls_of l)) (sym t.2) ∙ whole in
+    let whole' : length (calls_of k.journal) ≡ MAX_CALLS = ap (λ l. length (calls_of l)) (sym t.2) ∙ whole in
     let was_waiting : ticket_count v ≡ 1 = one_waiting v t.0 in (
       w,
       gives,
@@ -195,7 +195,7 @@ Allows-full slots id v some_part turn a mine whole s k one at small =
 
 -- the result is that of HasEndedFullTurn for each such account
 pub Allows-leave_full : (slots id : ℕ) (v : View) → 0 < v.parts → v.turn ≡ true → (a : Account) → v.accounts ≡ a ∷ []
-    → length (calls_of v.seen) ≡ MOST_CALLS
+    → length (calls_of v.seen) ≡ MAX_CALLS
     → Allows IsDesk slots id (v, (0, book_of v.net v.seen) ∷ []) 2 (λ n. (n + 1) % 2 ^ 64)
     (HasEndedFullTurn (v, (0, book_of v.net v.seen) ∷ []))
 Allows-leave_full slots id v some_part turn a mine whole s k one at small =
@@ -453,7 +453,7 @@ Joins-pass id v other u idle still some_part idle' still' plain s k at apart at'
 
 -- a new desk keeps the rule: the journal is empty, the book is in the slot, and only the helm has parts
 pub IsDesk-opening : (net : Net)
-    → IsDesk (opening (0 ∷ 0 ∷ 0 ∷ 0 ∷ []) (book_of net [] ∷ []) (helm_view net ALL_PARTS [] [] 0 []))
+    → IsDesk (opening (0 ∷ 0 ∷ 0 ∷ 0 ∷ []) (book_of net [] ∷ []) (helm_view net MAX_PARTS [] [] 0 []))
 IsDesk-opening net = record {
   net = net;
   journal = [];
@@ -474,7 +474,7 @@ IsDesk-opening net = record {
 }
   where
     first : View
-    first = helm_view net ALL_PARTS [] [] 0 []
+    first = helm_view net MAX_PARTS [] [] 0 []
 
     fine : Fits net 0 [] first
     fine = record {
@@ -525,7 +525,7 @@ pub record HasEnded (v : View) (slots : List Slot) : Type 0 where
   pub once : v.steers ≡ true → (x : ℕ) → accounts_of x v.accounts ≡ in_line x 1 (v.made + 1)
 
 -- this holds for a seat without the turn that has all parts, when the desk ends
-pub HasEnded-final : (id : ℕ) (v : View) (ws : List ℕ) (xs : List Slot) → v.parts ≡ ALL_PARTS → v.turn ≡ false
+pub HasEnded-final : (id : ℕ) (v : View) (ws : List ℕ) (xs : List Slot) → v.parts ≡ MAX_PARTS → v.turn ≡ false
     → Final (Seen IsDesk id v) ws xs → HasEnded v xs
 HasEnded-final id v ws xs whole still final =
     let s = final.0 in

@@ -11,10 +11,10 @@ use Rattle.atomic_table.specs.Table.{State, Me, Allows, Act, Valid, stepped, car
 use Rattle.atomic_table.proofs.Lists.{at_set, set_else, set_here, set_again, one_turn}
 use Rattle.net_model.specs.Net.{Net}
 use Rattle.decision_book.specs.declared.call.Call.{Call}
-use Rattle.decision_book.specs.declared.call.TheConstants.{MOST_CALLS}
+use Rattle.decision_book.specs.declared.call.TheConstants.{MAX_CALLS}
 use Rattle.decision_book.specs.Journal.{Event, NewFront, NewCall, calls_of, front_of}
 use Rattle.decision_book.proofs.Growing.{calls_of-push_front, calls_of-push_length}
-use Rattle.decision_desk.specs.declared.desk.TheConstants.{ALL_PARTS}
+use Rattle.decision_desk.specs.declared.desk.TheConstants.{MAX_PARTS}
 use Rattle.decision_desk.specs.declared.view.View.{View}
 use Rattle.decision_desk.specs.Accounts.{Account, AreAccounts, IsAccount, accounts_of}
 use Rattle.decision_desk.specs.Accounts.{calls_by, RisesFrom, OnlyCalls}
@@ -142,7 +142,7 @@ alike_refl v w p a s m = record { parts = p; callers = λ x. ap (accounts_of x) 
 module _ (s : State Slot View) (k : IsDesk s) (id : ℕ) (v w : View) (at : get_elem? s.views id ≡ some v)
     (same : Alike v w) where
   -- the number of parts is unchanged
-  pub parts_stay : total (λ u. u.parts) (set s.views id w) ≡ ALL_PARTS
+  pub parts_stay : total (λ u. u.parts) (set s.views id w) ≡ MAX_PARTS
   parts_stay = omega (arith, total_set (λ u. u.parts) s.views id v w at, k.parts, same.parts)
 
   -- each caller has the same number of accounts
@@ -298,13 +298,13 @@ Allows-draw slots id m idle still some_part s k one at small =
     )
 
 -- a remainder that two numbers in line share
-same_place : (from x to n : ℕ) → from ≤ x → x < to → to ≤ from + ALL_PARTS → n ≡ from % 2 ^ 64 → n ≡ x % 2 ^ 64
+same_place : (from x to n : ℕ) → from ≤ x → x < to → to ≤ from + MAX_PARTS → n ≡ from % 2 ^ 64 → n ≡ x % 2 ^ 64
     → x ≡ from
 same_place from x to n low high near a b =
     sym (one_turn from x (2 ^ 64) low (omega (arith, low, high, near)) (sym a ∙ b))
 
 -- there are at most as many tickets in line as parts
-near : (s : State Slot View) (k : IsDesk s) → k.next ≤ k.serve + ALL_PARTS
+near : (s : State Slot View) (k : IsDesk s) → k.next ≤ k.serve + MAX_PARTS
 near s k = omega (arith, k.line, k.parts, total_le ticket_count (λ u. u.parts) s.views (λ i u e. (k.fits i u e).part))
 
 -- checking which ticket is served, whether or not it is that of this seat
@@ -415,7 +415,7 @@ in_turn s k id v at turn = ⊎_elim (λ (h : (s.homes ≡ some (book_of k.net k.
 
 -- another seat's facts after one more call in the journal, of a caller whose account it does not have
 fits_called : (net : Net) (serve : ℕ) (j : List Event) (c : Call) (u : View) → u.turn ≡ false
-    → accounts_of c.caller u.accounts ≡ 0 → length (calls_of j) < MOST_CALLS → Fits net serve j u
+    → accounts_of c.caller u.accounts ≡ 0 → length (calls_of j) < MAX_CALLS → Fits net serve j u
     → Fits net serve (j ++ NewCall c ∷ []) u
 fits_called net serve j c u still nobody free f = record {
   part = f.part;
@@ -457,7 +457,7 @@ fits_served net serve j u still f = record {
 
 -- a pass in its turn may add a call of its caller to the journal and its account, if the journal is not full
 Allows-call : (said : List Call) (a : Account) (c : Call) (slots id : ℕ) (m : Me Slot View) → said ≡ c ∷ []
-    → m.0.accounts ≡ a ∷ [] → c.caller ≡ a.caller → m.0.turn ≡ true → length (calls_of m.0.seen) < MOST_CALLS
+    → m.0.accounts ≡ a ∷ [] → c.caller ≡ a.caller → m.0.turn ≡ true → length (calls_of m.0.seen) < MAX_CALLS
     → Allows IsDesk slots id m 3 (λ n. (n + 1) % 2 ^ 64) (λ n m'. (n ≡ length (calls_of m.0.seen))
     × (m' ≡ (view_after_call m.0 a c, m.1)))
 Allows-call said a c slots id m is_said mine by turn free s k one at small =
@@ -666,7 +666,7 @@ Becomes m n = m ≡ n
 
 -- a pass in its turn may add a call; the result is that of HasAddedCall for each such account and call
 pub Allows-raise_count : (said : List Call) (a : Account) (c : Call) (slots id : ℕ) (m : Me Slot View) → said ≡ c ∷ []
-    → m.0.accounts ≡ a ∷ [] → c.caller ≡ a.caller → m.0.turn ≡ true → length (calls_of m.0.seen) < MOST_CALLS
+    → m.0.accounts ≡ a ∷ [] → c.caller ≡ a.caller → m.0.turn ≡ true → length (calls_of m.0.seen) < MAX_CALLS
     → Allows IsDesk slots id m 3 (λ n. (n + 1) % 2 ^ 64) (HasAddedCall said m)
 Allows-raise_count said a c slots id m is_said mine by turn free s k one at small =
     let r = Allows-call said a c slots id m is_said mine by turn free s k one at small in (

@@ -2,7 +2,7 @@
 use Rattle.std.specs.Prelude.{◌≡◌, ℕ, ◌+◌, ◌<◌, Bool, true, List, [], ◌∷◌, ◌++◌, length, map, nat_eq, if◌then◌else◌}
 use mathlib.Core.List.{IsPrefix}
 use Rattle.decision_book.specs.declared.call.Call.{Call}
-use Rattle.decision_book.specs.declared.call.TheConstants.{MOST_CALLS}
+use Rattle.decision_book.specs.declared.call.TheConstants.{MAX_CALLS}
 use Rattle.decision_book.specs.Journal.{Event, NewFront, NewCall, calls_of, front_of}
 
 -- a caller: its calls, each with its place in the journal, the fronts that it saw, and whether a reply was Full
@@ -45,7 +45,7 @@ EachFront events (f ∷ fs) = IsFrontOf events f × EachFront events fs
 pub record IsAccount (events : List Event) (a : Account) : Type 0 where
   pub calls : a.calls ≡ calls_by a.caller events
   pub fronts : EachFront events a.fronts
-  pub full : a.full ≡ true → length (calls_of events) ≡ MOST_CALLS
+  pub full : a.full ≡ true → length (calls_of events) ≡ MAX_CALLS
 
 -- each of these accounts is right
 abbrev pub AreAccounts : List Event → List Account → Type 0

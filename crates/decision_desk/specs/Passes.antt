@@ -8,7 +8,7 @@ use Rattle.sim_base.specs.Reserved.{ReservedView}
 use Rattle.sim_base.specs.declared.decision.Decision.{Decision}
 use Rattle.net_model.specs.Net.{Net}
 use Rattle.decision_book.specs.declared.call.Call.{Call}
-use Rattle.decision_book.specs.declared.call.TheConstants.{MOST_CALLS}
+use Rattle.decision_book.specs.declared.call.TheConstants.{MAX_CALLS}
 use Rattle.decision_book.specs.declared.call.Reply.{Reply}
 use Rattle.decision_book.specs.declared.call.Reply.TheVariants.{Full}
 use Rattle.decision_book.specs.Journal.{Event, NewCall, NewFront, call_of, calls_of, after, front_of}
@@ -16,7 +16,7 @@ use Rattle.decision_book.specs.Books.{BookView, IsCallUnlessFull}
 use Rattle.decision_book.specs.Replies.{reply}
 use Rattle.decision_book.specs.Scripts.{accepted_of}
 use Rattle.decision_book.specs.Right.{IsRight}
-use Rattle.decision_desk.specs.declared.desk.TheConstants.{ALL_PARTS}
+use Rattle.decision_desk.specs.declared.desk.TheConstants.{MAX_PARTS}
 use Rattle.decision_desk.specs.Accounts.{Account, AreAccounts, accounts_of, calls_by, OnlyCalls}
 use Rattle.decision_desk.specs.Leasts.{leasts_of}
 use Rattle.decision_desk.specs.Turns.{Slot, IsDeskTable, book_of, in_line, view_with_turn, pass_view}
@@ -67,7 +67,7 @@ pub record IsPass (caller : ℕ) (receipts : ReservedView Receipt) (desk : Table
   pub rest : IsPassAtRest me
   pub caller_is : (first_account me.0.accounts).caller ≡ caller
   pub receipts_are : receipts.items ≡ map receipt_of (first_account me.0.accounts).calls
-  pub reserved : receipts.reserved ≡ MOST_CALLS
+  pub reserved : receipts.reserved ≡ MAX_CALLS
 
 -- ---- turns of a pass
 
@@ -77,15 +77,15 @@ pub record HasAnswered (old : BookView) (caller : ℕ) (d : Decision) (answer : 
     (new : BookView) : Type 0 where
   pub answer_is : answer ≡ reply (after old.net old.events) d
   pub call : IsCallUnlessFull old caller d answer told new
-  pub places : MatchOption told (MOST_CALLS ≤ length (calls_of old.events))
-      (λ _. length (calls_of old.events) < MOST_CALLS)
+  pub places : MatchOption told (MAX_CALLS ≤ length (calls_of old.events))
+      (λ _. length (calls_of old.events) < MAX_CALLS)
 
 -- the journal j continues what the pass has seen, and the pass's account is right for j
 pub record ComesBehind (seen : List Event) (a : Account) (j : List Event) : Type 0 where
   pub begins : IsPrefix seen j
   pub rises : front_of seen ≤ front_of j
   pub right : AreAccounts j (a ∷ [])
-  pub few : length (calls_of j) ≤ MOST_CALLS
+  pub few : length (calls_of j) ≤ MAX_CALLS
 
 -- a pass that has come to its turn, after the events j
 pub record PassHasTurn (net : Net) (seen : List Event) (a : Account) (me : Me Slot View) (j : List Event) : Type 0 where
@@ -96,13 +96,13 @@ pub record PassHasTurn (net : Net) (seen : List Event) (a : Account) (me : Me Sl
 -- the call is in the account, and in the journal at the place on the receipt; `Then` holds of both afterwards
 abbrev pub HasEntered : List Event → Account → Decision → Receipt → (List Event → Account → Type 0) → Type 0
 HasEntered j a d receipt Then = (receipt.reply ≢ Full) × (receipt.entry ≡ Some (length (calls_of j)))
-    × (length (calls_of j) < MOST_CALLS)
+    × (length (calls_of j) < MAX_CALLS)
     × Then (j ++ NewCall (call_of a.caller j d receipt.reply) ∷ [])
     (with_call a j (call_of a.caller j d receipt.reply))
 
 -- the reply is Full: the journal is unchanged, and the account is marked; `Then` holds of both afterwards
 abbrev pub HasFoundFull : List Event → Account → Receipt → (List Event → Account → Type 0) → Type 0
-HasFoundFull j a receipt Then = (receipt.reply ≡ Full) × (receipt.entry ≡ None) × (length (calls_of j) ≡ MOST_CALLS)
+HasFoundFull j a receipt Then = (receipt.reply ≡ Full) × (receipt.entry ≡ None) × (length (calls_of j) ≡ MAX_CALLS)
     × Then j (full_account a)
 
 -- the two outcomes of a decision for the journal and the caller's account
@@ -194,7 +194,7 @@ abbrev pub new_helm : TableId → Net → ℕ → HelmView
 new_helm desk net n = record {
   desk = desk;
   net = net;
-  parts = ALL_PARTS - n;
+  parts = MAX_PARTS - n;
   seen = [];
   helm = [];
   made = n;

@@ -9,10 +9,10 @@ use Rattle.atomic_table.specs.Table.{State, Me}
 use Rattle.atomic_table.specs.Seated.{TableId}
 use Rattle.net_model.specs.Net.{Net}
 use Rattle.decision_book.specs.declared.call.Call.{Call}
-use Rattle.decision_book.specs.declared.call.TheConstants.{MOST_CALLS}
+use Rattle.decision_book.specs.declared.call.TheConstants.{MAX_CALLS}
 use Rattle.decision_book.specs.Journal.{Event, NewFront, NewCall, calls_of, front_of}
 use Rattle.decision_book.specs.Books.{BookView}
-use Rattle.decision_desk.specs.declared.desk.TheConstants.{ALL_PARTS}
+use Rattle.decision_desk.specs.declared.desk.TheConstants.{MAX_PARTS}
 use Rattle.decision_desk.specs.Accounts.{Account, AreAccounts, accounts_of, calls_by}
 use Rattle.decision_desk.specs.Accounts.{RisesFrom, OnlyCalls}
 use Rattle.decision_desk.specs.declared.view.View.{View}
@@ -130,9 +130,9 @@ pub record IsDesk (s : State Slot View) : Type 0 where
   pub next : ℕ
   pub serve : ℕ
   pub words : s.words ≡ front_of journal ∷ next % 2 ^ 64 ∷ serve % 2 ^ 64 ∷ length (calls_of journal) ∷ []
-  pub few : length (calls_of journal) ≤ MOST_CALLS
+  pub few : length (calls_of journal) ≤ MAX_CALLS
   pub rising : RisesFrom 0 journal
-  pub parts : total (λ v. v.parts) s.views ≡ ALL_PARTS
+  pub parts : total (λ v. v.parts) s.views ≡ MAX_PARTS
   pub line : serve + total ticket_count s.views ≡ next
   pub each_once : (x : ℕ) → total (has_ticket x) s.views ≡ in_line x serve next
   pub fits : EachFits net serve journal s.views
@@ -154,7 +154,7 @@ HasDrawnTicket m n m' = (t : ℕ) × (n ≡ t % 2 ^ 64) × (m' ≡ (view_with_tu
 
 -- the seat has the turn, the whole journal and the book
 abbrev pub HasComeToTurn : Me Slot View → Me Slot View → Type 0
-HasComeToTurn m m' = (j : List Event) × IsPrefix m.0.seen j × (length (calls_of j) ≤ MOST_CALLS)
+HasComeToTurn m m' = (j : List Event) × IsPrefix m.0.seen j × (length (calls_of j) ≤ MAX_CALLS)
     × (m.0.steers ≡ true → OnlyCalls m.0.helm j) × AreAccounts j m.0.accounts
     × (m' ≡ (view_with_turn m.0 true m.0.ticket true j, (0, book_of m.0.net j) ∷ m.1))
     × (front_of m.0.seen ≤ front_of j)

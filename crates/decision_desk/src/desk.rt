@@ -3,7 +3,7 @@ ghost use Rattle.std.specs.Prelude.{◌≡◌, ℕ, ◌+◌, ◌-◌, ◌<◌, �
 ghost use Rattle.std.specs.Prelude.{List, All, Some, length, map, IfOk, OnOk, OnErr};
 ghost use mathlib.Core.List.{IsPrefix};
 ghost use Rattle.decision_book.specs.Journal.{Event, front_of};
-ghost use Rattle.decision_desk.specs.declared.desk.TheConstants.{ALL_PARTS, MOST_PASSES};
+ghost use Rattle.decision_desk.specs.declared.desk.TheConstants.{MAX_PARTS, MAX_PASSES};
 ghost use Rattle.decision_desk.specs.Turns.{IsDeskTable, new_account};
 ghost use Rattle.decision_desk.specs.Passes.{IsAsked, IsFinalBook, late_front, pass_after_look, new_passes, new_helm};
 
@@ -13,18 +13,18 @@ use crate::pass::{Pass, Receipt, take_turn};
 use crate::turns::{DeskRule, Share, look_at_front};
 use crate::view::View;
 use atomic_table::{Refused, Table};
-use decision_book::MOST_CALLS;
+use decision_book::MAX_CALLS;
 use net_model::Model;
-use sim_base::limits::MOST_ANALYSTS;
+use sim_base::limits::MAX_ANALYSTS;
 use sim_base::{Decision, NoMemory, Reserved};
 use std::alloc::Global;
 use std::sync::{Arc, Wait};
 
 /// The maximum number of passes of a desk, one for each analyst.
-pub const MOST_PASSES: u32 = MOST_ANALYSTS;
+pub const MAX_PASSES: u32 = MAX_ANALYSTS;
 
 /// The parts of the right to close a desk: one for each pass, and the helm's own. The helm begins with all of them.
-pub const ALL_PARTS: u32 = MOST_PASSES + 1;
+pub const MAX_PARTS: u32 = MAX_PASSES + 1;
 
 /// The desk: the book that threads share.
 #[derive(Drop)]
@@ -45,7 +45,7 @@ impl Desk {
         analysts: u32,
     ) -> Result<(Desk, Vec<Pass>, Helm), NoMemory>
         requires some { 1 ≤ analysts }
-        requires few { analysts ≤ MOST_PASSES }
+        requires few { analysts ≤ MAX_PASSES }
         ensures passes { IfOk result (λ r. r.1.items ≡ new_passes (desk_id r.0) model.value analysts) }
         ensures helm { IfOk result (λ r. r.2 ≡ new_helm (desk_id r.0) model.value analysts) }
     {
@@ -84,7 +84,7 @@ impl Desk {
     fn make_pass(&self, alloc: Global, helm: &mut Helm) -> Result<Pass, NoMemory>
         requires desk { helm.old.desk ≡ desk_id self.now }
         requires parts { 1 < helm.old.parts }
-        requires few { helm.old.made < MOST_PASSES }
+        requires few { helm.old.made < MAX_PASSES }
         ensures pass { IfOk result (λ p. p ≡ record {
           desk = helm.old.desk;
           net = helm.old.net;
@@ -95,7 +95,7 @@ impl Desk {
             helm.new ≡ record helm.old { parts = helm.old.parts - 1; made = helm.old.made + 1 }) }
         ensures same { OnErr result (helm.new ≡ helm.old) }
     {
-        let receipts = Reserved::with_capacity(alloc, MOST_CALLS)?;
+        let receipts = Reserved::with_capacity(alloc, MAX_CALLS)?;
         let Helm { seat, made, .. } = helm;
         let caller = *made + 1;
         let seat = self.table.shared.split_seat::<Share>(seat);
@@ -182,9 +182,9 @@ impl Desk {
     pub fn close(self, passes: Vec<Pass>, helm: Helm) -> LegalBook
         requires desk { helm.desk ≡ desk_id self }
         requires passes { All (λ p. p.desk ≡ desk_id self) passes.items }
-        requires whole { helm.parts + length passes.items ≡ ALL_PARTS }
+        requires whole { helm.parts + length passes.items ≡ MAX_PARTS }
         ensures closed { IsFinalBook (record helm {
-          parts = ALL_PARTS;
+          parts = MAX_PARTS;
           accounts = helm.accounts ++ map (λ p. p.account) passes.items;
         }) result }
     {
@@ -196,7 +196,7 @@ impl Desk {
     // Returns the book, once the helm has every part.
     fn take_book(self, helm: Helm) -> LegalBook
         requires desk { helm.desk ≡ desk_id self }
-        requires whole { helm.parts ≡ ALL_PARTS }
+        requires whole { helm.parts ≡ MAX_PARTS }
         ensures closed { IsFinalBook helm result }
     {
         let Desk { table } = self;

@@ -1,6 +1,6 @@
 //! Passes: an analyst's handle for submitting decisions.
 ghost use Rattle.std.specs.Prelude.{◌≡◌, ◌++◌, ◌∷◌, [], List, ◌<◌, length, map, None};
-ghost use Rattle.decision_book.specs.declared.call.TheConstants.{MOST_CALLS};
+ghost use Rattle.decision_book.specs.declared.call.TheConstants.{MAX_CALLS};
 ghost use Rattle.decision_book.specs.Journal.{Event, NewCall, calls_of};
 ghost use Rattle.decision_desk.specs.Turns.{IsSeatOf, book_of, seen_book, pass_view, with_call, full_account};
 ghost use Rattle.decision_desk.specs.Passes.{IsPassAtRest, IsPassInTurn, PassHasTurn, IsPassTurn};
@@ -91,7 +91,7 @@ pub(crate) fn tell_and_leave(board: &Board, seat: &mut Chair, book: LegalBook, c
     // the pass has the turn, and its book is the journal that it saw with the call appended
     requires table { IsSeatOf board.now.table_id seat.old.table_id }
     requires turn { IsPassInTurn seat.old.me }
-    requires free { length (calls_of seat.old.me.0.seen) < MOST_CALLS }
+    requires free { length (calls_of seat.old.me.0.seen) < MAX_CALLS }
     requires caller { call.now.caller ≡ (first_account seat.old.me.0.accounts).caller }
     requires book { book ≡ record { net = seat.old.me.0.net; events = seat.old.me.0.seen ++ NewCall call.now ∷ [] } }
     // the table of the seat is unchanged
@@ -114,7 +114,7 @@ pub(crate) fn tell_and_leave(board: &Board, seat: &mut Chair, book: LegalBook, c
 pub(crate) fn leave_full(board: &Board, seat: &mut Chair, book: LegalBook)
     requires table { IsSeatOf board.now.table_id seat.old.table_id }
     requires turn { IsPassInTurn seat.old.me }
-    requires full { length (calls_of seat.old.me.0.seen) ≡ MOST_CALLS }
+    requires full { length (calls_of seat.old.me.0.seen) ≡ MAX_CALLS }
     requires book { book ≡ seen_book seat.old.me.0 }
     ensures table { seat.new.table_id ≡ seat.old.table_id }
     ensures rest { seat.new.me ≡ (

@@ -2,7 +2,7 @@
 ghost use Rattle.std.specs.Prelude.{◌≡◌, ℕ, ◌%◌, ◌^◌, ◌<◌, ◌≤◌, [], ◌∷◌, List, length, true, false};
 ghost use mathlib.Core.List.{IsPrefix};
 ghost use Rattle.decision_book.specs.Journal.{Event, calls_of, front_of};
-ghost use Rattle.decision_book.specs.declared.call.TheConstants.{MOST_CALLS};
+ghost use Rattle.decision_book.specs.declared.call.TheConstants.{MAX_CALLS};
 ghost use Rattle.decision_desk.specs.Accounts.{Account};
 ghost use Rattle.decision_desk.specs.Turns.{HasOneAccount, IsAtRest, IsSeatOf, IsWaiting, HasComeToTurn, HasTurnIf};
 ghost use Rattle.decision_desk.specs.Turns.{MayEndTurn, view_with_turn};
@@ -22,12 +22,12 @@ pub struct DeskRule;
 
 impl TableRule<Option<LegalBook>, View, Model> for DeskRule {
     ghost use Rattle.std.specs.Prelude.{[]};
-    ghost use Rattle.decision_desk.specs.declared.desk.TheConstants.{ALL_PARTS};
+    ghost use Rattle.decision_desk.specs.declared.desk.TheConstants.{MAX_PARTS};
     ghost use Rattle.decision_desk.specs.Turns.{helm_view, IsDesk};
 
     ghost holds = { λ _ s. IsDesk s };
 
-    ghost first = { λ net. helm_view net ALL_PARTS [] [] 0 [] };
+    ghost first = { λ net. helm_view net MAX_PARTS [] [] 0 [] };
 }
 
 /// The step that draws a ticket.
@@ -180,7 +180,7 @@ pub fn raise_count<E: AddedCall>(board: &Board, seat: &mut Chair, call: &Call) -
     // the seat has the turn, the journal has room for a call, and the seat's only account is the caller's
     requires table { IsSeatOf board.now.table_id seat.old.table_id }
     requires calls { E.calls ≡ call.now ∷ [] }
-    requires turn { (seat.old.me.0.turn ≡ true) × (length (calls_of seat.old.me.0.seen) < MOST_CALLS) }
+    requires turn { (seat.old.me.0.turn ≡ true) × (length (calls_of seat.old.me.0.seen) < MAX_CALLS) }
     requires account { (a : Account) × (seat.old.me.0.accounts ≡ a ∷ []) × (call.now.caller ≡ a.caller) }
     // the table of the seat is unchanged
     ensures table { seat.new.table_id ≡ seat.old.table_id }
@@ -218,7 +218,7 @@ pub fn end_full_turn(board: &Board, seat: &mut Chair)
     // the seat has the turn, the book is back in the slot, and the journal is full
     requires table { IsSeatOf board.now.table_id seat.old.table_id }
     requires may_end { MayEndTurn seat.old.me }
-    requires full { length (calls_of seat.old.me.0.seen) ≡ MOST_CALLS }
+    requires full { length (calls_of seat.old.me.0.seen) ≡ MAX_CALLS }
     requires account { HasOneAccount seat.old.me.0 }
     // the table of the seat is unchanged
     ensures table { seat.new.table_id ≡ seat.old.table_id }

@@ -12,7 +12,7 @@ use Rattle.decision_script.specs.declared.item.Item.{Item}
 use Rattle.sim_base.specs.Chain.{◌>>=◌}
 use Rattle.decision_script.specs.Sentences.{saying}
 use Rattle.decision_script.specs.Stating.{IsAnalyst, IsName, IsAct, IsItem, analyst_name}
-use Rattle.decision_script.specs.declared.script.TheConstants.{MOST_ANALYSTS, MOST_ITEMS}
+use Rattle.decision_script.specs.declared.script.TheConstants.{MAX_ANALYSTS, MAX_ITEMS}
 use Rattle.decision_script.specs.Reading.{ReaderView, after_line, after_lines, after_saying}
 use Rattle.decision_script.specs.Reading.{at_line, analyst_place, in_section, new_reader}
 use Rattle.decision_script.specs.Printing.{words_of_act, words_of_section, item_lines, canonical_text}
@@ -35,11 +35,11 @@ unfolding after_line
 after_words line r ws h = ap (λ x. at_line line x >>= after_saying line r) (line_saying-join ws h)
 
 -- the line of an act adds it as an item
-pub after_act : (line : ℕ) (r : ReaderView) (act : Act) → IsAct act → length r.items < MOST_ITEMS
+pub after_act : (line : ℕ) (r : ReaderView) (act : Act) → IsAct act → length r.items < MAX_ITEMS
     → after_line line r (join_with_byte 32 (words_of_act act))
     ≡ Ok (record r { items = r.items ++ (record { line = line; analyst = r.current; act = act }) ∷ [] })
 after_act line r act h few =
-    let lt : nat_lt (length r.items) MOST_ITEMS ≡ true = grind (arith, nat_tests) in
+    let lt : nat_lt (length r.items) MAX_ITEMS ≡ true = grind (arith, nat_tests) in
     after_words line r (words_of_act act) (act_words act h) ∙ ap (λ x. at_line line x >>= after_saying line r)
     (saying-act act h) ∙ rw lt refl
 
@@ -52,11 +52,11 @@ after_section line r name h = after_words line r (words_of_section name) (sectio
 
 -- a new name makes the next analyst
 after_new : (line : ℕ) (r : ReaderView) (name : List ℕ) → IsName name → analyst_place name r.analysts ≡ None
-    → length r.analysts < MOST_ANALYSTS
+    → length r.analysts < MAX_ANALYSTS
     → after_line line r (join_with_byte 32 (words_of_section name))
     ≡ Ok (record { analysts = r.analysts ++ name ∷ []; current = length r.analysts + 1; items = r.items })
 after_new line r name h new few =
-    let lt : nat_lt (length r.analysts) MOST_ANALYSTS ≡ true = grind (arith, nat_tests) in
+    let lt : nat_lt (length r.analysts) MAX_ANALYSTS ≡ true = grind (arith, nat_tests) in
     after_section line r name h ∙ ap (in_section line r name) new ∙ rw lt refl
 
 -- a known one is in force again
@@ -75,7 +75,7 @@ after_lines-Ok line r next l ls one = ap (λ x. x >>= λ next. after_lines (line
 
 -- the sections at the top add their analysts
 headers_read : (line c : ℕ) (before more : List (List ℕ)) (items : List Item) (rest : List (List ℕ))
-    → c ≡ length before → AreNew before more → length before + length more ≤ MOST_ANALYSTS
+    → c ≡ length before → AreNew before more → length before + length more ≤ MAX_ANALYSTS
     → (end : ℕ) × (after_lines line (record { analysts = before; current = c; items = items })
     (map (join_with_byte 32) (map words_of_section more) ++ rest)
     ≡ after_lines end (record { analysts = before ++ more; current = length (before ++ more); items = items }) rest)
@@ -105,7 +105,7 @@ pub record AreKnown (analysts : List (List ℕ)) : Type 0 where
 
 -- the line of an item is read if its analyst is current, and then those of the others
 act_read : (line : ℕ) (r : ReaderView) (item : Item) (more : List Item) (rest : List (List ℕ)) → IsAct item.act
-    → length r.items < MOST_ITEMS → r.current ≡ item.analyst
+    → length r.items < MAX_ITEMS → r.current ≡ item.analyst
     → AreRead (record r { items = r.items ++ (record { line = line; analyst = r.current; act = item.act }) ∷ [] })
     (after_lines (line + 1) (record r {
       items = r.items
@@ -124,7 +124,7 @@ act_read line r item more rest h few same read = record {
 
 -- the lines of one item, if the current analyst is its own or not
 item_read : (line force : ℕ) (r : ReaderView) (item : Item) (more : List Item) (rest : List (List (List ℕ)))
-    → AreKnown r.analysts → r.current ≡ force → IsItem (length r.analysts) item → length r.items < MOST_ITEMS
+    → AreKnown r.analysts → r.current ≡ force → IsItem (length r.analysts) item → length r.items < MAX_ITEMS
     → ((n c : ℕ) → c ≡ item.analyst
     → AreRead (record r { current = c })
     (after_lines n (record r { current = c }) (map (join_with_byte 32) (words_of_act item.act ∷ rest)
@@ -148,7 +148,7 @@ item_read line force r item more rest known e h few go false other =
 
 -- the lines written from items are read as these items, except for the numbers of the lines
 items_read : (line force : ℕ) (r : ReaderView) (items : List Item) → AreKnown r.analysts → r.current ≡ force
-    → AllByRecursion (IsItem (length r.analysts)) items → length r.items + length items ≤ MOST_ITEMS
+    → AllByRecursion (IsItem (length r.analysts)) items → length r.items + length items ≤ MAX_ITEMS
     → AreRead r (after_lines line r (map (join_with_byte 32) (item_lines r.analysts force items) ++ ([] ∷ []))) items
 unfolding after_lines after_line
 items_read line force r [] known e h few =
@@ -198,7 +198,7 @@ item_words analysts force (item ∷ items) known h =
 
 -- the canonical text is read as the script, except for the numbers of the lines
 pub text_read : (more : List (List ℕ)) (items : List Item) → AreNew (codes "main" ∷ []) more
-    → AreKnown (codes "main" ∷ more) → length (codes "main" ∷ more) ≤ MOST_ANALYSTS → length items ≤ MOST_ITEMS
+    → AreKnown (codes "main" ∷ more) → length (codes "main" ∷ more) ≤ MAX_ANALYSTS → length items ≤ MAX_ITEMS
     → AllByRecursion (IsItem (length (codes "main" ∷ more))) items
     → (t : ReaderView) × (after_lines 1 new_reader
     (lines (canonical_text (record { analysts = codes "main" ∷ more; items = items }))) ≡ Ok t)

@@ -7,7 +7,7 @@ use Rattle.std.specs.Str.Lines.{strip_carriage_return}
 use Rattle.std.proofs.lemmas.List.Splits.{slice_split-cons_yes, slice_split-cons_no}
 use Rattle.std.proofs.lemmas.Bool.{and_parts}
 use Rattle.std.proofs.lemmas.Bool.Decides.{nat_tests}
-use Rattle.sim_base.specs.declared.name.TheConstants.{LONGEST_NAME}
+use Rattle.sim_base.specs.declared.name.TheConstants.{MAX_NAME_LEN}
 use Rattle.decision_script.specs.Lines.{is_blank, is_newline, has_bytes, words, lines, is_ascii}
 use Rattle.decision_script.specs.Sentences.{saying, line_saying}
 use Rattle.decision_script.specs.Printing.{line_text}
@@ -22,7 +22,7 @@ is_letter b = nat_le 33 b && nat_le b 126
 pub record IsWord (word : List ℕ) : Type 0 where
   pub some : has_bytes word ≡ true
   pub letters : list_all is_letter word ≡ true
-  pub short : nat_le (length word) LONGEST_NAME ≡ true
+  pub short : nat_le (length word) MAX_NAME_LEN ≡ true
 
 -- a letter or a space
 abbrev pub is_printed : ℕ → Bool

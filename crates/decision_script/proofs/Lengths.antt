@@ -5,7 +5,7 @@ use Rattle.std.specs.List.{AllByRecursion, flat_map, join_with_byte}
 use Rattle.std.proofs.lemmas.Bool.Decides.{nat_tests}
 use Rattle.std.proofs.lemmas.List.Concat.{flat_map-append}
 use Rattle.sim_base.specs.Params.{words_of_change}
-use Rattle.sim_base.specs.declared.name.TheConstants.{LONGEST_NAME}
+use Rattle.sim_base.specs.declared.name.TheConstants.{MAX_NAME_LEN}
 use Rattle.sim_base.specs.declared.decision.Decision.TheVariants.{Fork, Set, End}
 use Rattle.sim_base.specs.declared.message.Param.{Param}
 use Rattle.sim_base.specs.declared.message.Param.TheVariants.{Every, Service, Hold, Servers, Room, Weight}
@@ -21,12 +21,12 @@ use Rattle.decision_script.proofs.JoinedWords.{IsWord}
 
 -- ---- join_with_byte and line_text
 
--- words of at most `LONGEST_NAME` bytes, each followed by one byte
+-- words of at most `MAX_NAME_LEN` bytes, each followed by one byte
 joined_length : (ws : List (List ℕ)) → AllByRecursion IsWord ws → length (join_with_byte 32 ws) ≤ 17 * length ws
 joined_length [] h = omega arith
 joined_length (w ∷ []) h = let short = h.0.short in grind (arith, nat_tests)
 joined_length (w ∷ v ∷ ws) h =
-    let short : length w ≤ LONGEST_NAME = (let s = h.0.short in grind (arith, nat_tests)) in
+    let short : length w ≤ MAX_NAME_LEN = (let s = h.0.short in grind (arith, nat_tests)) in
     omega (arith, length-append w (32 ∷ join_with_byte 32 (v ∷ ws)), joined_length (v ∷ ws) h.1)
 
 -- and the line feed

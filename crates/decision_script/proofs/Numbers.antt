@@ -12,7 +12,7 @@ use Rattle.sim_base.specs.Names.{is_digit}
 use Rattle.decision_script.specs.Lines.{has_number_form, number}
 use Rattle.std.specs.Option.{ok_or}
 use Rattle.decision_script.specs.declared.fault.LineFault.TheVariants.{BadNumber}
-use Rattle.decision_script.specs.declared.number.TheConstants.{MOST_NUMBER}
+use Rattle.decision_script.specs.declared.number.TheConstants.{MAX_NUMBER}
 use Rattle.decision_script.specs.Sentences.{word_number}
 use Rattle.decision_script.proofs.JoinedWords.{is_letter, IsWord, list_all-weaker}
 
@@ -53,7 +53,7 @@ has_number_form-decimal (suc n) h =
 -- ---- number and word_number
 
 -- the text of a number that a script may have is read as that number
-number-decimal : (n : ℕ) → n ≤ MOST_NUMBER → number (decimal n) ≡ Some n
+number-decimal : (n : ℕ) → n ≤ MAX_NUMBER → number (decimal n) ≡ Some n
 number-decimal n h =
     let wide : n < 2 ^ 64 = omega arith in
     let form = has_number_form-decimal n wide in
@@ -62,7 +62,7 @@ number-decimal n h =
     rw (form, value) (grind (arith, nat_tests))
 
 -- and it is so if it is a word of a line
-pub word_number-decimal : (n : ℕ) → n ≤ MOST_NUMBER → word_number (decimal n) ≡ Ok n
+pub word_number-decimal : (n : ℕ) → n ≤ MAX_NUMBER → word_number (decimal n) ≡ Ok n
 word_number-decimal n h = ap (λ o. ok_or o BadNumber) (number-decimal n h)
 
 -- ---- IsWord

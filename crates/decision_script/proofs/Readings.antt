@@ -32,9 +32,9 @@ use Rattle.decision_script.specs.Sentences.{change_of, section, look, fork, end,
 use Rattle.decision_script.specs.Sentences.{after_analyst, after_look, after_fork, after_end, after_set, sentence}
 use Rattle.decision_script.specs.Sentences.{begins_comment, saying, line_saying}
 use Rattle.decision_script.specs.Stating.{Fits32, IsAnalyst, IsName, IsChange, IsAct, IsItem, IsScript}
-use Rattle.sim_base.specs.declared.number.TheConstants.{MOST_DIGITS}
-use Rattle.decision_script.specs.declared.number.TheConstants.{MOST_NUMBER}
-use Rattle.decision_script.specs.declared.script.TheConstants.{MOST_ANALYSTS, MOST_ITEMS}
+use Rattle.sim_base.specs.declared.number.TheConstants.{MAX_DIGITS}
+use Rattle.decision_script.specs.declared.number.TheConstants.{MAX_NUMBER}
+use Rattle.decision_script.specs.declared.script.TheConstants.{MAX_ANALYSTS, MAX_ITEMS}
 use Rattle.decision_script.specs.Reading.{ReaderView, at_line, analyst_place, in_section, after_saying}
 use Rattle.decision_script.specs.Reading.{after_line, after_lines, new_reader, script_of}
 
@@ -63,14 +63,14 @@ cond-IfOk P false r s h k = k
 -- a number that a word writes fits 32 bits
 word_number-fits : (word : List ℕ) → IfOk (word_number word) Fits32
 word_number-fits word =
-    by ((has_number_form word && nat_le (length word) MOST_DIGITS) && nat_le (digits_value 10 word) MOST_NUMBER) refl
+    by ((has_number_form word && nat_le (length word) MAX_DIGITS) && nat_le (digits_value 10 word) MAX_NUMBER) refl
   where
     by : (b : Bool)
-        → ((has_number_form word && nat_le (length word) MOST_DIGITS) && nat_le (digits_value 10 word) MOST_NUMBER) ≡ b
+        → ((has_number_form word && nat_le (length word) MAX_DIGITS) && nat_le (digits_value 10 word) MAX_NUMBER) ≡ b
         → IfOk (ok_or (cond b (Some (digits_value 10 word)) None) BadNumber) Fits32
     by true e =
-        let small = (and_parts (has_number_form word && nat_le (length word) MOST_DIGITS)
-        (nat_le (digits_value 10 word) MOST_NUMBER) e).1 in
+        let small = (and_parts (has_number_form word && nat_le (length word) MAX_DIGITS)
+        (nat_le (digits_value 10 word) MAX_NUMBER) e).1 in
         grind (arith, nat_tests)
     by false e = tt
 
@@ -245,7 +245,7 @@ more_analysts n i h = record {
 
 -- a new analyst keeps it so
 new_analyst : (r : ReaderView) (name : List ℕ) → IsReading r → IsName name → analyst_place name r.analysts ≡ None
-    → length r.analysts < MOST_ANALYSTS
+    → length r.analysts < MAX_ANALYSTS
     → IsReading (record { analysts = r.analysts ++ name ∷ []; current = length r.analysts + 1; items = r.items })
 new_analyst r name h n none few =
     let long = length_push r.analysts name in
@@ -277,11 +277,11 @@ in_section-keeps : (line : ℕ) (r : ReaderView) (name : List ℕ) (o : Option �
 in_section-keeps line r name (Some i) h n is =
     known_analyst r i h (position-Some (λ x. bytes_eq x name) r.analysts i [] is).0
 in_section-keeps line r name None h n is =
-    cond-IfOk IsReading (nat_lt (length r.analysts) MOST_ANALYSTS) (Ok _) (Err (TooManyAnalysts line))
+    cond-IfOk IsReading (nat_lt (length r.analysts) MAX_ANALYSTS) (Ok _) (Err (TooManyAnalysts line))
     (λ few. new_analyst r name h n is (grind (arith, nat_tests))) tt
 
 -- an item too
-new_item : (line : ℕ) (r : ReaderView) (act : Act) → IsReading r → IsAct act → length r.items < MOST_ITEMS
+new_item : (line : ℕ) (r : ReaderView) (act : Act) → IsReading r → IsAct act → length r.items < MAX_ITEMS
     → IsReading (record r { items = r.items ++ (record { line = line; analyst = r.current; act = act }) ∷ [] })
 new_item line r act h is few =
     let item : Item = record { line = line; analyst = r.current; act = act } in
@@ -305,7 +305,7 @@ after_saying-keeps : (line : ℕ) (r : ReaderView) (s : Meaning) → IsReading r
 after_saying-keeps line r Nothing h is = h
 after_saying-keeps line r (Section name) h is = in_section-keeps line r name (analyst_place name r.analysts) h is refl
 after_saying-keeps line r (Says act) h is =
-    cond-IfOk IsReading (nat_lt (length r.items) MOST_ITEMS) (Ok _) (Err (TooManyLines line))
+    cond-IfOk IsReading (nat_lt (length r.items) MAX_ITEMS) (Ok _) (Err (TooManyLines line))
     (λ few. new_item line r act h is (grind (arith, nat_tests))) tt
 
 -- ---- after_line and after_lines

@@ -12,7 +12,7 @@ use Rattle.decision_script.specs.Printing.{canonical_text, item_lines, line_text
 use Rattle.decision_script.specs.Reading.{ReaderView, after_lines, new_reader, script, script_of}
 use Rattle.sim_base.specs.Chain.{◌>>=◌}
 use Rattle.decision_script.specs.Stating.{IsItem, IsName, IsScript, ScriptView}
-use Rattle.sim_base.specs.declared.limits.TheConstants.{MOST_FILE_BYTES}
+use Rattle.sim_base.specs.declared.limits.TheConstants.{MAX_FILE_BYTES}
 use Rattle.decision_script.proofs.ItemsReadAgain.{text_read}
 use Rattle.decision_script.proofs.Lengths.{items_length, sections_length}
 use Rattle.decision_script.proofs.Names.{are_known, are_new}
@@ -21,10 +21,10 @@ use Rattle.decision_script.proofs.TextParts.{text_in_parts}
 -- ---- script
 
 -- a text that is not too long has the script of its lines
-pub read_of_text : (text : List ℕ) (t : ReaderView) → length text ≤ MOST_FILE_BYTES
+pub read_of_text : (text : List ℕ) (t : ReaderView) → length text ≤ MAX_FILE_BYTES
     → after_lines 1 new_reader (lines text) ≡ Ok t → script text ≡ Ok (script_of t)
 read_of_text text t short read =
-    let fits : nat_lt MOST_FILE_BYTES (length text) ≡ false = grind (arith, nat_tests) in
+    let fits : nat_lt MAX_FILE_BYTES (length text) ≡ false = grind (arith, nat_tests) in
     ap (λ b. cond b (Err TooLong) (after_lines 1 new_reader (lines text) >>= λ r. Ok (script_of r))) fits
     ∙ ap (λ x. x >>= λ r. Ok (script_of r)) read
 
@@ -41,7 +41,7 @@ ReadAgain-main more items h =
     let valid = recursion_from_All (IsItem (length (codes "main" ∷ more))) items h.valid in
     let headers = flat_map line_text (map words_of_section more) in
     let lines_of_items = flat_map line_text (item_lines (codes "main" ∷ more) (length (codes "main" ∷ more)) items) in
-    let short : length (headers ++ lines_of_items) ≤ MOST_FILE_BYTES =
+    let short : length (headers ++ lines_of_items) ≤ MAX_FILE_BYTES =
     omega (
       arith,
       h.few_analysts,
@@ -54,7 +54,7 @@ ReadAgain-main more items h =
     record {
       again = script_of t;
       read = read_of_text (canonical_text s) t
-          (subst (λ text. length text ≤ MOST_FILE_BYTES) (text_in_parts s) short) read;
+          (subst (λ text. length text ≤ MAX_FILE_BYTES) (text_in_parts s) short) read;
       analysts = analysts;
       items = same;
     }

@@ -5,7 +5,7 @@ use Rattle.std.proofs.lemmas.Bool.{and_parts}
 use Rattle.std.proofs.lemmas.Bool.Decides.{nat_tests}
 use Rattle.sim_base.specs.Names.{is_lower, is_name_byte}
 use Rattle.sim_base.specs.Params.{words_of_change}
-use Rattle.sim_base.specs.declared.name.TheConstants.{LONGEST_NAME}
+use Rattle.sim_base.specs.declared.name.TheConstants.{MAX_NAME_LEN}
 use Rattle.sim_base.specs.declared.decision.Decision.TheVariants.{Fork, Set, End}
 use Rattle.sim_base.specs.declared.message.Param.{Param}
 use Rattle.sim_base.specs.declared.message.Param.TheVariants.{Every, Service, Hold, Servers, Room, Weight}
@@ -78,7 +78,7 @@ name_byte_is_letter b h = grind (arith, nat_tests)
 name_is_word : (name : List ℕ) → IsName name → IsWord name
 name_is_word [] h = absurd (cc)
 name_is_word (b ∷ bs) h =
-    let (named, short) = and_parts (is_lower b && list_all is_name_byte bs) (nat_lt (length bs) LONGEST_NAME) h in
+    let (named, short) = and_parts (is_lower b && list_all is_name_byte bs) (nat_lt (length bs) MAX_NAME_LEN) h in
     let (lower, rest) = and_parts (is_lower b) (list_all is_name_byte bs) named in
     let letter : is_letter b ≡ true = grind (arith, nat_tests) in
     record {

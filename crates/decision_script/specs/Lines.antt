@@ -5,8 +5,8 @@ use Rattle.std.specs.List.{slice_split, list_all}
 use Rattle.std.specs.Str.Lines.{strip_carriage_return}
 use Rattle.std.specs.Str.Parse.{digits_value}
 use Rattle.sim_base.specs.Names.{is_digit, is_leading}
-use Rattle.sim_base.specs.declared.number.TheConstants.{MOST_DIGITS}
-use Rattle.decision_script.specs.declared.number.TheConstants.{MOST_NUMBER}
+use Rattle.sim_base.specs.declared.number.TheConstants.{MAX_DIGITS}
+use Rattle.decision_script.specs.declared.number.TheConstants.{MAX_NUMBER}
 
 -- a line feed
 abbrev pub is_newline : ℕ → Bool
@@ -39,8 +39,8 @@ has_number_form [] = false
 has_number_form (d ∷ []) = is_digit d
 has_number_form (d ∷ e ∷ ds) = is_leading d && list_all is_digit (e ∷ ds)
 
--- the number of one to ten digits without a leading zero, at most MOST_NUMBER
+-- the number of one to ten digits without a leading zero, at most MAX_NUMBER
 abbrev pub number : List ℕ → Option ℕ
 number word =
-    if (has_number_form word && nat_le (length word) MOST_DIGITS) && nat_le (digits_value 10 word) MOST_NUMBER
+    if (has_number_form word && nat_le (length word) MAX_DIGITS) && nat_le (digits_value 10 word) MAX_NUMBER
     then Some (digits_value 10 word) else None

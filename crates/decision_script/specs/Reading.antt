@@ -2,7 +2,7 @@
 use Rattle.std.specs.Prelude.{ℕ, ◌+◌, nat_lt, codes, if◌then◌else◌, List, [], ◌∷◌, ◌++◌}
 use Rattle.std.specs.Prelude.{length, position, Option, Some, None, Result, Ok, Err}
 use Rattle.std.specs.Str.{bytes_eq}
-use Rattle.sim_base.specs.declared.limits.TheConstants.{MOST_FILE_BYTES}
+use Rattle.sim_base.specs.declared.limits.TheConstants.{MAX_FILE_BYTES}
 use Rattle.decision_script.specs.declared.item.Act.{Act}
 use Rattle.decision_script.specs.declared.item.Item.{Item}
 use Rattle.decision_script.specs.declared.line.Meaning.{Meaning}
@@ -12,7 +12,7 @@ use Rattle.decision_script.specs.declared.fault.LineFault.TheVariants as broken
 use Rattle.decision_script.specs.declared.fault.ScriptFault.{ScriptFault}
 use Rattle.decision_script.specs.declared.fault.ScriptFault.TheVariants.{TooLong, NotAscii, BadLine, BadNumber}
 use Rattle.decision_script.specs.declared.fault.ScriptFault.TheVariants.{TooManyLines, TooManyAnalysts, NoMemory}
-use Rattle.decision_script.specs.declared.script.TheConstants.{MOST_ANALYSTS, MOST_ITEMS}
+use Rattle.decision_script.specs.declared.script.TheConstants.{MAX_ANALYSTS, MAX_ITEMS}
 use Rattle.decision_script.specs.Lines.{lines}
 use Rattle.sim_base.specs.Chain.{◌>>=◌}
 use Rattle.decision_script.specs.Sentences.{line_saying}
@@ -44,13 +44,13 @@ analyst_place name analysts = position (λ other. bytes_eq other name) analysts
 -- many
 abbrev pub in_section : ℕ → ReaderView → List ℕ → Option ℕ → Result ReaderView ScriptFault
 in_section line r name (Some i) = Ok (record r { current = i + 1 })
-in_section line r name None = if nat_lt (length r.analysts) MOST_ANALYSTS
+in_section line r name None = if nat_lt (length r.analysts) MAX_ANALYSTS
     then Ok (record { analysts = r.analysts ++ name ∷ []; current = length r.analysts + 1; items = r.items })
     else Err (TooManyAnalysts line)
 
 -- a decision or look is an item of the current analyst, unless there are too many
 abbrev pub with_act : ℕ → ReaderView → Act → Result ReaderView ScriptFault
-with_act line r act = if nat_lt (length r.items) MOST_ITEMS
+with_act line r act = if nat_lt (length r.items) MAX_ITEMS
     then Ok (record r { items = r.items ++ (record { line = line; analyst = r.current; act = act }) ∷ [] })
     else Err (TooManyLines line)
 
@@ -79,5 +79,5 @@ script_of r = record { analysts = r.analysts; items = r.items }
 
 -- the script of a text, or the first rule that it breaks
 abbrev pub script : List ℕ → Result ScriptView ScriptFault
-script text = if nat_lt MOST_FILE_BYTES (length text) then Err TooLong
+script text = if nat_lt MAX_FILE_BYTES (length text) then Err TooLong
     else (after_lines 1 new_reader (lines text) >>= λ r. Ok (script_of r))

@@ -10,8 +10,8 @@ use Rattle.sim_base.specs.Params.{param_values}
 use Rattle.decision_script.specs.declared.item.Act.{Act}
 use Rattle.decision_script.specs.declared.item.Act.TheVariants.{Decide, Look}
 use Rattle.decision_script.specs.declared.item.Item.{Item}
-use Rattle.decision_script.specs.declared.number.TheConstants.{MOST_NUMBER}
-use Rattle.decision_script.specs.declared.script.TheConstants.{MOST_ANALYSTS, MOST_ITEMS}
+use Rattle.decision_script.specs.declared.number.TheConstants.{MAX_NUMBER}
+use Rattle.decision_script.specs.declared.script.TheConstants.{MAX_ANALYSTS, MAX_ITEMS}
 
 -- the names of the analysts in order, and the items in order
 pub record ScriptView : Type 0 where
@@ -28,7 +28,7 @@ IsName name = is_name name ≡ true
 
 -- a number fits 32 bits
 abbrev pub Fits32 : ℕ → Type 0
-Fits32 n = n ≤ MOST_NUMBER
+Fits32 n = n ≤ MAX_NUMBER
 
 -- values of a parameter that fit 32 bits; the second value of a parameter with one is 0
 abbrev pub IsChange : Param → ℕ → ℕ → Type 0
@@ -61,6 +61,6 @@ pub record IsScript (s : ScriptView) : Type 0 where
   pub first : slice_get s.analysts 0 ≡ Some (codes "main")
   pub named : All IsName s.analysts
   pub distinct : AreDistinct s.analysts
-  pub few_analysts : length s.analysts ≤ MOST_ANALYSTS
-  pub few_items : length s.items ≤ MOST_ITEMS
+  pub few_analysts : length s.analysts ≤ MAX_ANALYSTS
+  pub few_items : length s.items ≤ MAX_ITEMS
   pub valid : All (IsItem (length s.analysts)) s.items

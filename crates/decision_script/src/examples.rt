@@ -3,7 +3,7 @@
 //!
 //! The texts are in `specs/Examples.antt`. Each function's contract is a theorem; there is nothing to run.
 ghost use Rattle.std.specs.Prelude.{◌≡◌, ◌++◌, ◌∷◌, [], Ok, Err, codes};
-ghost use Rattle.sim_base.specs.declared.number.TheConstants.{MOST_DIGITS};
+ghost use Rattle.sim_base.specs.declared.number.TheConstants.{MAX_DIGITS};
 ghost use Rattle.decision_script.specs.Alone.{alone_of};
 ghost use Rattle.decision_script.specs.Examples.{b_alone_text, clone_of_clone, clone_of_clone_alone_text};
 ghost use Rattle.decision_script.specs.Examples.{clone_of_clone_text, late_end, loose, loose_text};
@@ -11,16 +11,16 @@ ghost use Rattle.decision_script.specs.Examples.{sections, two_clones, two_clone
 ghost use Rattle.decision_script.specs.Examples.{two_planners, two_planners_canonical, two_planners_text};
 ghost use Rattle.decision_script.specs.Printing.{canonical_text};
 ghost use Rattle.decision_script.specs.Reading.{script};
-ghost use Rattle.decision_script.specs.declared.number.TheConstants.{MOST_NUMBER};
-ghost use Rattle.decision_script.specs.declared.script.TheConstants.{MOST_ITEMS};
+ghost use Rattle.decision_script.specs.declared.number.TheConstants.{MAX_NUMBER};
+ghost use Rattle.decision_script.specs.declared.script.TheConstants.{MAX_ITEMS};
 
 use crate::fault::ScriptFault;
 
 /// The limits of a script and of its numbers, in numbers.
 pub fn limits_in_numbers()
-    ensures items { MOST_ITEMS ≡ 4096 }
-    ensures digits { MOST_DIGITS ≡ 10 }
-    ensures number { MOST_NUMBER ≡ 4294967295 }
+    ensures items { MAX_ITEMS ≡ 4096 }
+    ensures digits { MAX_DIGITS ≡ 10 }
+    ensures number { MAX_NUMBER ≡ 4294967295 }
 {}
 
 /// Texts and their scripts.

@@ -8,7 +8,7 @@ use std::alloc::{AllocError, AllocFailed};
 /// The first rule that a text breaks, or out of memory. `line` is the number of the first faulty line, from 1.
 #[derive(Clone, Copy, Debug, PartialEq, Eq)]
 pub enum ScriptFault {
-    /// More bytes than [`MOST_FILE_BYTES`](sim_base::MOST_FILE_BYTES).
+    /// More bytes than [`MAX_FILE_BYTES`](sim_base::MAX_FILE_BYTES).
     TooLong,
     /// A byte of 128 or more, also in a comment.
     NotAscii { line: u32 },
@@ -16,9 +16,9 @@ pub enum ScriptFault {
     BadLine { line: u32 },
     /// The line has a known form, but no 32-bit number in the place of a number.
     BadNumber { line: u32 },
-    /// A decision or look after [`MOST_ITEMS`](crate::MOST_ITEMS) others.
+    /// A decision or look after [`MAX_ITEMS`](crate::MAX_ITEMS) others.
     TooManyLines { line: u32 },
-    /// A section of one more analyst than [`MOST_ANALYSTS`](crate::MOST_ANALYSTS).
+    /// A section of one more analyst than [`MAX_ANALYSTS`](crate::MAX_ANALYSTS).
     TooManyAnalysts { line: u32 },
     /// Out of memory.
     NoMemory,

@@ -22,7 +22,7 @@
 //! ```
 //!
 //! Reading, printing and `alone` are each one walk over the text or the items. An item takes about 100 bytes, and a
-//! script has at most `MOST_ITEMS`.
+//! script has at most `MAX_ITEMS`.
 //!
 //! The definitions in `specs/` are the grammar, and `read_script` follows them. It returns the script of the text, or
 //! the first faulty line with its first fault. Two promises rest on this. The canonical text of every script is read as
@@ -46,4 +46,4 @@ pub use item::{Act, Item};
 pub use one_clone::alone;
 pub use print::{print_script, push_decision};
 pub use read::read_script;
-pub use script::{MOST_ANALYSTS, MOST_ITEMS, Script};
+pub use script::{MAX_ANALYSTS, MAX_ITEMS, Script};

@@ -1,13 +1,13 @@
-//! The numbers of a script: one to ten digits without a leading zero, at most `MOST_NUMBER`.
+//! The numbers of a script: one to ten digits without a leading zero, at most `MAX_NUMBER`.
 ghost use Rattle.std.specs.Prelude.{◌≡◌};
 ghost use Rattle.decision_script.specs.Lines.{has_number_form};
 ghost use Rattle.decision_script.specs.Sentences.{word_number};
 
 use crate::fault::LineFault;
-use sim_base::number::{MOST_DIGITS, are_digits, is_digit_byte, may_lead, value};
+use sim_base::number::{MAX_DIGITS, are_digits, is_digit_byte, may_lead, value};
 
 /// The greatest number of a script: the greatest 32-bit number.
-pub const MOST_NUMBER: u64 = 4_294_967_295;
+pub const MAX_NUMBER: u64 = 4_294_967_295;
 
 fn may_be_number(word: &[u8]) -> bool
     ensures value { result ≡ has_number_form word.now }
@@ -23,11 +23,11 @@ fn may_be_number(word: &[u8]) -> bool
 pub fn read_number(word: &[u8]) -> Result<u64, LineFault>
     ensures value { result ≡ word_number word.now }
 {
-    if !may_be_number(word) || word.len() > MOST_DIGITS {
+    if !may_be_number(word) || word.len() > MAX_DIGITS {
         return Err(LineFault::BadNumber);
     }
     let number = value(word);
-    if number > MOST_NUMBER {
+    if number > MAX_NUMBER {
         return Err(LineFault::BadNumber);
     }
     Ok(number)

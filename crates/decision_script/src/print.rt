@@ -5,7 +5,7 @@ ghost use Rattle.sim_base.specs.Params.{words_of_change};
 ghost use Rattle.decision_script.specs.Printing.{canonical_text, item_lines, line_text, section_before};
 ghost use Rattle.decision_script.specs.Printing.{words_of_act, words_of_decision, words_of_section};
 ghost use Rattle.decision_script.specs.Stating.{IsAnalyst};
-ghost use Rattle.decision_script.specs.declared.script.TheConstants.{MOST_ANALYSTS};
+ghost use Rattle.decision_script.specs.declared.script.TheConstants.{MAX_ANALYSTS};
 
 use crate::item::{Act, Item};
 use crate::script::Script;
@@ -173,7 +173,7 @@ fn push_section_before(
 }
 
 fn push_items(out: &mut Vec<u8>, analysts: &[Name], items: &[Item]) -> Result<(), NoMemory>
-    requires few { length analysts.now ≤ MOST_ANALYSTS }
+    requires few { length analysts.now ≤ MAX_ANALYSTS }
     requires there { All (λ i. IsAnalyst (length analysts.now) i.analyst) items.now }
     ensures value { OnOk result (out.new.items ≡ out.old.items
         ++ flat_map line_text (item_lines analysts.now (length analysts.now) items.now)) }

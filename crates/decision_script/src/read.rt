@@ -1,15 +1,15 @@
 //! Reads a script.
 ghost use Rattle.std.specs.Prelude.{◌≡◌, ◌≢◌, ◌≤◌, length, codes, Ok, Err, IfOk, IfErr};
 ghost use Rattle.std.specs.Str.Lines.{strip_carriage_return};
-ghost use Rattle.sim_base.specs.declared.limits.TheConstants.{MOST_FILE_BYTES};
+ghost use Rattle.sim_base.specs.declared.limits.TheConstants.{MAX_FILE_BYTES};
 ghost use Rattle.decision_script.specs.Lines.{is_newline, lines};
 ghost use Rattle.decision_script.specs.Reading.{after_lines, fault_at, script, new_reader};
 
 use crate::fault::{LineFault, ScriptFault};
 use crate::item::{Act, Item, push_item};
 use crate::line::{Meaning, saying_of_line};
-use crate::script::{MOST_ANALYSTS, MOST_ITEMS, Script};
-use sim_base::{MOST_FILE_BYTES, Name};
+use crate::script::{MAX_ANALYSTS, MAX_ITEMS, Script};
+use sim_base::{MAX_FILE_BYTES, Name};
 use std::alloc::Global;
 use std::marker::Model;
 
@@ -25,13 +25,13 @@ struct Reader {
 impl Model for Reader {
     ghost use Rattle.std.specs.Prelude.{◌≤◌, length};
     ghost use Rattle.decision_script.specs.Reading.{ReaderView};
-    ghost use Rattle.decision_script.specs.declared.script.TheConstants.{MOST_ANALYSTS};
+    ghost use Rattle.decision_script.specs.declared.script.TheConstants.{MAX_ANALYSTS};
 
     ghost Value = { ReaderView };
 
     ghost view = { λ r. record { analysts = r.analysts.items; current = r.current; items = r.items.items } };
 
-    ghost invariant = { λ r. length r.analysts.items ≤ MOST_ANALYSTS };
+    ghost invariant = { λ r. length r.analysts.items ≤ MAX_ANALYSTS };
 }
 
 impl Reader {
@@ -64,7 +64,7 @@ impl Reader {
                 Ok(())
             }
             None => {
-                if self.analysts.len() >= MOST_ANALYSTS {
+                if self.analysts.len() >= MAX_ANALYSTS {
                     return Err(ScriptFault::TooManyAnalysts { line });
                 }
                 self.analysts.push(name)?;
@@ -78,7 +78,7 @@ impl Reader {
         ensures ok { OnOk result (with_act line self.old act ≡ Ok self.new) }
         ensures refused { IfErr result (λ e. e ≢ ScriptFault.NoMemory → with_act line self.old act ≡ Err e) }
     {
-        if self.items.len() >= MOST_ITEMS {
+        if self.items.len() >= MAX_ITEMS {
             return Err(ScriptFault::TooManyLines { line });
         }
         let item = Item {
@@ -161,7 +161,7 @@ pub fn ends_line(byte: u8) -> bool
 }
 
 fn read_lines(alloc: Global, text: &[u8]) -> Result<Reader, ScriptFault>
-    requires short { length text.now ≤ MOST_FILE_BYTES }
+    requires short { length text.now ≤ MAX_FILE_BYTES }
     ensures ok { IfOk result (λ r. after_lines 1 new_reader (lines text.now) ≡ Ok r) }
     ensures refused { IfErr result (λ e. e ≢ ScriptFault.NoMemory → after_lines 1 new_reader (lines text.now) ≡ Err e) }
 {
@@ -184,7 +184,7 @@ pub fn read_script(alloc: Global, text: &[u8]) -> Result<Script, ScriptFault>
     // or the first rule that it breaks; out of memory may come for every text
     ensures refused { IfErr result (λ e. e ≢ ScriptFault.NoMemory → script text.now ≡ Err e) }
 {
-    if text.len() > MOST_FILE_BYTES {
+    if text.len() > MAX_FILE_BYTES {
         return Err(ScriptFault::TooLong);
     }
     match read_lines(alloc, text) {

@@ -9,9 +9,9 @@ use sim_base::Name;
 use std::marker::Model;
 
 /// The most analysts of a script, `main` included.
-pub const MOST_ANALYSTS: usize = sim_base::limits::MOST_ANALYSTS as usize;
+pub const MAX_ANALYSTS: usize = sim_base::limits::MAX_ANALYSTS as usize;
 /// The most decisions and looks of a script.
-pub const MOST_ITEMS: usize = 4_096;
+pub const MAX_ITEMS: usize = 4_096;
 
 /// A script: the analysts and their items in order, of a text or a part of it.
 #[derive(Drop)]

@@ -16,5 +16,5 @@
 
 pub use crate::fault::LineFault;
 pub use crate::line::{is_ascii_line, is_comment, read_change, read_name, read_param, words_of};
-pub use crate::number::{MOST_NUMBER, read_number};
+pub use crate::number::{MAX_NUMBER, read_number};
 pub use crate::read::{ends_line, without_return};

@@ -1,13 +1,13 @@
 //! Messages delivered by hand to a desk, for two clones and for many.
 ghost use Rattle.std.specs.Prelude.{◌≡◌, ◌≤◌, ◌<◌, length, IfSome};
-ghost use Rattle.sim_base.specs.declared.lists.TheConstants.{MOST_CLONES};
+ghost use Rattle.sim_base.specs.declared.lists.TheConstants.{MAX_CLONES};
 ghost use Rattle.phys_proc.specs.Procs.{IsProc};
 
 use clone_sets::CloneSet;
 use net_model::{Model, read_model};
 use phys_proc::{CloneEnds, Gain, Proc};
 use sample_models::ONE_DESK;
-use sim_base::{Change, Job, Key, MOST_CLONES, Msg, Param, Payload, Steps};
+use sim_base::{Change, Job, Key, MAX_CLONES, Msg, Param, Payload, Steps};
 use std::alloc::Global;
 use std::marker::Brand;
 use std::sync::ledger::{Blank, Ledger};
@@ -50,7 +50,7 @@ fn both() -> CloneSet {
 
 /// The clones from `first` to the one before `end`.
 fn clones_from(first: u32, end: u32) -> CloneSet
-    requires end { end ≤ MOST_CLONES }
+    requires end { end ≤ MAX_CLONES }
 {
     let mut all = CloneSet::empty();
     for c in first..end {
@@ -62,7 +62,7 @@ fn clones_from(first: u32, end: u32) -> CloneSet
 /// The desk for this number of identical clones.
 fn clones_alike(alloc: Global, model: &Model, clones: u32) -> Option<Proc>
     requires desk { 2 ≤ length model.now.sites }
-    requires clones { clones ≤ MOST_CLONES }
+    requires clones { clones ≤ MAX_CLONES }
     ensures proc { IfSome result (λ p. IsProc model.now p) }
 {
     let mut proc = Proc::new(alloc, model, DESK).ok()?;
@@ -94,7 +94,7 @@ fn deliver_all(proc: Proc, model: &Model, msgs: &[(Msg, CloneSet)]) -> Option<Pr
 
 /// The desk for this number of clones, with these further messages.
 fn open_desk(alloc: Global, model: &Model, clones: u32, msgs: &[(Msg, CloneSet)]) -> Option<Proc>
-    requires clones { clones ≤ MOST_CLONES }
+    requires clones { clones ≤ MAX_CLONES }
     ensures proc { IfSome result (λ p. IsProc model.now p) }
 {
     if model.len() < DESK {
@@ -160,7 +160,7 @@ fn step_desk(
     msgs: &[(Msg, CloneSet)],
     ends: &CloneEnds,
 ) -> Option<Flow>
-    requires clones { clones ≤ MOST_CLONES }
+    requires clones { clones ≤ MAX_CLONES }
 {
     let model = read_model(alloc, text.as_bytes()).ok()?;
     let proc = open_desk(alloc, &model, clones, msgs)?;
@@ -169,7 +169,7 @@ fn step_desk(
 
 /// The ends of clones if only this one has an end.
 fn end_of(alloc: Global, clone: u32, at: u64) -> Option<CloneEnds>
-    requires clone { clone < MOST_CLONES }
+    requires clone { clone < MAX_CLONES }
 {
     let mut ends = CloneEnds::none(alloc);
     ends.end(clone, at).ok()?;
@@ -178,7 +178,7 @@ fn end_of(alloc: Global, clone: u32, at: u64) -> Option<CloneEnds>
 
 /// The result if no clone has an end.
 fn step_desk_to_end(alloc: Global, clones: u32, msgs: &[(Msg, CloneSet)]) -> Option<Flow>
-    requires clones { clones ≤ MOST_CLONES }
+    requires clones { clones ≤ MAX_CLONES }
 {
     let ends = CloneEnds::none(alloc);
     step_desk(alloc, ONE_DESK, clones, msgs, &ends)
@@ -191,7 +191,7 @@ type Share = (u32, u64, u32);
 fn has_log(proc: &Proc, share: Share) -> bool {
     let (clone, len, clones) = share;
     for copy in proc.copies() {
-        if clone < MOST_CLONES && copy.set().has(clone) {
+        if clone < MAX_CLONES && copy.set().has(clone) {
             return copy.log().len() == len && copy.set().len() == clones;
         }
     }

@@ -1,6 +1,6 @@
 //! Tests of the crew: calls that find memory, tasks that members steal, and calls that end although no member helps.
 ghost use Rattle.std.specs.Prelude.{◌≡◌, ◌+◌, ◌<◌, ◌≤◌, length, IfOk};
-ghost use Rattle.crew_pool.specs.declared.crew.TheConstants.{MOST_TASKS};
+ghost use Rattle.crew_pool.specs.declared.crew.TheConstants.{MAX_TASKS};
 
 use crew_pool::{Bell, Crew, Forked, Gate, Member, Work, Workers, serve_all};
 use sim_base::{NoMemory, Steps};
@@ -166,7 +166,7 @@ fn call<L: Ledger, R: Wait>(
     tasks: u32,
     steps: &mut Steps<L>,
 ) -> Result<Vec<u64>, NoMemory>
-    requires few { tasks ≤ MOST_TASKS }
+    requires few { tasks ≤ MAX_TASKS }
     ensures steps { IfOk result (λ _. steps.new ≡ steps.old + tasks) }
 {
     let items = items(alloc, tasks)?;
@@ -184,7 +184,7 @@ fn call_forked<L: Ledger, R: Threads + Wait + Sync>(
     tasks: u32,
     steps: &mut Steps<L>,
 ) -> Result<Vec<u64>, NoMemory>
-    requires few { tasks ≤ MOST_TASKS }
+    requires few { tasks ≤ MAX_TASKS }
     ensures steps { IfOk result (λ _. steps.new ≡ steps.old + tasks) }
 {
     let items = items(alloc, tasks)?;
@@ -211,7 +211,7 @@ fn have_answers<L: Ledger, R: Threads + Wait + Sync>(
     tasks: u32,
     steps: &mut Steps<L>,
 ) -> bool
-    requires few { tasks ≤ MOST_TASKS }
+    requires few { tasks ≤ MAX_TASKS }
 {
     let gate = crew.gate();
     let Ok(outs) = call(rt, alloc, crew, None, tasks, steps) else {

@@ -6,7 +6,7 @@ ghost use Rattle.stations.specs.Runs.{simulation};
 ghost use Rattle.decision_desk.specs.Desks.{desk_id};
 ghost use Rattle.decision_desk.specs.Leasts.{leasts_of};
 ghost use Rattle.decision_desk.specs.Passes.{new_passes, new_helm};
-ghost use Rattle.decision_desk.specs.declared.desk.TheConstants.{MOST_PASSES};
+ghost use Rattle.decision_desk.specs.declared.desk.TheConstants.{MAX_PASSES};
 ghost use Rattle.live_study.specs.Driving.{MayTurn};
 ghost use Rattle.live_study.specs.Engines.{InStep, IsAhead};
 
@@ -72,7 +72,7 @@ fn begin_desk(
     analysts: u32,
 ) -> Result<(Desk, Vec<Pass>, Helm, Option<u64>), NoMemory>
     requires some { 1 ≤ analysts }
-    requires few { analysts ≤ MOST_PASSES }
+    requires few { analysts ≤ MAX_PASSES }
     ensures passes { IfOk result (λ r. r.1.items ≡ new_passes (desk_id r.0) r.2.net analysts) }
     ensures helm { IfOk result (λ r. r.2 ≡ new_helm (desk_id r.0) r.2.net analysts) }
     ensures least { IfOk result (λ r. r.3 ≡ least_of (simulation r.2.net) base 0) }
@@ -298,7 +298,7 @@ fn begin_world_with_desk(
     analysts: u32,
 ) -> Result<(Desk, Vec<Pass>, Helm, World), NoMemory>
     requires some { 1 ≤ analysts }
-    requires few { analysts ≤ MOST_PASSES }
+    requires few { analysts ≤ MAX_PASSES }
     ensures passes { IfOk result (λ r. r.1.items ≡ new_passes (desk_id r.0) r.2.net analysts) }
     ensures desk { IfOk result (λ r. r.2.desk ≡ desk_id r.0) }
     ensures in_step { IfOk result (λ r. InStep r.2 r.3) }

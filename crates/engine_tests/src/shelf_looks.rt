@@ -1,6 +1,6 @@
 //! A seat that learns of the racks of two stations at front 10.
 ghost use Rattle.std.specs.Prelude.{◌≡◌, ◌≤◌, length, IfOk};
-ghost use Rattle.net_model.specs.declared.limits.TheConstants.{MOST_STATIONS};
+ghost use Rattle.net_model.specs.declared.limits.TheConstants.{MAX_STATIONS};
 ghost use Rattle.shelf.specs.Racks.{HasRack, MayOpen};
 ghost use Rattle.engine_tests.specs.Seen.{AreTwoAt, IsRackAt};
 
@@ -45,7 +45,7 @@ fn two_racks(alloc: Global, world: &mut World) -> Result<(Rack, Rack), NoMemory>
 fn opening_two(alloc: Global) -> Result<(World, Vec<Rack>), NoMemory>
     ensures two { IfOk result (λ p. AreTwoAt p.0.net p.0.front p.1.items) }
     ensures opening { IfOk result (λ p. MayOpen p.1.items) }
-    ensures few { IfOk result (λ p. length p.1.items ≤ MOST_STATIONS) }
+    ensures few { IfOk result (λ p. length p.1.items ≤ MAX_STATIONS) }
     ensures gate { IfOk result (λ p. HasRack 1 p.1.items) }
     ensures desk { IfOk result (λ p. HasRack 2 p.1.items) }
 {

@@ -1,6 +1,6 @@
 //! Tests of a run that publishes the gate's rack after each window, with concurrent readers.
 ghost use Rattle.std.specs.Prelude.{◌≡◌, ◌<◌, ◌≤◌, length, false, All, IfOk, IfSome};
-ghost use Rattle.net_model.specs.declared.limits.TheConstants.{MOST_STATIONS};
+ghost use Rattle.net_model.specs.declared.limits.TheConstants.{MAX_STATIONS};
 ghost use Rattle.shelf.specs.Racks.{HasRack, MayOpen};
 ghost use Rattle.engine_tests.specs.Seen.{AreSeenUpTo};
 
@@ -37,7 +37,7 @@ const HORIZON: u64 = 10010;
 const GATE: u32 = 1;
 
 /// The maximum number of looks of a reader that waits for the end of the run.
-const MOST_LOOKS: u32 = 2_000_000;
+const MAX_LOOKS: u32 = 2_000_000;
 
 /// A world before anything is handled.
 fn first(alloc: Global) -> Result<World, NoMemory>
@@ -56,7 +56,7 @@ fn first(alloc: Global) -> Result<World, NoMemory>
 /// The same world, and the gate's rack.
 fn opening(alloc: Global) -> Result<(World, Vec<Rack>), NoMemory>
     ensures opening { IfOk result (λ p. MayOpen p.1.items) }
-    ensures few { IfOk result (λ p. length p.1.items ≤ MOST_STATIONS) }
+    ensures few { IfOk result (λ p. length p.1.items ≤ MAX_STATIONS) }
     ensures seen { IfOk result (λ p. AreSeenUpTo p.0.net p.0.front p.1.items) }
     ensures there { IfOk result (λ p. HasRack 1 p.1.items) }
 {
@@ -197,7 +197,7 @@ fn look_often<J: Naming>(seat: Seat<J>, who: &Name) -> Reader<J>
     let mut seat = seat;
     let mut rises = true;
     let mut last = 0;
-    for _ in 0..MOST_LOOKS {
+    for _ in 0..MAX_LOOKS {
         let front = look_once(&mut seat, who);
         rises = rises && last <= front;
         last = front;

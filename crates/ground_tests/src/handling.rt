@@ -8,7 +8,7 @@ mod saving;
 
 use arrayvec::ArrayVec;
 use models::FIVE_KINDS;
-use net_model::limits::MOST_LIMIT;
+use net_model::limits::MAX_LIMIT;
 use net_model::{Model, read_model};
 use rows::{
     Row, at_the_copy, at_the_original, at_the_original_afterwards, before_the_copy, delay_rows,
@@ -46,7 +46,7 @@ fn answers_row<L: Ledger>(
     requires own { IsStateOf model.now station state.old }
     ensures own { IsStateOf model.now station state.new }
 {
-    if state.handled() >= MOST_LIMIT || row.time >= 1 << 31 {
+    if state.handled() >= MAX_LIMIT || row.time >= 1 << 31 {
         return false;
     }
     let key = Key {

@@ -1,6 +1,6 @@
 //! Tests of decision lists that diverge after a fork.
 
-use sim_base::{Change, Lists, MOST_CLONES, Name, Param, Planned};
+use sim_base::{Change, Lists, MAX_CLONES, Name, Param, Planned};
 use std::alloc::Global;
 use std::process::Abort;
 use std::test::Fail;
@@ -40,7 +40,7 @@ fn end(lists: &mut Lists, c: u32, at: u64) -> bool {
 fn fork(lists: &mut Lists, alloc: Global, new: Name) -> bool {
     match lists.find(&new) {
         Some(_) => false,
-        None => lists.len() < MOST_CLONES && lists.fork(alloc, new, 0).is_ok(),
+        None => lists.len() < MAX_CLONES && lists.fork(alloc, new, 0).is_ok(),
     }
 }
 

@@ -1,6 +1,6 @@
 //! Tests of messages that are joined, and of what each receiver gets.
 ghost use Rattle.std.specs.Prelude.{◌<◌};
-ghost use Rattle.sim_base.specs.declared.lists.TheConstants.{MOST_CLONES};
+ghost use Rattle.sim_base.specs.declared.lists.TheConstants.{MAX_CLONES};
 
 use clone_sets::CloneSet;
 use msg_route::{Part, cut, group};
@@ -20,7 +20,7 @@ fn message(time: u64, to: u32) -> Msg {
 }
 
 fn pair(c: u32, d: u32) -> CloneSet
-    requires { (c < MOST_CLONES) × (d < MOST_CLONES) }
+    requires { (c < MAX_CLONES) × (d < MAX_CLONES) }
 {
     CloneSet::one(c).with(d)
 }

@@ -2,7 +2,7 @@
 
 use sim_base::NoMemory;
 use sim_outer::{
-    ErrSink, FetchFault, FileInputs, Inputs, MOST_FETCHED, MemInputs, MemSink, NullSink, OutSink,
+    ErrSink, FetchFault, FileInputs, Inputs, MAX_FETCHED, MemInputs, MemSink, NullSink, OutSink,
     PutFailed, Sink, Word,
 };
 use std::alloc::Global;
@@ -145,7 +145,7 @@ fn real_files_are_read(rt: HostRuntime) -> Result<(), Fail> {
 /// Whether exactly the first bytes of a long file are fetched.
 fn is_read_cut(rt: &HostRuntime, path: &PathBuf) -> bool {
     match FileInputs::new(rt).fetch(rt.alloc(), path.as_str()) {
-        Ok(bytes) => bytes.len() == MOST_FETCHED && begin_long_file(bytes.as_slice()),
+        Ok(bytes) => bytes.len() == MAX_FETCHED && begin_long_file(bytes.as_slice()),
         Err(_) => false,
     }
 }
@@ -156,7 +156,7 @@ fn a_long_file_is_cut(rt: HostRuntime) -> Result<(), Fail> {
     fs::write(
         &rt,
         &path,
-        long_file(rt.alloc(), MOST_FETCHED + 1)?.as_slice(),
+        long_file(rt.alloc(), MAX_FETCHED + 1)?.as_slice(),
     )?;
     assert!(rt; is_read_cut(&rt, &path));
     fs::remove_file(&rt, &path)?;

@@ -8,7 +8,7 @@ use Rattle.decision_script.specs.declared.fault.ScriptFault.{ScriptFault}
 use Rattle.decision_script.specs.declared.item.Act.{Act}
 use Rattle.decision_script.specs.declared.item.Act.TheVariants.{Decide}
 use Rattle.decision_script.specs.declared.item.Item.{Item}
-use Rattle.decision_script.specs.declared.script.TheConstants.{MOST_ANALYSTS, MOST_ITEMS}
+use Rattle.decision_script.specs.declared.script.TheConstants.{MAX_ANALYSTS, MAX_ITEMS}
 use Rattle.decision_script.specs.Stating.{IsAnalyst, IsDecision, IsName, analyst_name}
 use Rattle.decision_script.specs.Reading.{ReaderView, after_line, after_lines}
 use Rattle.decision_script.specs.Printing.{words_of_decision, words_of_section}
@@ -57,7 +57,7 @@ with_item line r act = record r { items = r.items ++ (record { line = line; anal
 
 -- after a decision
 ReadOn-decision : (analysts : List (List ℕ)) (line : ℕ) (r : ReaderView) (c : Call) (rest : List (List ℕ))
-    (calls : List Call) → IsDecision c.decision → length r.items < MOST_ITEMS
+    (calls : List Call) → IsDecision c.decision → length r.items < MAX_ITEMS
     → IsAnalyst (length r.analysts) r.current → analyst_name r.analysts r.current ≡ analyst_name analysts c.caller
     → ReadOn analysts (with_item line r (Decide c.decision))
     (after_lines (line + 1) (with_item line r (Decide c.decision)) rest) calls
@@ -87,8 +87,8 @@ pub record IsCallBy (analysts : List (List ℕ)) (c : Call) : Type 0 where
 
 -- the lines of events, up to the end of the text
 pub events_read : (analysts : List (List ℕ)) (line : ℕ) (r : ReaderView) (es : List Event)
-    → length analysts ≤ MOST_ANALYSTS → length r.analysts + missing r.analysts analysts ≤ length analysts
-    → AllByRecursion (IsCallBy analysts) (calls_of es) → length r.items + length (calls_of es) ≤ MOST_ITEMS
+    → length analysts ≤ MAX_ANALYSTS → length r.analysts + missing r.analysts analysts ≤ length analysts
+    → AllByRecursion (IsCallBy analysts) (calls_of es) → length r.items + length (calls_of es) ≤ MAX_ITEMS
     → ReadOn analysts r (after_lines line r (joined (said_lines analysts es))) (accepted_of (calls_of es))
 unfolding after_lines after_line
 events_read analysts line r [] most fits h few =

@@ -2,9 +2,9 @@
 use Rattle.std.proofs.Common.{◌≡◌, ℕ, ◌<◌, ◌≤◌, List, [], ◌∷◌, length}
 use Rattle.std.proofs.Common.{map, Ok, Some, codes, slice_get, sym, ap, ◌∙◌, subst, arith}
 use Rattle.std.specs.List.{AllByRecursion, flat_map}
-use Rattle.sim_base.specs.declared.limits.TheConstants.{MOST_FILE_BYTES}
+use Rattle.sim_base.specs.declared.limits.TheConstants.{MAX_FILE_BYTES}
 use Rattle.net_model.specs.Net.{Net}
-use Rattle.decision_script.specs.declared.script.TheConstants.{MOST_ANALYSTS}
+use Rattle.decision_script.specs.declared.script.TheConstants.{MAX_ANALYSTS}
 use Rattle.decision_script.specs.Stating.{Fits32, analyst_name}
 use Rattle.decision_script.specs.Printing.{line_text}
 use Rattle.decision_script.specs.Reading.{after_lines, new_reader, script, script_of}
@@ -49,7 +49,7 @@ writable analysts (NewCall c ∷ es) h small = ((h.0.named, h.0.decision, small.
 -- ---- IsScriptOf
 -- if main is the first analyst
 IsScriptOf-main : (net : Net) (more : List (List ℕ)) (es : List Event) → AreKnown (codes "main" ∷ more)
-    → length (codes "main" ∷ more) ≤ MOST_ANALYSTS → IsRight net es → 0 < net.horizon → Fits32 net.horizon
+    → length (codes "main" ∷ more) ≤ MAX_ANALYSTS → IsRight net es → 0 < net.horizon → Fits32 net.horizon
     → AllByRecursion (IsCallOf (length (codes "main" ∷ more))) (calls_of es) → IsScriptOf net (codes "main" ∷ more) es
 IsScriptOf-main net more es known most right some_time small h =
     let analysts = codes "main" ∷ more in
@@ -58,7 +58,7 @@ IsScriptOf-main net more es known most right some_time small h =
     let said = without_comments-events_text analysts es (writable analysts es by (small_fronts net es right small)) in
     let r = events_read analysts 1 new_reader es most (main_is_there (codes "main") more) by (omega (arith, few)) in
     let text = flat_map line_text (said_lines analysts es) in
-    let short : length text ≤ MOST_FILE_BYTES = omega (arith, few, said_length analysts es known by) in
+    let short : length text ≤ MAX_FILE_BYTES = omega (arith, few, said_length analysts es known by) in
     let read : script text ≡ Ok (script_of r.after) =
     read_of_text text r.after short
     (ap (after_lines 1 new_reader) (lines-text (said_lines analysts es) (said_words analysts es by)) ∙ r.read) in
@@ -78,12 +78,12 @@ IsScriptOf-main net more es known most right some_time small h =
 
 -- for any first analyst
 IsScriptOf-first : (net : Net) (analysts : List (List ℕ)) (es : List Event) → slice_get analysts 0 ≡ Some (codes "main")
-    → AreKnown analysts → length analysts ≤ MOST_ANALYSTS → IsRight net es → 0 < net.horizon → Fits32 net.horizon
+    → AreKnown analysts → length analysts ≤ MAX_ANALYSTS → IsRight net es → 0 < net.horizon → Fits32 net.horizon
     → AllByRecursion (IsCallOf (length analysts)) (calls_of es) → IsScriptOf net analysts es
 IsScriptOf-first net [] es first = absurd cc
 IsScriptOf-first net (a ∷ more) es first =
     let main : a ≡ codes "main" = cc in
-    subst (λ a. AreKnown (a ∷ more) → length (a ∷ more) ≤ MOST_ANALYSTS → IsRight net es → 0 < net.horizon
+    subst (λ a. AreKnown (a ∷ more) → length (a ∷ more) ≤ MAX_ANALYSTS → IsRight net es → 0 < net.horizon
     → Fits32 net.horizon → AllByRecursion (IsCallOf (length (a ∷ more))) (calls_of es) → IsScriptOf net (a ∷ more) es)
     (sym main) (IsScriptOf-main net more es)
 

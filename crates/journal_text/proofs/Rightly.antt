@@ -8,7 +8,7 @@ use Rattle.sim_base.specs.Clones.{place_of}
 use Rattle.sim_base.specs.Decisions.{subject}
 use Rattle.net_model.specs.Net.{Net}
 use Rattle.decision_script.specs.Stating.{Fits32}
-use Rattle.decision_book.specs.declared.call.TheConstants.{MOST_CALLS}
+use Rattle.decision_book.specs.declared.call.TheConstants.{MAX_CALLS}
 use Rattle.decision_book.specs.declared.call.Reply.{Reply}
 use Rattle.decision_book.specs.declared.call.Reply.TheVariants.{Full, Closed, Late}
 use Rattle.decision_book.specs.Journal.{Event, Situation, NewFront, NewCall, after, after_event, calls_of, outset}
@@ -21,7 +21,7 @@ use Rattle.journal_text.proofs.Lines.{HasSmallFront}
 
 -- ---- calls_of
 few_calls_from : (net : Net) (before es : List Event) → EachAfter (MayFollow net) before es
-    → length (calls_of before) ≤ MOST_CALLS → length (calls_of before) + length (calls_of es) ≤ MOST_CALLS
+    → length (calls_of before) ≤ MAX_CALLS → length (calls_of before) + length (calls_of es) ≤ MAX_CALLS
 few_calls_from net before [] right few = omega (arith, few)
 few_calls_from net before (NewFront f ∷ es) right few =
     let same = ap length (calls_of-push_front before f) in
@@ -29,15 +29,15 @@ few_calls_from net before (NewFront f ∷ es) right few =
 few_calls_from net before (NewCall c ∷ es) right few =
     let more = calls_of-push_length before c in
     let full = full_where_full net before c.decision c.reply right.0.answer in
-    let free : length (calls_of before) + 1 ≤ MOST_CALLS =
+    let free : length (calls_of before) + 1 ≤ MAX_CALLS =
     below (length (calls_of before)) (λ h. right.0.not_full (full.1 h)) in
     omega (arith, more, few_calls_from net (before ++ NewCall c ∷ []) es right.1 (omega (arith, more, free)))
   where
-    below : (n : ℕ) → (MOST_CALLS ≤ n → ⊥) → n + 1 ≤ MOST_CALLS
+    below : (n : ℕ) → (MAX_CALLS ≤ n → ⊥) → n + 1 ≤ MAX_CALLS
     below n h = grind (arith, h)
 
 -- a right journal has at most the maximum number of calls
-pub few_calls : (net : Net) (es : List Event) → IsRight net es → length (calls_of es) ≤ MOST_CALLS
+pub few_calls : (net : Net) (es : List Event) → IsRight net es → length (calls_of es) ≤ MAX_CALLS
 few_calls net es right = omega (arith, few_calls_from net [] es right (omega arith))
 
 -- ---- Late
@@ -64,9 +64,9 @@ late_rows front = record {
 -- a Late reply has the current front
 reply_late : (s : Situation) (d : Decision) → IsLateOf s.front (reply s d)
 reply_late s d =
-    first_row-each (IsLateOf s.front) (row (nat_le MOST_CALLS s.calls) Full ∷ row (s.front == s.net.horizon) Closed
+    first_row-each (IsLateOf s.front) (row (nat_le MAX_CALLS s.calls) Full ∷ row (s.front == s.net.horizon) Closed
     ∷ clone_rows s d (place_of (subject d) s.clones)) tt (
-      row-each (IsLateOf s.front) (nat_le MOST_CALLS s.calls) Full tt,
+      row-each (IsLateOf s.front) (nat_le MAX_CALLS s.calls) Full tt,
       (
         row-each (IsLateOf s.front) (s.front == s.net.horizon) Closed tt,
         clone_rows-each (IsLateOf s.front) s (late_rows s.front) d (place_of (subject d) s.clones),

@@ -13,7 +13,7 @@ use Rattle.std.proofs.lemmas.Option.{unwrap_or-slice_get}
 use Rattle.std.proofs.lemmas.Slice.Eq.{bytes_eq-Decides}
 use Rattle.sim_base.proofs.ListLaws.{none_passes}
 use Rattle.decision_script.specs.declared.fault.ScriptFault.{ScriptFault}
-use Rattle.decision_script.specs.declared.script.TheConstants.{MOST_ANALYSTS}
+use Rattle.decision_script.specs.declared.script.TheConstants.{MAX_ANALYSTS}
 use Rattle.decision_script.specs.Stating.{IsAnalyst, IsName, analyst_name}
 use Rattle.decision_script.specs.Reading.{ReaderView, after_line, in_section, analyst_place}
 use Rattle.decision_script.specs.Printing.{words_of_section}
@@ -116,7 +116,7 @@ pub record IsInForce (analysts : List (List ℕ)) (r : ReaderView) (name : List 
 
 -- the section of an analyst who has a place, or has none
 IsInForce-place : (analysts : List (List ℕ)) (line : ℕ) (r : ReaderView) (name : List ℕ) (i : ℕ) → IsName name
-    → i < length analysts → get_or analysts i [] ≡ name → length analysts ≤ MOST_ANALYSTS
+    → i < length analysts → get_or analysts i [] ≡ name → length analysts ≤ MAX_ANALYSTS
     → length r.analysts + missing r.analysts analysts ≤ length analysts
     → (o : Option ℕ) → analyst_place name r.analysts ≡ o
     → IsInForce analysts r name (after_line line r (join_with_byte 32 (words_of_section name)))
@@ -137,8 +137,8 @@ IsInForce-place analysts line r name i named lt is few fits (Some k) at =
 IsInForce-place analysts line r name i named lt is few fits None at =
     let gone = missing-push_new r.analysts name analysts i lt is (is_among-none name r.analysts at) in
     let longer = length-append r.analysts (name ∷ []) in
-    let free : nat_lt (length r.analysts) MOST_ANALYSTS ≡ true =
-    (let below : length r.analysts < MOST_ANALYSTS = omega (arith, gone, fits, few) in grind (arith, nat_tests)) in
+    let free : nat_lt (length r.analysts) MAX_ANALYSTS ≡ true =
+    (let below : length r.analysts < MAX_ANALYSTS = omega (arith, gone, fits, few) in grind (arith, nat_tests)) in
     let back : length r.analysts + 1 - 1 ≡ length r.analysts = omega arith in
     record {
       next = record { analysts = r.analysts ++ name ∷ []; current = length r.analysts + 1; items = r.items };
@@ -154,7 +154,7 @@ IsInForce-place analysts line r name i named lt is few fits None at =
 
 -- the section of an analyst is read
 pub section_read : (analysts : List (List ℕ)) (line : ℕ) (r : ReaderView) (a : ℕ)
-    → IsAnalyst (length analysts) a → IsName (analyst_name analysts a) → length analysts ≤ MOST_ANALYSTS
+    → IsAnalyst (length analysts) a → IsName (analyst_name analysts a) → length analysts ≤ MAX_ANALYSTS
     → length r.analysts + missing r.analysts analysts ≤ length analysts
     → IsInForce analysts r (analyst_name analysts a)
     (after_line line r (join_with_byte 32 (words_of_section (analyst_name analysts a))))

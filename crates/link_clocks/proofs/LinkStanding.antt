@@ -7,7 +7,7 @@ use Rattle.std.proofs.Math.Numerals.{add-one}
 use Rattle.sim_base.specs.Clones.{Clone}
 use Rattle.clone_sets.specs.Sets.{has}
 use Rattle.net_model.specs.Net.{HasStation, Net}
-use Rattle.net_model.specs.declared.limits.TheConstants.{MOST_HORIZON}
+use Rattle.net_model.specs.declared.limits.TheConstants.{MAX_HORIZON}
 use Rattle.stations.specs.Runs.{simulation, handled_once}
 use Rattle.stations.proofs.GoodLaws.{lawful-stations, stations-to_stations}
 use Rattle.run_laws.specs.Handlers.{IsStation}
@@ -115,7 +115,7 @@ module _ (net : Net) (cs : List Clone) (ended : List (ℕ × ℕ)) (k : ℕ) (no
       sym (clock-at s (record { low = low; high = high })) ∙ all (s - 1) (omega (arith, low, high, c))
 
   -- one more round can be counted
-  pub round-fits : ¬ (AreAllDone net k) → k < MOST_HORIZON
+  pub round-fits : ¬ (AreAllDone net k) → k < MAX_HORIZON
   round-fits going = let b = rounds-below net k world.valid going in let h = world.valid.soon in omega (arith, b, h)
 
 -- ---- after a round

@@ -1,7 +1,7 @@
 -- A world whose stations follow the clocks of their inbound links, and the stations' copies of the clones.
 use Rattle.std.specs.Prelude.{◌≡◌, ℕ, ◌+◌, ◌≤◌, List, length, slice_get, nat_lt, Some}
 use Rattle.sim_base.specs.Clones.{Clone}
-use Rattle.sim_base.specs.declared.lists.TheConstants.{MOST_CLONES}
+use Rattle.sim_base.specs.declared.lists.TheConstants.{MAX_CLONES}
 use Rattle.clone_sets.specs.Sets.{has}
 use Rattle.net_model.specs.Net.{Net}
 use Rattle.net_model.specs.Rules.{IsNet}
@@ -36,7 +36,7 @@ pub record LinkStands (net : Net) (cs : List Clone) (ended : List (ℕ × ℕ)) 
     (procs : List ProcView) : Type 0 where
   pub valid : IsNet net
   pub count : length procs ≡ length net.sites
-  pub few : length cs ≤ MOST_CLONES
+  pub few : length cs ≤ MAX_CLONES
   pub ends : ends_in net.horizon ended ≡ ends_of (simulation net) cs
   pub for_stations : AllAreForStations (simulation net) cs
   pub clocks_are : HasClocks net k now next

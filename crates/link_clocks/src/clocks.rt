@@ -1,7 +1,7 @@
 //! The clocks of inbound links: how far each station may go in a round.
 ghost use Rattle.std.specs.Prelude.{◌≡◌, ◌<◌, ◌≤◌, ◌↔◌, ℕ, length, slice_index, suc, IfOk, IsTrue};
 ghost use Rattle.std.specs.List.{All, AllByRecursion};
-ghost use Rattle.net_model.specs.declared.limits.TheConstants.{MOST_HORIZON, MOST_TIME};
+ghost use Rattle.net_model.specs.declared.limits.TheConstants.{MAX_HORIZON, MAX_TIME};
 ghost use Rattle.link_clocks.specs.NetClocks.{AreLowered, AreNextClocks, HasClocks};
 
 use net_model::{Link, Model};
@@ -21,8 +21,8 @@ pub struct Clocks {
 
 // Lowers the bounds of the stations to which the links of sender x lead. `time` is the sender's clock.
 fn lower_by_links(links: &[Link], x: u32, time: u64, bounds: &mut [u64])
-    requires far { time ≤ MOST_HORIZON }
-    requires links { AllByRecursion (λ l. (1 ≤ l.to) × (l.to ≤ length bounds.old) × (l.delay ≤ MOST_TIME)) links.now }
+    requires far { time ≤ MAX_HORIZON }
+    requires links { AllByRecursion (λ l. (1 ≤ l.to) × (l.to ≤ length bounds.old) × (l.delay ≤ MAX_TIME)) links.now }
     ensures lowered { AreLowered links.now x time bounds.old bounds.new }
 {
     for link in links {
@@ -95,7 +95,7 @@ impl Clocks {
     /// The clocks after one more round. It allocates nothing.
     pub fn after_round(self, model: &Model) -> Clocks
         requires clocks { HasClocks model.now self.rounds self.now.items self.next.items }
-        requires fits { self.rounds < MOST_HORIZON }
+        requires fits { self.rounds < MAX_HORIZON }
         ensures counted { result.rounds ≡ suc self.rounds }
         ensures clocks { HasClocks model.now result.rounds result.now.items result.next.items }
     {

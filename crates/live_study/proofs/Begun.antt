@@ -10,7 +10,7 @@ use Rattle.atomic_table.specs.Seated.{TableId}
 use Rattle.decision_script.specs.declared.item.Act.{Act}
 use Rattle.net_model.specs.Net.{Net}
 use Rattle.decision_script.specs.declared.item.Item.{Item}
-use Rattle.decision_script.specs.declared.script.TheConstants.{MOST_ITEMS}
+use Rattle.decision_script.specs.declared.script.TheConstants.{MAX_ITEMS}
 use Rattle.decision_script.specs.Stating.{ScriptView}
 use Rattle.decision_book.specs.Books.{BookView}
 use Rattle.decision_book.specs.Journal.{Event}
@@ -125,8 +125,8 @@ total_of-items (i ∷ is) n = omega (arith, total_of-item i is n, at_most_one (n
 
 -- all together ask no more than the script has items
 pub few_todo : (items : List Item) (analysts : List SeatedAnalyst) (n : ℕ)
-    → map (λ (a : SeatedAnalyst). a.0.todo.items) analysts ≡ each_acts items n → length items ≤ MOST_ITEMS
-    → total_todo analysts ≤ MOST_ITEMS
+    → map (λ (a : SeatedAnalyst). a.0.todo.items) analysts ≡ each_acts items n → length items ≤ MAX_ITEMS
+    → total_todo analysts ≤ MAX_ITEMS
 few_todo items analysts n are few = let same = ap total_of are in
     omega (arith, total_is analysts, same, total_of-items items n, few)
 

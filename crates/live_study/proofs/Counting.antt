@@ -6,7 +6,7 @@ use Rattle.std.proofs.lemmas.Bool.{false_from_ne_true}
 use Rattle.atomic_table.specs.Seated.{TableId}
 use Rattle.net_model.specs.Net.{Net}
 use Rattle.decision_book.specs.declared.call.Call.{Call}
-use Rattle.decision_book.specs.declared.call.TheConstants.{MOST_CALLS}
+use Rattle.decision_book.specs.declared.call.TheConstants.{MAX_CALLS}
 use Rattle.decision_book.specs.Books.{BookView}
 use Rattle.decision_book.specs.Journal.{Event, NewCall, calls_of, after, front_of}
 use Rattle.decision_book.specs.Right.{IsRight}
@@ -18,7 +18,7 @@ use Rattle.decision_desk.proofs.Journals.{front_calls}
 use Rattle.decision_desk.proofs.Leasts.{front_is}
 use Rattle.world_core.specs.Worlds.{WorldView}
 use Rattle.study_run.specs.declared.fault.StudyFault.{StudyFault}
-use Rattle.decision_desk.specs.declared.desk.TheConstants.{ALL_PARTS}
+use Rattle.decision_desk.specs.declared.desk.TheConstants.{MAX_PARTS}
 use Rattle.live_study.specs.Asking.{SeatedAnalyst, decisions_asked, decisions_in, IsDone, IsSameAnalyst}
 use Rattle.live_study.specs.Asking.{accounts_in, total_todo, AllDone, AllAsked}
 use Rattle.live_study.specs.Engines.{InStep, Steers}
@@ -101,8 +101,8 @@ few_calls desk (a ∷ others') all =
 -- if all calls together are as many as a journal holds, none of these was answered Full
 asked_each : (desk : TableId) (events : List Event) (before : ℕ) (others' : List SeatedAnalyst) → AllDone desk others'
     → AreAccounts events (accounts_in others')
-    → ((e : length (calls_of events) ≡ MOST_CALLS) → MOST_CALLS ≤ before + total_calls others')
-    → before + total_todo others' ≤ MOST_CALLS → AllAsked events others'
+    → ((e : length (calls_of events) ≡ MAX_CALLS) → MAX_CALLS ≤ before + total_calls others')
+    → before + total_todo others' ≤ MAX_CALLS → AllAsked events others'
 asked_each desk events before [] all right whole few = tt
 asked_each desk events before (a ∷ others') all right whole few =
     let account = a.0.pass.account in
@@ -125,7 +125,7 @@ asked_each desk events before (a ∷ others') all right whole few =
 all_asked : (desk : TableId) (events : List Event) (others' : List SeatedAnalyst) → AllDone desk others'
     → AreAccounts events (accounts_in others')
     → ((x : ℕ) → accounts_of x (accounts_in others') ≡ 0 → calls_by x events ≡ [])
-    → total_todo others' ≤ MOST_CALLS → AllAsked events others'
+    → total_todo others' ≤ MAX_CALLS → AllAsked events others'
 all_asked desk events others' all right others few =
     asked_each desk events 0 others' all right
     (λ e. omega (
@@ -204,13 +204,13 @@ accounts_are (a ∷ more) = ap (λ l. a.0.pass.account ∷ l) (accounts_are more
 
 -- the helm, once all passes were handed back
 abbrev pub closing : HelmView → List PassView → HelmView
-closing helm passes = record helm { parts = ALL_PARTS; accounts = helm.accounts ++ map (λ p. p.account) passes }
+closing helm passes = record helm { parts = MAX_PARTS; accounts = helm.accounts ++ map (λ p. p.account) passes }
 
 -- all that analysts had to ask is in the journal
 all_asked_in : (desk : TableId) (helm0 helm1 : HelmView) (new : List SeatedAnalyst) (passes : List PassView)
     (book : BookView) → Steers helm0 helm1 → helm0.accounts ≡ []
     → passes ≡ map (λ (a : SeatedAnalyst). a.0.pass) new → IsFinalBook (closing helm1 passes) book → AllDone desk new
-    → total_todo new ≤ MOST_CALLS → IsRight book.net book.events → FrontsAreNext book.net book.events
+    → total_todo new ≤ MAX_CALLS → IsRight book.net book.events → FrontsAreNext book.net book.events
     → IsAllAsked helm0.net new book
 all_asked_in desk helm0 helm1 new passes book steers fresh are closed done few right fronts =
     let own : helm1.accounts ++ map (λ p. p.account) passes ≡ accounts_in new =
@@ -233,7 +233,7 @@ pub asked_in : (desk : TableId) (helm0 helm1 : HelmView) (old new : List SeatedA
     → passes ≡ map (λ (a : SeatedAnalyst). a.0.pass) new → IsFinalBook (closing helm1 passes) book
     → IsRight book.net book.events → FrontsAreNext book.net book.events
     → length new ≡ length old → ((i : ℕ) (d : SeatedAnalyst) → i < length old → IsDone desk (slice_index_or new i d).0)
-    → SameAt old new → total_todo old ≤ MOST_CALLS
+    → SameAt old new → total_todo old ≤ MAX_CALLS
     → IsAllAsked helm0.net old book
 asked_in desk helm0 helm1 old new passes book steers fresh are closed right fronts len done same few =
     let l = all_asked_in desk helm0 helm1 new passes book steers fresh are closed

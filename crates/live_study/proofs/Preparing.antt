@@ -8,7 +8,7 @@ use Rattle.sim_base.proofs.ListLaws.{all_at, all_weaker}
 use Rattle.net_model.specs.Net.{Net}
 use Rattle.decision_script.specs.Stating.{ScriptView}
 use Rattle.decision_book.specs.Books.{BookView}
-use Rattle.decision_book.specs.declared.call.TheConstants.{MOST_CALLS}
+use Rattle.decision_book.specs.declared.call.TheConstants.{MAX_CALLS}
 use Rattle.decision_desk.specs.Desks.{desk_id}
 use Rattle.decision_desk.specs.Passes.{HelmView}
 use Rattle.decision_desk.proofs.NewPasses.{new_passes_count}
@@ -17,8 +17,8 @@ use Rattle.shelf.specs.Racks.{HasRack, MayOpen, latest}
 use Rattle.shelf.proofs.Legals.{latest-all, AreShown-opening}
 use Rattle.journal_text.specs.declared.looked.Looked.{Looked}
 use Rattle.world_core.specs.Worlds.{WorldView}
-use Rattle.decision_script.specs.declared.script.TheConstants.{MOST_ANALYSTS, MOST_ITEMS}
-use Rattle.decision_desk.specs.declared.desk.TheConstants.{ALL_PARTS}
+use Rattle.decision_script.specs.declared.script.TheConstants.{MAX_ANALYSTS, MAX_ITEMS}
+use Rattle.decision_desk.specs.declared.desk.TheConstants.{MAX_PARTS}
 use Rattle.live_study.specs.declared.prepared.Prepared.{Prepared}
 use Rattle.live_study.specs.Asking.{SeatedAnalyst, total_todo}
 use Rattle.live_study.specs.Lives.{AreSeenLooks, IsAllAsked, all_looks, looks_made}
@@ -105,8 +105,8 @@ shown_first net many p published h e = subst (AreShownOf p.helm p.world) (sym e)
 -- ---- the analysts
 -- the helm and the analysts' passes have all parts of the desk
 pub all_parts : (net : Net) (many : ℕ) (p : Prepared) (seated : List SeatedAnalyst) → IsPrepared net many p
-    → many ≤ MOST_ANALYSTS
-    → map (λ (a : SeatedAnalyst). a.0.pass) seated ≡ p.passes.items → p.helm.parts + length seated ≡ ALL_PARTS
+    → many ≤ MAX_ANALYSTS
+    → map (λ (a : SeatedAnalyst). a.0.pass) seated ≡ p.passes.items → p.helm.parts + length seated ≡ MAX_PARTS
 all_parts net many p seated h few are =
     let len = many_analysts (desk_id p.desk) net many p.passes.items seated are h.passes in
     let parts = ap (λ (x : HelmView). x.parts) h.helm in
@@ -146,9 +146,9 @@ own_todo net s p seated h todo = todo ∙ ap (each_acts s.items) (many_passes ne
 
 -- analysts of a script have no more acts together than a journal holds calls
 pub little_todo : (net : Net) (s : ScriptView) (p : Prepared) (seated : List SeatedAnalyst)
-    → IsPrepared net (length s.analysts) p → length s.items ≤ MOST_ITEMS
+    → IsPrepared net (length s.analysts) p → length s.items ≤ MAX_ITEMS
     → map (λ (a : SeatedAnalyst). a.0.todo.items) seated ≡ each_acts s.items (length p.passes.items)
-    → total_todo seated ≤ MOST_CALLS
+    → total_todo seated ≤ MAX_CALLS
 little_todo net s p seated h few todo =
     few_todo s.items seated (length s.analysts) (own_todo net s p seated h todo) few
 

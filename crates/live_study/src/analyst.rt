@@ -1,6 +1,6 @@
 //! Analysts: the users of an interactive simulation.
 ghost use Rattle.std.specs.Prelude.{◌≤◌, length};
-ghost use Rattle.decision_script.specs.declared.script.TheConstants.{MOST_ITEMS};
+ghost use Rattle.decision_script.specs.declared.script.TheConstants.{MAX_ITEMS};
 
 use decision_desk::Pass;
 use decision_script::Act;
@@ -18,5 +18,5 @@ pub struct Analyst {
     pub todo: Vec<Act>,
     /// What it saw at its looks, in order.
     pub looks: Reserved<Looked>,
-    pub ghost few: { length todo.items ≤ MOST_ITEMS },
+    pub ghost few: { length todo.items ≤ MAX_ITEMS },
 }

@@ -12,7 +12,7 @@ ghost use Rattle.live_study.specs.Showing.{HasActed, HasLooked, HaveActed, MayAc
 use crate::analyst::Analyst;
 use crew_pool::Gate;
 use decision_desk::Desk;
-use decision_script::{Act, MOST_ANALYSTS};
+use decision_script::{Act, MAX_ANALYSTS};
 use journal_text::Looked;
 use net_model::Model;
 use shelf::{Naming, Seat};
@@ -140,7 +140,7 @@ pub(crate) fn act_everyone<J: Naming + Send + Sync, G: Gate, R: Threads + Wait +
     thread::for_each_mut(
         rt,
         seated.as_mut_slice(),
-        MOST_ANALYSTS,
+        MAX_ANALYSTS,
         &|_i: usize, one: &mut (Analyst, Seat<J>)|
             requires { MayAct (desk_id desk.now) model.now one.old }
             ensures { HasActed (desk_id desk.entry.now) model.entry.now one.entry.now one.exit.now }

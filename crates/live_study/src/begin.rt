@@ -1,7 +1,7 @@
 //! The analysts of a script, and the racks of time 0 that are shown to them before the engine begins.
 ghost use Rattle.std.specs.Prelude.{◌≡◌, ◌++◌, ◌≤◌, length, map, All, IfOk, OnOk};
 ghost use Rattle.std.specs.List.{AllByRecursion};
-ghost use Rattle.decision_script.specs.declared.script.TheConstants.{MOST_ANALYSTS, MOST_ITEMS};
+ghost use Rattle.decision_script.specs.declared.script.TheConstants.{MAX_ANALYSTS, MAX_ITEMS};
 ghost use Rattle.live_study.specs.Opening.{AreOpeningRacks, IsFresh, numbers_to};
 ghost use Rattle.live_study.specs.Scripts.{acts_by, each_acts, own_act};
 
@@ -28,7 +28,7 @@ fn push_own(own: &mut Vec<Act>, item: &Item, a: u32) -> Result<(), NoMemory>
 // The acts of an analyst, in order.
 fn acts_of(alloc: Global, script: &Script, a: u32) -> Result<Vec<Act>, NoMemory>
     ensures value { IfOk result (λ v. v.items ≡ acts_by a script.now.items) }
-    ensures few { IfOk result (λ v. length v.items ≤ MOST_ITEMS) }
+    ensures few { IfOk result (λ v. length v.items ≤ MAX_ITEMS) }
 {
     let mut own = Vec::new(alloc);
     for i in 0..script.len() {
@@ -44,7 +44,7 @@ pub(crate) fn analysts_of<J: Naming>(
     passes: Vec<Pass>,
     seats: Vec<Seat<J>>,
 ) -> Result<Vec<(Analyst, Seat<J>)>, NoMemory>
-    requires few { length passes.items ≤ MOST_ANALYSTS }
+    requires few { length passes.items ≤ MAX_ANALYSTS }
     requires seats { length seats.items ≡ length passes.items }
     ensures passes { IfOk result (λ v. map (λ a. a.0.pass) v.items ≡ passes.items) }
     ensures numbers { IfOk result (λ v. map (λ a. a.0.number) v.items ≡ numbers_to (length passes.items)) }

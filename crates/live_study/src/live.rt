@@ -1,7 +1,7 @@
 //! The engine of an interactive simulation, and its users, the analysts, in threads of their own.
 ghost use Rattle.std.specs.Prelude.{◌≡◌, ◌+◌, ◌≤◌, [], ◌++◌, length, map, IfOk, IfErr, true, vec_len, vec_capacity};
-ghost use Rattle.decision_book.specs.declared.call.TheConstants.{MOST_CALLS};
-ghost use Rattle.decision_desk.specs.declared.desk.TheConstants.{ALL_PARTS};
+ghost use Rattle.decision_book.specs.declared.call.TheConstants.{MAX_CALLS};
+ghost use Rattle.decision_desk.specs.declared.desk.TheConstants.{MAX_PARTS};
 ghost use Rattle.decision_desk.specs.Desks.{desk_id};
 ghost use Rattle.live_study.specs.Asking.{total_todo};
 ghost use Rattle.live_study.specs.Driving.{HasDriven, MayDrive};
@@ -148,10 +148,10 @@ pub(crate) fn run_live<
     // helm, world and stocker are in step, the analysts are ready, and there are places for what they leave
     requires may_drive { MayDrive (desk_id desk) helm world stocker.published }
     requires net { helm.net ≡ model.now }
-    requires parts { helm.parts + length seated.items ≡ ALL_PARTS }
+    requires parts { helm.parts + length seated.items ≡ MAX_PARTS }
     requires fresh { helm.accounts ≡ [] }
     requires ready { AreReadyAll (desk_id desk) model.now seated.items }
-    requires few { total_todo seated.items ≤ MOST_CALLS }
+    requires few { total_todo seated.items ≤ MAX_CALLS }
     requires reserve { HasReservedFor (length seated.items) reserve }
     requires readers { stocker.readers ≡ length seated.items }
     // however it ends: each analyst has asked all its decisions and made all its looks

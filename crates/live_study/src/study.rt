@@ -1,7 +1,7 @@
 //! The live study of a model and a script: an interactive simulation, with one journal of what its users decided.
 ghost use Rattle.std.specs.Prelude.{◌≡◌, ◌+◌, ◌≤◌, length, map, IfOk, IfErr, OnErr};
 ghost use Rattle.std.specs.List.{AllByRecursion};
-ghost use Rattle.net_model.specs.declared.limits.TheConstants.{MOST_STATIONS};
+ghost use Rattle.net_model.specs.declared.limits.TheConstants.{MAX_STATIONS};
 ghost use Rattle.decision_desk.specs.Desks.{desk_id};
 ghost use Rattle.decision_desk.specs.Passes.{new_helm, new_passes};
 ghost use Rattle.shelf.specs.Racks.{MayOpen};
@@ -95,7 +95,7 @@ fn take_seats<J: Naming, W: Wait + Drop>(
 ) -> Result<(Stocker<J, W>, Vec<(Analyst, Seat<J>)>), NoMemory>
     requires name { (opened.seen.book ≡ J.book) × (opened.pen.nib.key ≡ J.start) }
     requires opening { MayOpen racks.items }
-    requires few { length racks.items ≤ MOST_STATIONS }
+    requires few { length racks.items ≤ MAX_STATIONS }
     requires many { length passes.items ≡ length script.now.analysts }
     // what it returns: a stocker that has published these racks
     ensures published { IfOk result (λ r. r.0.published ≡ racks.items) }

@@ -4,7 +4,7 @@ use Rattle.std.specs.Arc.{arc_value}
 use Rattle.std.specs.declared.sync.Arc.{Arc}
 use Rattle.sim_base.specs.Blocks.{of_blocks}
 use Rattle.log_chain.specs.Blocks.{AreFullButLast}
-use Rattle.log_chain.specs.declared.log.TheConstants.{MOST_ENTRIES}
+use Rattle.log_chain.specs.declared.log.TheConstants.{MAX_ENTRIES}
 
 module _ {X Z : Type 0} where
   -- the entries of a segment
@@ -35,4 +35,4 @@ pub record IsChain {X Z : Type 0} (segments : List (Arc (List X) Z)) (shared : �
   pub count : shared ≡ length (entries_in segments)
   pub blocks_fit : AreFullButLast blocks
   pub tail : more ≡ length (of_blocks blocks)
-  pub most : shared + more ≤ MOST_ENTRIES
+  pub most : shared + more ≤ MAX_ENTRIES

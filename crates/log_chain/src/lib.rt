@@ -21,8 +21,8 @@
 //! exactly. If all entries are packed (`is_packed`), each key fits a 64-bit word, which a merge of logs may compare.
 //!
 //! A push writes 32 bytes and moves no entry. `share` makes the tail a segment, which absorbs the segments before it
-//! while they are at most twice as long. So an entry is copied once for each doubling, and a log of `MOST_HANDLED`
-//! entries has at most `MOST_SEGMENTS` segments. A walk allocates nothing and visits each segment once. If times rise
+//! while they are at most twice as long. So an entry is copied once for each doubling, and a log of `MAX_HANDLED`
+//! entries has at most `MAX_SEGMENTS` segments. A walk allocates nothing and visits each segment once. If times rise
 //! it may begin at a time (`walk_from_time`), found by binary search.
 //!
 //! Contracts see a log as the list of its entries, so sharing and copying look the same to them. The promise that

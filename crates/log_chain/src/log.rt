@@ -3,8 +3,8 @@ ghost use Rattle.std.specs.Prelude.{◌≡◌, ◌++◌, ◌∷◌, [], ◌+◌,
 ghost use Rattle.std.specs.Prelude.{drop, OnOk, OnErr, IfOk, IsTrue, slice_index, slice_index_or};
 ghost use Rattle.log_chain.specs.Packing.{FitWords};
 ghost use Rattle.log_chain.specs.Times.{RiseByTime, from_time, times_of};
-ghost use Rattle.sim_base.specs.declared.limits.TheConstants.{MOST_HANDLED};
-ghost use Rattle.log_chain.specs.declared.log.TheConstants.{MOST_SEGMENTS};
+ghost use Rattle.sim_base.specs.declared.limits.TheConstants.{MAX_HANDLED};
+ghost use Rattle.log_chain.specs.declared.log.TheConstants.{MAX_SEGMENTS};
 
 use crate::blocks;
 use crate::entry_list::EntryList;
@@ -15,10 +15,10 @@ use std::alloc::Global;
 use std::marker::Model;
 
 /// The most entries of a log: with 32 bytes each they take 2^63 bytes, and no list is longer.
-pub const MOST_ENTRIES: u64 = 1 << 58;
+pub const MAX_ENTRIES: u64 = 1 << 58;
 
-/// The most segments of a log of `MOST_HANDLED` entries. A run within the model's limits makes no more.
-pub const MOST_SEGMENTS: u32 = 16;
+/// The most segments of a log of `MAX_HANDLED` entries. A run within the model's limits makes no more.
+pub const MAX_SEGMENTS: u32 = 16;
 
 /// The log of a station: the entries of the messages that it has handled, in order. Logs may share their past, and each
 /// grows independently.
@@ -65,7 +65,7 @@ impl Log {
         ensures ok { OnOk result (self.new ≡ self.old ++ entry ∷ []) }
         ensures err { OnErr result (self.new ≡ self.old) }
     {
-        if self.shared + self.more as u64 == MOST_ENTRIES {
+        if self.shared + self.more as u64 == MAX_ENTRIES {
             return Err(NoMemory);
         }
         blocks::push(&mut self.blocks, &entry)?;
@@ -196,7 +196,7 @@ impl Log {
     /// The number of segments. Allocates nothing.
     pub fn segments(&self) -> u32
         ensures many { 2 ^ result ≤ length self.now + 1 }
-        ensures few { length self.now ≤ MOST_HANDLED → result ≤ MOST_SEGMENTS }
+        ensures few { length self.now ≤ MAX_HANDLED → result ≤ MAX_SEGMENTS }
     {
         self.segments.len() as u32
     }

@@ -4,7 +4,7 @@ ghost use Rattle.std.specs.Prelude.{◌≤◌, length, take, drop, OnOk, OnErr, 
 ghost use Rattle.log_chain.specs.Segments.{entries_of_segment, entries_in, lengths, IsFit};
 ghost use Rattle.sim_base.specs.Blocks.{of_blocks};
 ghost use Rattle.log_chain.specs.Packing.{FitWords};
-ghost use Rattle.log_chain.specs.declared.log.TheConstants.{MOST_ENTRIES};
+ghost use Rattle.log_chain.specs.declared.log.TheConstants.{MAX_ENTRIES};
 
 use crate::entry_list::EntryList;
 use sim_base::NoMemory;
@@ -29,7 +29,7 @@ pub fn share_segments(alloc: Global, segments: &[Segment]) -> Result<Vec<Segment
 /// The number of segments that remain unchanged when `size` entries are appended, and the length of the next segment,
 /// which absorbs the others.
 pub fn fit_behind(segments: &[Segment], size: usize) -> (usize, usize)
-    requires most { length (entries_in segments.now) + size ≤ MOST_ENTRIES }
+    requires most { length (entries_in segments.now) + size ≤ MAX_ENTRIES }
     ensures within { result.0 ≤ length segments.now }
     ensures size { result.1 ≡ length (entries_in (drop result.0 segments.now)) + size }
     ensures fit { IsFit (lengths segments.now) result.0 result.1 }

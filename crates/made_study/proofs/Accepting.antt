@@ -15,13 +15,13 @@ use Rattle.net_model.specs.Net.{Net, station_named, site_of}
 use Rattle.stations.specs.Changes.{accepts}
 use Rattle.sim_base.specs.declared.message.Change.{Change}
 use Rattle.sim_base.specs.declared.decision.Decision.TheVariants.{Set}
-use Rattle.sim_base.specs.declared.lists.TheConstants.{MOST_DECISIONS}
+use Rattle.sim_base.specs.declared.lists.TheConstants.{MAX_DECISIONS}
 use Rattle.sim_base.specs.Clones.{Clone, clones_with_plan, clone_at, place_of}
-use Rattle.decision_book.specs.declared.call.TheConstants.{MOST_CALLS}
+use Rattle.decision_book.specs.declared.call.TheConstants.{MAX_CALLS}
 use Rattle.made_study.specs.Branches.{clones_of_plans, last_decisions, own_decision}
 use Rattle.made_study.specs.Nets.{made_net, made_sites, net_with, ward}
 use Rattle.made_study.specs.Numbers.{wards, ward_name}
-use Rattle.made_study.specs.declared.model.TheConstants.{MOST_WARDS}
+use Rattle.made_study.specs.declared.model.TheConstants.{MAX_WARDS}
 use Rattle.made_study.specs.declared.script.TheConstants.{PLANS}
 use Rattle.made_study.specs.Scripts.{fork_of_plan, made_script, plan_name, set_of_plan}
 
@@ -57,13 +57,13 @@ first_ward n others =
 
 -- a set is accepted by these rows of the table, one after another
 set_accepted : (net : Net) (clones : List Clone) (calls c at : ℕ) (who station : List ℕ) (change : Change)
-    → nat_le MOST_CALLS calls ≡ false
+    → nat_le MAX_CALLS calls ≡ false
     → (0 == net.horizon) ≡ false
     → place_of who clones ≡ Some c
     → (clone_at clones c).end ≡ None
     → station_named station net ≡ Some 3
     → accepts (site_of net 3) change ≡ Ok tt
-    → nat_le MOST_DECISIONS (length (clone_at clones c).plans) ≡ false
+    → nat_le MAX_DECISIONS (length (clone_at clones c).plans) ≡ false
     → nat_le net.horizon at ≡ false
     → nat_lt at 0 ≡ false
     → reply (record { net = net; clones = clones; front = 0; calls = calls }) (Set who at station change) ≡ Accepted
@@ -110,11 +110,11 @@ abbrev Facts : ℕ → ℕ → ℕ → Type 0
 Facts n others count =
     (reply (situation_after n others count) (fork_of_plan (count + 1)) ≡ Accepted)
     × (after_decision (situation_after n others count) (fork_of_plan (count + 1)) ≡ situation_between n others count)
-    × (nat_le MOST_CALLS (2 * count + 1) ≡ false)
+    × (nat_le MAX_CALLS (2 * count + 1) ≡ false)
     × (place_of (plan_name (count + 1)) (clones_between count) ≡ Some (count + 1))
     × ((clone_at (clones_between count) (count + 1)).end ≡ None)
     × (accepts (ward (suc others) 1) (own_decision (count + 1)).change ≡ Ok tt)
-    × (nat_le MOST_DECISIONS (length (clone_at (clones_between count) (count + 1)).plans) ≡ false)
+    × (nat_le MAX_DECISIONS (length (clone_at (clones_between count) (count + 1)).plans) ≡ false)
     × (nat_le 5000 (100 * (count + 1)) ≡ false)
     × (situation_with n others (clones_after_set count) (2 * count + 1 + 1) ≡ situation_after n others (count + 1))
 
@@ -239,17 +239,17 @@ all_lead n others before (suc count) (made, plans) =
 -- ---- the made networks
 
 -- the number of wards is 1 or more
-wards_of : (n : ℕ) → suc (n % MOST_WARDS) ≡ wards n
+wards_of : (n : ℕ) → suc (n % MAX_WARDS) ≡ wards n
 wards_of n = omega arith
 
 -- no decision of the made script is refused
 pub all_accepted : (n : ℕ) → first_refusal (made_net n) (decisions made_script.items) ≡ None
 all_accepted n =
     subst (λ count. first_refusal (net_with n count) (decisions made_script.items) ≡ None) (wards_of n)
-    (none_refused n (n % MOST_WARDS) 0 PLANS 0 (facts n (n % MOST_WARDS)))
+    (none_refused n (n % MAX_WARDS) 0 PLANS 0 (facts n (n % MAX_WARDS)))
 
 -- and it leaves a clone for each plan
 pub clones_left : (n : ℕ) → lists_of (made_net n) (decisions made_script.items) ≡ clones_of_plans PLANS
 clones_left n =
     subst (λ count. lists_of (net_with n count) (decisions made_script.items) ≡ clones_of_plans PLANS) (wards_of n)
-    (ap (λ s. s.clones) (all_lead n (n % MOST_WARDS) 0 PLANS (facts n (n % MOST_WARDS))))
+    (ap (λ s. s.clones) (all_lead n (n % MAX_WARDS) 0 PLANS (facts n (n % MAX_WARDS))))

@@ -1,6 +1,6 @@
 -- The numbers of a made study.
 use Rattle.std.specs.Prelude.{ℕ, ◌+◌, ◌*◌, ◌%◌, List, codes, decimal, ◌++◌}
-use Rattle.made_study.specs.declared.model.TheConstants.{MOST_WARDS}
+use Rattle.made_study.specs.declared.model.TheConstants.{MAX_WARDS}
 
 -- the longest time between two arrivals
 abbrev pub longest_gap : ℕ → ℕ
@@ -8,7 +8,7 @@ longest_gap n = 1 + n % 5
 
 -- the number of wards
 abbrev pub wards : ℕ → ℕ
-wards n = 1 + n % MOST_WARDS
+wards n = 1 + n % MAX_WARDS
 
 -- the number of patients that ward i serves at a time
 abbrev pub ward_servers : ℕ → ℕ

@@ -12,14 +12,14 @@ ghost use Rattle.made_study.specs.Branches.{clones_of_plans};
 ghost use Rattle.made_study.specs.Nets.{made_net};
 ghost use Rattle.made_study.specs.Scripts.{made_script};
 ghost use Rattle.made_study.specs.Texts.{model_text};
-ghost use Rattle.made_study.specs.declared.model.TheConstants.{MOST_WARDS};
+ghost use Rattle.made_study.specs.declared.model.TheConstants.{MAX_WARDS};
 ghost use Rattle.made_study.specs.declared.script.TheConstants.{PLANS};
 ghost use Rattle.net_model.specs.Text.{model};
 
 /// The number of plans of a made script, and the most wards of a made model.
 pub fn limits_in_numbers()
     ensures plans { PLANS ≡ 16 }
-    ensures wards { MOST_WARDS ≡ 8 }
+    ensures wards { MAX_WARDS ≡ 8 }
 {}
 
 /// The text of the script is read as the made script.

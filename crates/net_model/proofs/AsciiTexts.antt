@@ -11,7 +11,7 @@ use Rattle.net_model.specs.declared.fault.ModelFault.{ModelFault}
 use Rattle.net_model.specs.declared.fault.ModelFault.TheVariants.{TooLong}
 use Rattle.net_model.specs.Net.{Net}
 use Rattle.net_model.specs.Text.{model, model_of_tree, tree}
-use Rattle.sim_base.specs.declared.limits.TheConstants.{MOST_FILE_BYTES}
+use Rattle.sim_base.specs.declared.limits.TheConstants.{MAX_FILE_BYTES}
 
 -- ---- IsAscii
 
@@ -33,9 +33,9 @@ tree-ascii text h =
 
 -- the model of a text, if it is parsed without the test for UTF-8
 abbrev pub model_parsed : List ℕ → Result Net ModelFault
-model_parsed text = if nat_lt MOST_FILE_BYTES (length text) then Err TooLong else model_of_tree (parse_document text)
+model_parsed text = if nat_lt MAX_FILE_BYTES (length text) then Err TooLong else model_of_tree (parse_document text)
 
 -- the model of an ASCII text, without the test that it is UTF-8
 pub ascii_model : (text : List ℕ) → list_all (λ b. nat_lt b 128) text ≡ true → model text ≡ model_parsed text
-ascii_model text h = ap (λ t. if nat_lt MOST_FILE_BYTES (length text) then Err TooLong else model_of_tree t)
+ascii_model text h = ap (λ t. if nat_lt MAX_FILE_BYTES (length text) then Err TooLong else model_of_tree t)
     (tree-ascii text h)

@@ -13,7 +13,7 @@ use Rattle.net_model.specs.Fields.{key_of}
 use Rattle.net_model.specs.Reading.{in_range, integer_of, found_integer, integer_at, as_name, name_at, text_at}
 use Rattle.net_model.specs.Reading.{span, span_of_two, span_of_list, span_of_value, span_at, value_at, list_of}
 use Rattle.net_model.specs.Rules.{IsRange, is_range, is_within}
-use Rattle.net_model.specs.declared.limits.TheConstants.{MOST_TIME}
+use Rattle.net_model.specs.declared.limits.TheConstants.{MAX_TIME}
 
 -- ---- Ok, Err
 
@@ -53,9 +53,9 @@ is_within-bounds low high n h = let parts = and_parts (nat_le low n) (nat_le n h
 -- and a range of times that was found is one
 pub is_range-bounds : (low lo hi : ℕ) → is_range low lo hi ≡ true → IsRange low lo hi
 is_range-bounds low lo hi h =
-    let parts = and_parts (nat_le low lo && nat_le lo hi) (nat_le hi MOST_TIME) h in
+    let parts = and_parts (nat_le low lo && nat_le lo hi) (nat_le hi MAX_TIME) h in
     let first = and_parts (nat_le low lo) (nat_le lo hi) parts.0 in
-    record { above = leb-true low lo first.0; ordered = leb-true lo hi first.1; small = leb-true hi MOST_TIME parts.1 }
+    record { above = leb-true low lo first.0; ordered = leb-true lo hi first.1; small = leb-true hi MAX_TIME parts.1 }
 
 module _ (station : ℕ) (field : Field) where
   -- ---- in_range, integer_of, found_integer, integer_at
@@ -141,7 +141,7 @@ module _ (station : ℕ) (field : Field) where
   span_of_value-IsRange low (datetime t) s h = absurd (Err-not-Ok (WrongType station field) s h)
   span_of_value-IsRange low (table ms) s h = absurd (Err-not-Ok (WrongType station field) s h)
 
-  -- the times of a range that a key states are in order, not below the lower bound and not above MOST_TIME
+  -- the times of a range that a key states are in order, not below the lower bound and not above MAX_TIME
   pub span_at-IsRange : (low : ℕ) (t : Data) (s : Span) → span_at station field low t ≡ Ok s
       → IsRange low s.lo s.hi
   span_at-IsRange low t s h =

@@ -11,7 +11,7 @@ use Rattle.std.proofs.Math.Seq.{drop-append_seam}
 use Rattle.sim_base.specs.Names.{is_name_byte}
 use Rattle.sim_base.proofs.ListLaws.{take-append}
 use Rattle.net_model.specs.KeyTexts.{shown_byte, is_shown, key_text, IsKeyText}
-use Rattle.net_model.specs.declared.key_text.TheConstants.{LONGEST_KEY_TEXT}
+use Rattle.net_model.specs.declared.key_text.TheConstants.{MAX_KEY_TEXT_LEN}
 use Rattle.net_model.proofs.AsciiTexts.{IsAscii-list_all}
 
 -- ---- is_shown
@@ -47,11 +47,11 @@ drop-append xs ys n h = ap (λ k. drop k (xs ++ ys)) (sym h) ∙ drop-append_sea
 
 -- the first bytes of a key, copied before zeros and shown there
 module _ (key : List ℕ) (len : ℕ) (copied prefix : List ℕ)
-    (size : len ≡ min (length key) LONGEST_KEY_TEXT)
+    (size : len ≡ min (length key) MAX_KEY_TEXT_LEN)
     (copy : copied ≡ take len key)
-    (show : prefix ≡ map shown_byte (take len (copied ++ drop len (replicate LONGEST_KEY_TEXT 0)))) where
+    (show : prefix ≡ map shown_byte (take len (copied ++ drop len (replicate MAX_KEY_TEXT_LEN 0)))) where
   -- they are not too many
-  len-bounds : len ≤ LONGEST_KEY_TEXT
+  len-bounds : len ≤ MAX_KEY_TEXT_LEN
   len-bounds = omega (arith, size)
 
   -- as many are copied
@@ -61,28 +61,28 @@ module _ (key : List ℕ) (len : ℕ) (copied prefix : List ℕ)
   -- the shown prefix is the shown form of the copied bytes
   prefix-shown : prefix ≡ map shown_byte copied
   prefix-shown =
-      show ∙ ap (map shown_byte) (take-append copied (drop len (replicate LONGEST_KEY_TEXT 0)) len copied_len)
+      show ∙ ap (map shown_byte) (take-append copied (drop len (replicate MAX_KEY_TEXT_LEN 0)) len copied_len)
 
   -- and is as long
   prefix-length : length prefix ≡ len
   prefix-length = ap length prefix-shown ∙ (length-map copied shown_byte ∙ copied_len)
 
   -- zeros follow the copied bytes
-  drop-copied : drop len (copied ++ drop len (replicate LONGEST_KEY_TEXT 0)) ≡ replicate (LONGEST_KEY_TEXT - len) 0
+  drop-copied : drop len (copied ++ drop len (replicate MAX_KEY_TEXT_LEN 0)) ≡ replicate (MAX_KEY_TEXT_LEN - len) 0
   drop-copied =
-      drop-append copied (drop len (replicate LONGEST_KEY_TEXT 0)) len copied_len
-      ∙ drop-replicate len LONGEST_KEY_TEXT 0
+      drop-append copied (drop len (replicate MAX_KEY_TEXT_LEN 0)) len copied_len
+      ∙ drop-replicate len MAX_KEY_TEXT_LEN 0
 
   -- the bytes up to that length are the text of the key
-  pub key_text_bytes : take len (prefix ++ drop len (copied ++ drop len (replicate LONGEST_KEY_TEXT 0))) ≡ key_text key
+  pub key_text_bytes : take len (prefix ++ drop len (copied ++ drop len (replicate MAX_KEY_TEXT_LEN 0))) ≡ key_text key
   key_text_bytes =
-      let first : take len key ≡ take LONGEST_KEY_TEXT key =
-      ap (λ n. take n key) (size ∙ omega arith) ∙ take_min LONGEST_KEY_TEXT key in
-      take-append prefix (drop len (copied ++ drop len (replicate LONGEST_KEY_TEXT 0))) len prefix-length
+      let first : take len key ≡ take MAX_KEY_TEXT_LEN key =
+      ap (λ n. take n key) (size ∙ omega arith) ∙ take_min MAX_KEY_TEXT_LEN key in
+      take-append prefix (drop len (copied ++ drop len (replicate MAX_KEY_TEXT_LEN 0))) len prefix-length
       ∙ (prefix-shown ∙ ap (map shown_byte) (copy ∙ first))
 
   -- and all the bytes are a key text, padded with zeros
-  pub key_text_padded : IsKeyText (prefix ++ drop len (copied ++ drop len (replicate LONGEST_KEY_TEXT 0))) len
+  pub key_text_padded : IsKeyText (prefix ++ drop len (copied ++ drop len (replicate MAX_KEY_TEXT_LEN 0))) len
   key_text_padded = record {
     behind = record {
       short = len-bounds;

@@ -34,19 +34,19 @@ use Rattle.net_model.specs.Rules.{IsKind, IsOfFormat1}
 use Rattle.net_model.proofs.Bounds.{if-Err, Ok-injective, integer_at-required, integer_at-usual}
 use Rattle.net_model.proofs.Bounds.{name_at-is_name, span_at-IsRange}
 use Rattle.sim_base.proofs.Chain.{bind-Ok}
-use Rattle.net_model.specs.declared.limits.TheConstants.{MOST_CLASS, MOST_JOBS, MOST_LINKS, MOST_ROOM}
-use Rattle.net_model.specs.declared.limits.TheConstants.{MOST_SEED, MOST_SERVERS, MOST_TIME, MOST_WEIGHT}
+use Rattle.net_model.specs.declared.limits.TheConstants.{MAX_CLASS, MAX_JOBS, MAX_LINKS, MAX_ROOM}
+use Rattle.net_model.specs.declared.limits.TheConstants.{MAX_SEED, MAX_SERVERS, MAX_TIME, MAX_WEIGHT}
 
 -- ---- kind_of
 
 -- a class that is read is in its range, and 1 in format 1, by the test of the format
 class_at-cases : (station : ℕ) (d : Data) (n : ℕ) (b : Bool)
-    → (if b then Ok 1 else integer_at station Class 1 MOST_CLASS (Some 1) d) ≡ Ok n
-    → (1 ≤ n) × (n ≤ MOST_CLASS) × (b ≡ true → n ≡ 1)
+    → (if b then Ok 1 else integer_at station Class 1 MAX_CLASS (Some 1) d) ≡ Ok n
+    → (1 ≤ n) × (n ≤ MAX_CLASS) × (b ≡ true → n ≡ 1)
 class_at-cases station d n true h = let same = Ok-injective 1 n h in
     (omega (arith, same), omega (arith, same), λ _. sym same)
 class_at-cases station d n false h =
-    let (low, high) = integer_at-usual station Class 1 MOST_CLASS 1 d n (omega arith) (omega arith) h in
+    let (low, high) = integer_at-usual station Class 1 MAX_CLASS 1 d n (omega arith) (omega arith) h in
     (low, high, λ e. absurd (false≢true e))
 
 -- and an order that is read is by arrival in format 1
@@ -69,9 +69,9 @@ source_of-holds : (format station : ℕ) (d : Data) (kind : Kind) → source_of 
     → KindHolds format false kind
 source_of-holds format station d kind h =
     let (every, e1, h1) = bind-Ok (span_at station Every 1 d)
-    (λ every. integer_at station Jobs 0 MOST_JOBS None d >>=
+    (λ every. integer_at station Jobs 0 MAX_JOBS None d >>=
     (λ jobs. class_at format station d >>= (λ class. Ok (Source every.lo every.hi jobs class)))) kind h in
-    let (jobs, e2, h2) = bind-Ok (integer_at station Jobs 0 MOST_JOBS None d)
+    let (jobs, e2, h2) = bind-Ok (integer_at station Jobs 0 MAX_JOBS None d)
     (λ jobs. class_at format station d >>= (λ class. Ok (Source every.lo every.hi jobs class))) kind h1 in
     let (class, e3, h3) = bind-Ok (class_at format station d) (λ class. Ok (Source every.lo every.hi jobs class)) kind
     h2 in
@@ -80,7 +80,7 @@ source_of-holds format station d kind h =
     subst (λ (k : Kind). KindHolds format false k) {x = does} (Ok-injective does kind h3) (
       record {
         every = span_at-IsRange station Every 1 d every e1;
-        few = (integer_at-required station Jobs 0 MOST_JOBS d jobs e2).1;
+        few = (integer_at-required station Jobs 0 MAX_JOBS d jobs e2).1;
         first = bounds.0;
         last = bounds.1;
       },
@@ -92,12 +92,12 @@ source_of-holds format station d kind h =
 server_of-holds : (format station : ℕ) (d : Data) (kind : Kind) → server_of format station d ≡ Ok kind
     → KindHolds format false kind
 server_of-holds format station d kind h =
-    let (servers, e1, h1) = bind-Ok (integer_at station Servers 1 MOST_SERVERS None d)
-    (λ servers. integer_at station Room 0 MOST_ROOM None d >>=
+    let (servers, e1, h1) = bind-Ok (integer_at station Servers 1 MAX_SERVERS None d)
+    (λ servers. integer_at station Room 0 MAX_ROOM None d >>=
     (λ room. span_at station Service 1 d >>=
     (λ service. order_at format station d >>=
     (λ by_class. Ok (Server servers room service.lo service.hi by_class))))) kind h in
-    let (room, e2, h2) = bind-Ok (integer_at station Room 0 MOST_ROOM None d)
+    let (room, e2, h2) = bind-Ok (integer_at station Room 0 MAX_ROOM None d)
     (λ room. span_at station Service 1 d >>=
     (λ service. order_at format station d >>=
     (λ by_class. Ok (Server servers room service.lo service.hi by_class)))) kind h1 in
@@ -106,13 +106,13 @@ server_of-holds format station d kind h =
     kind h2 in
     let (by_class, e4, h4) = bind-Ok (order_at format station d)
     (λ by_class. Ok (Server servers room service.lo service.hi by_class)) kind h3 in
-    let bounds = integer_at-required station Servers 1 MOST_SERVERS d servers e1 in
+    let bounds = integer_at-required station Servers 1 MAX_SERVERS d servers e1 in
     let does : Kind = Server servers room service.lo service.hi by_class in
     subst (λ (k : Kind). KindHolds format false k) {x = does} (Ok-injective does kind h4) (
       record {
         some = bounds.0;
         few = bounds.1;
-        small = (integer_at-required station Room 0 MOST_ROOM d room e2).1;
+        small = (integer_at-required station Room 0 MAX_ROOM d room e2).1;
         service = span_at-IsRange station Service 1 d service e3;
       },
       λ one. order_at-cases station d by_class (format == 1) e4 (eq-eqb format 1 one),
@@ -153,30 +153,30 @@ kind_of-holds format station SinkWord d kind h =
 
 -- a named link keeps its bounds
 pub record IsNamedLink (link : NamedLink) : Type 0 where
-  pub small : link.delay ≤ MOST_TIME
+  pub small : link.delay ≤ MAX_TIME
   pub weight : IsWeight link.weight
 
 -- so does a link that is read
 link_of-holds : (station : ℕ) (d : Data) (link : NamedLink) → link_of station d ≡ Ok link → IsNamedLink link
 link_of-holds station d link h =
     let (known, e1, h1) = bind-Ok (only_known station link_keys d)
-    (λ _. name_at station To d >>= (λ to. integer_at station DelayField 1 MOST_TIME None d >>=
-    (λ delay. integer_at station Weight 1 MOST_WEIGHT (Some 1) d >>=
+    (λ _. name_at station To d >>= (λ to. integer_at station DelayField 1 MAX_TIME None d >>=
+    (λ delay. integer_at station Weight 1 MAX_WEIGHT (Some 1) d >>=
     (λ weight. Ok (record { to = to; delay = delay; weight = weight }))))) link h in
     let (to, e2, h2) = bind-Ok (name_at station To d)
-    (λ to. integer_at station DelayField 1 MOST_TIME None d >>=
-    (λ delay. integer_at station Weight 1 MOST_WEIGHT (Some 1) d >>=
+    (λ to. integer_at station DelayField 1 MAX_TIME None d >>=
+    (λ delay. integer_at station Weight 1 MAX_WEIGHT (Some 1) d >>=
     (λ weight. Ok (record { to = to; delay = delay; weight = weight })))) link h1 in
-    let (delay, e3, h3) = bind-Ok (integer_at station DelayField 1 MOST_TIME None d)
-    (λ delay. integer_at station Weight 1 MOST_WEIGHT (Some 1) d >>=
+    let (delay, e3, h3) = bind-Ok (integer_at station DelayField 1 MAX_TIME None d)
+    (λ delay. integer_at station Weight 1 MAX_WEIGHT (Some 1) d >>=
     (λ weight. Ok (record { to = to; delay = delay; weight = weight }))) link h2 in
-    let (weight, e4, h4) = bind-Ok (integer_at station Weight 1 MOST_WEIGHT (Some 1) d)
+    let (weight, e4, h4) = bind-Ok (integer_at station Weight 1 MAX_WEIGHT (Some 1) d)
     (λ weight. Ok (record { to = to; delay = delay; weight = weight })) link h3 in
-    let bounds = integer_at-usual station Weight 1 MOST_WEIGHT 1 d weight (omega arith) (omega arith) e4 in
+    let bounds = integer_at-usual station Weight 1 MAX_WEIGHT 1 d weight (omega arith) (omega arith) e4 in
     let made : NamedLink = record { to = to; delay = delay; weight = weight } in
     subst (λ (l : NamedLink). IsNamedLink l) {x = made} (Ok-injective made link h4)
     (record {
-      small = (integer_at-required station DelayField 1 MOST_TIME d delay e3).1;
+      small = (integer_at-required station DelayField 1 MAX_TIME d delay e3).1;
       weight = record { heavy = bounds.0; light = bounds.1 };
     })
 
@@ -195,17 +195,17 @@ each_link-holds station (d ∷ ds) links h =
 
 -- these are not too many
 link_tables-few : (station : ℕ) (found : Option Data) (ds : List Data) → link_tables station found ≡ Ok ds
-    → length ds ≤ MOST_LINKS
+    → length ds ≤ MAX_LINKS
 link_tables-few station None ds h = let same = ap length (Ok-injective [] ds h) in omega (arith, same)
 link_tables-few station (Some d) ds h =
     let (read, e1, h1) = bind-Ok (tables_of station Link d) (few_enough station) ds h in
-    let (few, same) = if-Err (nat_lt MOST_LINKS (length read)) (Ok read) ds (TooMany station) h1 in
+    let (few, same) = if-Err (nat_lt MAX_LINKS (length read)) (Ok read) ds (TooMany station) h1 in
     let size = ap length (Ok-injective read ds same) in
-    omega (arith, size, ltb-false MOST_LINKS (length read) few)
+    omega (arith, size, ltb-false MAX_LINKS (length read) few)
 
 -- the links of a station, which is a sink or not
 abbrev LinksHold : Bool → List NamedLink → Type 0
-LinksHold sink links = AllByRecursion IsNamedLink links × (length links ≤ MOST_LINKS) × (sink ≡ true → length links ≡ 0)
+LinksHold sink links = AllByRecursion IsNamedLink links × (length links ≤ MAX_LINKS) × (sink ≡ true → length links ≡ 0)
 
 -- a station that is no sink
 links_of-open : (station : ℕ) (d : Data) (links : List NamedLink)
@@ -231,10 +231,10 @@ links_of-holds station SinkWord d links h = subst (λ (ls : List NamedLink). Lin
 pub record IsDraft (format : ℕ) (draft : DraftSite) : Type 0 where
   pub named : is_name draft.name ≡ true
   pub no_analyst : draft.name ≢ codes "analyst"
-  pub stream : draft.stream ≤ MOST_SEED
+  pub stream : draft.stream ≤ MAX_SEED
   pub kind : IsKind draft.kind
   pub of_format : format ≡ 1 → IsOfFormat1 draft.kind
-  pub few : length draft.links ≤ MOST_LINKS
+  pub few : length draft.links ≤ MAX_LINKS
   pub links : AllByRecursion IsNamedLink draft.links
   pub closed : is_sink draft.kind ≡ true → length draft.links ≡ 0
 
@@ -265,28 +265,28 @@ links-same_test a b n same f e = f (sym same ∙ e)
 
 -- a station that is read keeps to the rules, with a new name
 draft_of-holds : (format : ℕ) (earlier : List DraftSite) (station : ℕ) (d : Data) (draft : DraftSite)
-    → station ≤ MOST_SEED → draft_of format earlier station d ≡ Ok draft
+    → station ≤ MAX_SEED → draft_of format earlier station d ≡ Ok draft
     → IsDraft format draft × (has_name draft.name earlier ≡ false)
 draft_of-holds format earlier station d draft near h =
     let (name, e1, h1) = bind-Ok (station_name_at station earlier d)
     (λ name. kind_word_at station d >>=
     (λ word. only_known station (station_keys format word) d >>=
-    (λ _. integer_at station Stream 0 MOST_SEED (Some station) d >>=
+    (λ _. integer_at station Stream 0 MAX_SEED (Some station) d >>=
     (λ stream. kind_of format station word d >>=
     (λ kind. links_of station word d >>=
     (λ links. Ok (record { name = name; kind = kind; stream = stream; links = links }))))))) draft h in
     let (word, e2, h2) = bind-Ok (kind_word_at station d)
     (λ word. only_known station (station_keys format word) d >>=
-    (λ _. integer_at station Stream 0 MOST_SEED (Some station) d >>=
+    (λ _. integer_at station Stream 0 MAX_SEED (Some station) d >>=
     (λ stream. kind_of format station word d >>=
     (λ kind. links_of station word d >>=
     (λ links. Ok (record { name = name; kind = kind; stream = stream; links = links })))))) draft h1 in
     let (known, e3, h3) = bind-Ok (only_known station (station_keys format word) d)
-    (λ _. integer_at station Stream 0 MOST_SEED (Some station) d >>=
+    (λ _. integer_at station Stream 0 MAX_SEED (Some station) d >>=
     (λ stream. kind_of format station word d >>=
     (λ kind. links_of station word d >>=
     (λ links. Ok (record { name = name; kind = kind; stream = stream; links = links }))))) draft h2 in
-    let (stream, e4, h4) = bind-Ok (integer_at station Stream 0 MOST_SEED (Some station) d)
+    let (stream, e4, h4) = bind-Ok (integer_at station Stream 0 MAX_SEED (Some station) d)
     (λ stream. kind_of format station word d >>=
     (λ kind. links_of station word d >>=
     (λ links. Ok (record { name = name; kind = kind; stream = stream; links = links })))) draft h3 in
@@ -298,7 +298,7 @@ draft_of-holds format earlier station d draft near h =
     let named = station_name_at-holds station earlier d name e1 in
     let does = kind_of-holds format station word d kind e5 in
     let leads = links_of-holds station word d links e6 in
-    let drawn = integer_at-usual station Stream 0 MOST_SEED station d stream (omega arith) (omega arith) e4 in
+    let drawn = integer_at-usual station Stream 0 MAX_SEED station d stream (omega arith) (omega arith) e4 in
     let made : DraftSite = record { name = name; kind = kind; stream = stream; links = links } in
     subst (λ (x : DraftSite). IsDraft format x × (has_name x.name earlier ≡ false)) {x = made}
     (Ok-injective made draft h6) (
@@ -350,7 +350,7 @@ AreDistinct-cons name names other distinct =
 
 -- stations whose numbers may be those of their streams keep to the rules and have new and distinct names, one a table
 pub drafts_of-holds : (format : ℕ) (earlier : List DraftSite) (station : ℕ) (ds : List Data) (drafts : List DraftSite)
-    → station + length ds ≤ MOST_SEED → drafts_of format earlier station ds ≡ Ok drafts
+    → station + length ds ≤ MAX_SEED → drafts_of format earlier station ds ≡ Ok drafts
     → AreDrafts format earlier drafts (length ds)
 drafts_of-holds format earlier station [] drafts near h =
     subst (λ (xs : List DraftSite). AreDrafts format earlier xs 0) (Ok-injective [] drafts h)

@@ -35,8 +35,8 @@ use Rattle.net_model.proofs.Bounds.{if-Err, if-Ok, Err-not-Ok, Ok-injective, int
 use Rattle.sim_base.proofs.Chain.{bind-Ok}
 use Rattle.sim_base.proofs.ListLaws.{all_weaker}
 use Rattle.net_model.proofs.Stations.{AreDrafts, IsDraft, IsNamedLink, drafts_of-holds}
-use Rattle.net_model.specs.declared.limits.TheConstants.{MOST_HORIZON, MOST_LIMIT, MOST_LINKS, MOST_SEED}
-use Rattle.net_model.specs.declared.limits.TheConstants.{MOST_STATIONS, MOST_TIME, USUAL_LIMIT}
+use Rattle.net_model.specs.declared.limits.TheConstants.{MAX_HORIZON, MAX_LIMIT, MAX_LINKS, MAX_SEED}
+use Rattle.net_model.specs.declared.limits.TheConstants.{MAX_STATIONS, MAX_TIME, USUAL_LIMIT}
 
 -- ---- link_along, links_of_named
 
@@ -47,7 +47,7 @@ record IsResolved (lookahead : ℕ) (all : List DraftSite) (link : Link) : Type 
   pub there : others < length all
   pub receives : is_source (kind_after others all) ≡ false
   pub slow : lookahead ≤ link.delay
-  pub small : link.delay ≤ MOST_TIME
+  pub small : link.delay ≤ MAX_TIME
   pub weight : IsWeight link.weight
 
 -- a link that is read and resolved is one
@@ -116,10 +116,10 @@ HasWayOut-tested (Router turn) (l ∷ links) some closed = omega arith
 record IsResolvedSite (format lookahead : ℕ) (all : List DraftSite) (site : Site) : Type 0 where
   pub named : is_name site.name ≡ true
   pub no_analyst : site.name ≢ codes "analyst"
-  pub stream : site.stream ≤ MOST_SEED
+  pub stream : site.stream ≤ MAX_SEED
   pub kind : IsKind site.kind
   pub of_format : format ≡ 1 → IsOfFormat1 site.kind
-  pub few : length site.links ≤ MOST_LINKS
+  pub few : length site.links ≤ MAX_LINKS
   pub links : AllByRecursion (IsResolved lookahead all) site.links
   pub way : HasWayOut site.kind site.links
 
@@ -248,12 +248,12 @@ module _ (top : Top) (drafts : List DraftSite) (sites : List Site)
 record IsTop (top : Top) : Type 0 where
   pub format : (top.format ≡ 1) ⊎ (top.format ≡ 2)
   pub ahead : 1 ≤ top.lookahead
-  pub near : top.lookahead ≤ MOST_TIME
+  pub near : top.lookahead ≤ MAX_TIME
   pub horizon : 1 ≤ top.horizon
-  pub soon : top.horizon ≤ MOST_HORIZON
-  pub seed : top.seed ≤ MOST_SEED
+  pub soon : top.horizon ≤ MAX_HORIZON
+  pub seed : top.seed ≤ MAX_SEED
   pub limit : 1 ≤ top.limit
-  pub short : top.limit ≤ MOST_LIMIT
+  pub short : top.limit ≤ MAX_LIMIT
 
 -- a number from 1 to 2 is one of them
 one_or_two : (n : ℕ) → 1 ≤ n → n ≤ 2 → (n ≡ 1) ⊎ (n ≡ 2)
@@ -266,10 +266,10 @@ one_or_two (suc (suc (suc n))) low high = absurd (omega arith)
 top_of-holds : (root : Data) (top : Top) → top_of root ≡ Ok top → IsTop top
 top_of-holds root top h =
     let (format, e1, h1) = bind-Ok (integer_at 0 Format 1 2 (Some 1) root)
-    (λ format. integer_at 0 Lookahead 1 MOST_TIME None root >>=
-    (λ lookahead. integer_at 0 Horizon 1 MOST_HORIZON None root >>=
-    (λ horizon. integer_at 0 Seed 0 MOST_SEED (Some 0) root >>=
-    (λ seed. integer_at 0 Limit 1 MOST_LIMIT (Some USUAL_LIMIT) root >>=
+    (λ format. integer_at 0 Lookahead 1 MAX_TIME None root >>=
+    (λ lookahead. integer_at 0 Horizon 1 MAX_HORIZON None root >>=
+    (λ horizon. integer_at 0 Seed 0 MAX_SEED (Some 0) root >>=
+    (λ seed. integer_at 0 Limit 1 MAX_LIMIT (Some USUAL_LIMIT) root >>=
     (λ limit. Ok (record {
       format = format;
       lookahead = lookahead;
@@ -277,10 +277,10 @@ top_of-holds root top h =
       seed = seed;
       limit = limit;
     })))))) top h in
-    let (lookahead, e2, h2) = bind-Ok (integer_at 0 Lookahead 1 MOST_TIME None root)
-    (λ lookahead. integer_at 0 Horizon 1 MOST_HORIZON None root >>=
-    (λ horizon. integer_at 0 Seed 0 MOST_SEED (Some 0) root >>=
-    (λ seed. integer_at 0 Limit 1 MOST_LIMIT (Some USUAL_LIMIT) root >>=
+    let (lookahead, e2, h2) = bind-Ok (integer_at 0 Lookahead 1 MAX_TIME None root)
+    (λ lookahead. integer_at 0 Horizon 1 MAX_HORIZON None root >>=
+    (λ horizon. integer_at 0 Seed 0 MAX_SEED (Some 0) root >>=
+    (λ seed. integer_at 0 Limit 1 MAX_LIMIT (Some USUAL_LIMIT) root >>=
     (λ limit. Ok (record {
       format = format;
       lookahead = lookahead;
@@ -288,9 +288,9 @@ top_of-holds root top h =
       seed = seed;
       limit = limit;
     }))))) top h1 in
-    let (horizon, e3, h3) = bind-Ok (integer_at 0 Horizon 1 MOST_HORIZON None root)
-    (λ horizon. integer_at 0 Seed 0 MOST_SEED (Some 0) root >>=
-    (λ seed. integer_at 0 Limit 1 MOST_LIMIT (Some USUAL_LIMIT) root >>=
+    let (horizon, e3, h3) = bind-Ok (integer_at 0 Horizon 1 MAX_HORIZON None root)
+    (λ horizon. integer_at 0 Seed 0 MAX_SEED (Some 0) root >>=
+    (λ seed. integer_at 0 Limit 1 MAX_LIMIT (Some USUAL_LIMIT) root >>=
     (λ limit. Ok (record {
       format = format;
       lookahead = lookahead;
@@ -298,8 +298,8 @@ top_of-holds root top h =
       seed = seed;
       limit = limit;
     })))) top h2 in
-    let (seed, e4, h4) = bind-Ok (integer_at 0 Seed 0 MOST_SEED (Some 0) root)
-    (λ seed. integer_at 0 Limit 1 MOST_LIMIT (Some USUAL_LIMIT) root >>=
+    let (seed, e4, h4) = bind-Ok (integer_at 0 Seed 0 MAX_SEED (Some 0) root)
+    (λ seed. integer_at 0 Limit 1 MAX_LIMIT (Some USUAL_LIMIT) root >>=
     (λ limit. Ok (record {
       format = format;
       lookahead = lookahead;
@@ -307,7 +307,7 @@ top_of-holds root top h =
       seed = seed;
       limit = limit;
     }))) top h3 in
-    let (limit, e5, h5) = bind-Ok (integer_at 0 Limit 1 MOST_LIMIT (Some USUAL_LIMIT) root)
+    let (limit, e5, h5) = bind-Ok (integer_at 0 Limit 1 MAX_LIMIT (Some USUAL_LIMIT) root)
     (λ limit. Ok (record {
       format = format;
       lookahead = lookahead;
@@ -316,10 +316,10 @@ top_of-holds root top h =
       limit = limit;
     })) top h4 in
     let formats = integer_at-usual 0 Format 1 2 1 root format (omega arith) (omega arith) e1 in
-    let aheads = integer_at-required 0 Lookahead 1 MOST_TIME root lookahead e2 in
-    let horizons = integer_at-required 0 Horizon 1 MOST_HORIZON root horizon e3 in
-    let seeds = integer_at-usual 0 Seed 0 MOST_SEED 0 root seed (omega arith) (omega arith) e4 in
-    let limits = integer_at-usual 0 Limit 1 MOST_LIMIT USUAL_LIMIT root limit (omega arith) (omega arith) e5 in
+    let aheads = integer_at-required 0 Lookahead 1 MAX_TIME root lookahead e2 in
+    let horizons = integer_at-required 0 Horizon 1 MAX_HORIZON root horizon e3 in
+    let seeds = integer_at-usual 0 Seed 0 MAX_SEED 0 root seed (omega arith) (omega arith) e4 in
+    let limits = integer_at-usual 0 Limit 1 MAX_LIMIT USUAL_LIMIT root limit (omega arith) (omega arith) e5 in
     let made : Top = record { format = format; lookahead = lookahead; horizon = horizon; seed = seed; limit = limit } in
     subst (λ (t : Top). IsTop t) {x = made} (Ok-injective made top h5)
     (record {
@@ -337,22 +337,22 @@ top_of-holds root top h =
 not_zero : (n : ℕ) → (n == 0) ≡ false → 1 ≤ n
 not_zero n h = grind (arith, nat_tests)
 
--- the tables of stations are 1 to MOST_STATIONS
+-- the tables of stations are 1 to MAX_STATIONS
 stations_at-count : (root : Data) (ds : List Data) → stations_at root ≡ Ok ds
-    → (1 ≤ length ds) × (length ds ≤ MOST_STATIONS)
+    → (1 ≤ length ds) × (length ds ≤ MAX_STATIONS)
 stations_at-count root ds h =
     let (read, e1, h1) = bind-Ok (value_at 0 Station root >>= tables_of 0 Station) in_number ds h in
     let (some, h2) = if-Err (length read == 0)
-    (if nat_lt MOST_STATIONS (length read) then Err (TooMany 0) else Ok read) ds (OutOfRange 0 Station) h1 in
-    let (few, h3) = if-Err (nat_lt MOST_STATIONS (length read)) (Ok read) ds (TooMany 0) h2 in
-    subst (λ (xs : List Data). (1 ≤ length xs) × (length xs ≤ MOST_STATIONS)) (Ok-injective read ds h3)
-    (not_zero (length read) some, ltb-false MOST_STATIONS (length read) few)
+    (if nat_lt MAX_STATIONS (length read) then Err (TooMany 0) else Ok read) ds (OutOfRange 0 Station) h1 in
+    let (few, h3) = if-Err (nat_lt MAX_STATIONS (length read)) (Ok read) ds (TooMany 0) h2 in
+    subst (λ (xs : List Data). (1 ≤ length xs) × (length xs ≤ MAX_STATIONS)) (Ok-injective read ds h3)
+    (not_zero (length read) some, ltb-false MAX_STATIONS (length read) few)
 
 -- ---- sites_of_tables, model_of
 
 -- the network of such a top and of the stations of these tables meets the rules
 sites_of_tables-holds : (top : Top) (ds : List Data) (sites : List Site) → IsTop top
-    → (1 ≤ length ds) × (length ds ≤ MOST_STATIONS) → sites_of_tables top ds ≡ Ok sites → IsNet (with_sites top sites)
+    → (1 ≤ length ds) × (length ds ≤ MAX_STATIONS) → sites_of_tables top ds ≡ Ok sites → IsNet (with_sites top sites)
 sites_of_tables-holds top ds sites is count h =
     let (drafts, e1, h1) = bind-Ok (drafts_of top.format [] 1 ds) (λ drafts. sites_of top.lookahead drafts 1 drafts)
     sites h in

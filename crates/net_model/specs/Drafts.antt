@@ -14,7 +14,7 @@ use Rattle.net_model.specs.Keys.{only_known, station_keys}
 use Rattle.net_model.specs.Kinds.{kind_of, kind_word_at}
 use Rattle.net_model.specs.NamedLinks.{links_of}
 use Rattle.net_model.specs.Reading.{integer_at, name_at}
-use Rattle.net_model.specs.declared.limits.TheConstants.{MOST_SEED}
+use Rattle.net_model.specs.declared.limits.TheConstants.{MAX_SEED}
 
 -- a station whose links name their receivers
 pub record DraftSite : Type 0 where
@@ -49,7 +49,7 @@ draft_of format earlier station d =
     station_name_at station earlier d >>= (λ name.
     kind_word_at station d >>= (λ word.
     only_known station (station_keys format word) d >>= (λ _.
-    integer_at station Stream 0 MOST_SEED (Some station) d >>= (λ stream.
+    integer_at station Stream 0 MAX_SEED (Some station) d >>= (λ stream.
     kind_of format station word d >>= (λ kind.
     links_of station word d >>= (λ links.
     Ok (record { name = name; kind = kind; stream = stream; links = links })))))))

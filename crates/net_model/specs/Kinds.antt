@@ -17,7 +17,7 @@ use Rattle.net_model.specs.declared.station.Kind.TheVariants.{Source, Server, De
 use Rattle.sim_base.specs.Chain.{◌>>=◌}
 use Rattle.net_model.specs.Fields.{key_of}
 use Rattle.net_model.specs.Reading.{integer_at, span_at, text_at, text_of}
-use Rattle.net_model.specs.declared.limits.TheConstants.{MOST_CLASS, MOST_JOBS, MOST_SERVERS, MOST_ROOM}
+use Rattle.net_model.specs.declared.limits.TheConstants.{MAX_CLASS, MAX_JOBS, MAX_SERVERS, MAX_ROOM}
 
 -- a keyword that a key allows
 abbrev pub known_word : {A : Type 0} → ℕ → Field → Option A → Result A ModelFault
@@ -39,7 +39,7 @@ kind_word_at station d = text_at station KindField d >>= (λ text. known_word st
 
 -- 1 in format 1, which has no classes
 abbrev pub class_at : ℕ → ℕ → Data → Result ℕ ModelFault
-class_at format station d = if format == 1 then Ok 1 else integer_at station Class 1 MOST_CLASS (Some 1) d
+class_at format station d = if format == 1 then Ok 1 else integer_at station Class 1 MAX_CLASS (Some 1) d
 
 -- whether the order is by class
 abbrev pub order_word : List ℕ → Option Bool
@@ -64,15 +64,15 @@ by_word text = if bytes_eq text (codes "weights") then Some false else
 abbrev pub source_of : ℕ → ℕ → Data → Result Kind ModelFault
 source_of format station d =
     span_at station Every 1 d >>= (λ every.
-    integer_at station Jobs 0 MOST_JOBS None d >>= (λ jobs.
+    integer_at station Jobs 0 MAX_JOBS None d >>= (λ jobs.
     class_at format station d >>= (λ class.
     Ok (Source every.lo every.hi jobs class))))
 
 -- a server: its servers, its room, the range of its services, and its order
 abbrev pub server_of : ℕ → ℕ → Data → Result Kind ModelFault
 server_of format station d =
-    integer_at station Servers 1 MOST_SERVERS None d >>= (λ servers.
-    integer_at station Room 0 MOST_ROOM None d >>= (λ room.
+    integer_at station Servers 1 MAX_SERVERS None d >>= (λ servers.
+    integer_at station Room 0 MAX_ROOM None d >>= (λ room.
     span_at station Service 1 d >>= (λ service.
     order_at format station d >>= (λ by_class.
     Ok (Server servers room service.lo service.hi by_class)))))

@@ -11,15 +11,15 @@ use Rattle.sim_base.specs.Chain.{◌>>=◌}
 use Rattle.net_model.specs.Fields.{key_of}
 use Rattle.net_model.specs.Keys.{only_known, link_keys}
 use Rattle.net_model.specs.Reading.{integer_at, name_at, tables_of}
-use Rattle.net_model.specs.declared.limits.TheConstants.{MOST_TIME, MOST_WEIGHT, MOST_LINKS}
+use Rattle.net_model.specs.declared.limits.TheConstants.{MAX_TIME, MAX_WEIGHT, MAX_LINKS}
 
 -- a link: the name of its receiver, its delay, and its weight, by default 1
 abbrev pub link_of : ℕ → Data → Result NamedLink ModelFault
 link_of station d =
     only_known station link_keys d >>= (λ _.
     name_at station To d >>= (λ to.
-    integer_at station Delay 1 MOST_TIME None d >>= (λ delay.
-    integer_at station Weight 1 MOST_WEIGHT (Some 1) d >>= (λ weight.
+    integer_at station Delay 1 MAX_TIME None d >>= (λ delay.
+    integer_at station Weight 1 MAX_WEIGHT (Some 1) d >>= (λ weight.
     Ok (record { to = to; delay = delay; weight = weight })))))
 
 -- the links one after another
@@ -29,7 +29,7 @@ each_link station (d ∷ ds) = link_of station d >>= (λ link. each_link station
 
 -- no more links than a station may have
 abbrev pub few_enough : ℕ → List Data → Result (List Data) ModelFault
-few_enough station ds = if nat_lt MOST_LINKS (length ds) then Err (TooMany station) else Ok ds
+few_enough station ds = if nat_lt MAX_LINKS (length ds) then Err (TooMany station) else Ok ds
 
 -- without the key there are no links
 abbrev pub link_tables : ℕ → Option Data → Result (List Data) ModelFault

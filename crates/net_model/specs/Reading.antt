@@ -62,7 +62,7 @@ as_name station text = if is_name text then Ok text else Err (BadName station)
 abbrev pub name_at : ℕ → Field → Data → Result (List ℕ) ModelFault
 name_at station field t = text_at station field t >>= as_name station
 
--- a range of times, from lo to hi, both at most MOST_TIME
+-- a range of times, from lo to hi, both at most MAX_TIME
 abbrev pub span : ℕ → Field → ℕ → ℕ → ℕ → Result Span ModelFault
 span station field low lo hi =
     if is_range low lo hi then Ok (record { lo = lo; hi = hi }) else Err (OutOfRange station field)

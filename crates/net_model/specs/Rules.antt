@@ -7,36 +7,36 @@ use Rattle.net_model.specs.declared.station.Kind.{Kind}
 use Rattle.net_model.specs.declared.station.Kind.TheVariants.{Source, Server, Delay, Router, Sink}
 use Rattle.net_model.specs.declared.station.Link.{Link}
 use Rattle.net_model.specs.Net.{Net, Site, HasStation, site_of, is_source}
-use Rattle.net_model.specs.declared.limits.TheConstants.{MOST_TIME, MOST_HORIZON, MOST_SEED, MOST_LIMIT}
-use Rattle.net_model.specs.declared.limits.TheConstants.{MOST_STATIONS, MOST_LINKS, MOST_JOBS, MOST_CLASS}
-use Rattle.net_model.specs.declared.limits.TheConstants.{MOST_SERVERS, MOST_ROOM}
+use Rattle.net_model.specs.declared.limits.TheConstants.{MAX_TIME, MAX_HORIZON, MAX_SEED, MAX_LIMIT}
+use Rattle.net_model.specs.declared.limits.TheConstants.{MAX_STATIONS, MAX_LINKS, MAX_JOBS, MAX_CLASS}
+use Rattle.net_model.specs.declared.limits.TheConstants.{MAX_SERVERS, MAX_ROOM}
 
 -- whether n is from low to high
 abbrev pub is_within : ℕ → ℕ → ℕ → Bool
 is_within low high n = nat_le low n && nat_le n high
 
--- whether the times from lo to hi are a range: no less than low, in order, and at most MOST_TIME
+-- whether the times from lo to hi are a range: no less than low, in order, and at most MAX_TIME
 abbrev pub is_range : ℕ → ℕ → ℕ → Bool
-is_range low lo hi = (nat_le low lo && nat_le lo hi) && nat_le hi MOST_TIME
+is_range low lo hi = (nat_le low lo && nat_le lo hi) && nat_le hi MAX_TIME
 
 -- they are such a range
 pub record IsRange (low lo hi : ℕ) : Type 0 where
   pub above : low ≤ lo
   pub ordered : lo ≤ hi
-  pub small : hi ≤ MOST_TIME
+  pub small : hi ≤ MAX_TIME
 
--- a source has a range of times from 1 on, at most MOST_JOBS jobs, and an existing class
+-- a source has a range of times from 1 on, at most MAX_JOBS jobs, and an existing class
 pub record IsSource (lo hi jobs class : ℕ) : Type 0 where
   pub every : IsRange 1 lo hi
-  pub few : jobs ≤ MOST_JOBS
+  pub few : jobs ≤ MAX_JOBS
   pub first : 1 ≤ class
-  pub last : class ≤ MOST_CLASS
+  pub last : class ≤ MAX_CLASS
 
--- a server has at least 1 server, at most MOST_SERVERS, at most MOST_ROOM room, and a range of times from 1 on
+-- a server has at least 1 server, at most MAX_SERVERS, at most MAX_ROOM room, and a range of times from 1 on
 pub record IsServer (servers room lo hi : ℕ) : Type 0 where
   pub some : 1 ≤ servers
-  pub few : servers ≤ MOST_SERVERS
-  pub small : room ≤ MOST_ROOM
+  pub few : servers ≤ MAX_SERVERS
+  pub small : room ≤ MAX_ROOM
   pub service : IsRange 1 lo hi
 
 -- a station keeps the rules of its kind
@@ -58,7 +58,7 @@ pub record IsLink (net : Net) (link : Link) : Type 0 where
   pub is_station : HasStation net link.to
   pub receives : is_source (site_of net link.to).kind ≡ false
   pub slow : net.lookahead ≤ link.delay
-  pub small : link.delay ≤ MOST_TIME
+  pub small : link.delay ≤ MAX_TIME
   pub weight : IsWeight link.weight
 
 -- every station except a sink has a link; at a sink jobs leave the network
@@ -70,10 +70,10 @@ HasWayOut _ links = 1 ≤ length links
 pub record IsSite (net : Net) (site : Site) : Type 0 where
   pub named : is_name site.name ≡ true
   pub no_analyst : site.name ≢ codes "analyst"
-  pub stream : site.stream ≤ MOST_SEED
+  pub stream : site.stream ≤ MAX_SEED
   pub kind : IsKind site.kind
   pub format : net.format ≡ 1 → IsOfFormat1 site.kind
-  pub few : length site.links ≤ MOST_LINKS
+  pub few : length site.links ≤ MAX_LINKS
   pub links : AllByRecursion (IsLink net) site.links
   pub way : HasWayOut site.kind site.links
 
@@ -81,13 +81,13 @@ pub record IsSite (net : Net) (site : Site) : Type 0 where
 pub record IsNet (net : Net) : Type 0 where
   pub format : (net.format ≡ 1) ⊎ (net.format ≡ 2)
   pub ahead : 1 ≤ net.lookahead
-  pub near : net.lookahead ≤ MOST_TIME
+  pub near : net.lookahead ≤ MAX_TIME
   pub horizon : 1 ≤ net.horizon
-  pub soon : net.horizon ≤ MOST_HORIZON
-  pub seed : net.seed ≤ MOST_SEED
+  pub soon : net.horizon ≤ MAX_HORIZON
+  pub seed : net.seed ≤ MAX_SEED
   pub limit : 1 ≤ net.limit
-  pub short : net.limit ≤ MOST_LIMIT
+  pub short : net.limit ≤ MAX_LIMIT
   pub some : 1 ≤ length net.sites
-  pub few : length net.sites ≤ MOST_STATIONS
+  pub few : length net.sites ≤ MAX_STATIONS
   pub distinct : AreDistinct (map (λ site. site.name) net.sites)
   pub sites : AllByRecursion (IsSite net) net.sites

@@ -13,7 +13,7 @@ use Rattle.net_model.specs.Net.{Net, Site}
 use Rattle.net_model.specs.Resolving.{sites_of}
 use Rattle.net_model.specs.Sites.{with_sites}
 use Rattle.net_model.specs.Top.{stations_at, top_of}
-use Rattle.sim_base.specs.declared.limits.TheConstants.{MOST_FILE_BYTES}
+use Rattle.sim_base.specs.declared.limits.TheConstants.{MAX_FILE_BYTES}
 
 -- the tree of a text, as `toml` reads it
 abbrev pub tree : List ℕ → Option Members
@@ -39,4 +39,4 @@ model_of_tree (Some ms) = model_of (table ms)
 
 -- the model of a text
 abbrev pub model : List ℕ → Result Net ModelFault
-model text = if nat_lt MOST_FILE_BYTES (length text) then Err TooLong else model_of_tree (tree text)
+model text = if nat_lt MAX_FILE_BYTES (length text) then Err TooLong else model_of_tree (tree text)

@@ -7,23 +7,23 @@ use Rattle.net_model.specs.declared.field.Field.TheVariants.{Format, Lookahead, 
 use Rattle.net_model.specs.declared.top.Top.{Top}
 use Rattle.sim_base.specs.Chain.{◌>>=◌}
 use Rattle.net_model.specs.Reading.{integer_at, value_at, tables_of}
-use Rattle.net_model.specs.declared.limits.TheConstants.{MOST_TIME, MOST_HORIZON, MOST_SEED}
-use Rattle.net_model.specs.declared.limits.TheConstants.{MOST_LIMIT, USUAL_LIMIT, MOST_STATIONS}
+use Rattle.net_model.specs.declared.limits.TheConstants.{MAX_TIME, MAX_HORIZON, MAX_SEED}
+use Rattle.net_model.specs.declared.limits.TheConstants.{MAX_LIMIT, USUAL_LIMIT, MAX_STATIONS}
 
 -- the numbers of the whole model, in the order in which they are tested
 abbrev pub top_of : Data → Result Top ModelFault
 top_of root =
     integer_at 0 Format 1 2 (Some 1) root >>= (λ format.
-    integer_at 0 Lookahead 1 MOST_TIME None root >>= (λ lookahead.
-    integer_at 0 Horizon 1 MOST_HORIZON None root >>= (λ horizon.
-    integer_at 0 Seed 0 MOST_SEED (Some 0) root >>= (λ seed.
-    integer_at 0 Limit 1 MOST_LIMIT (Some USUAL_LIMIT) root >>= (λ limit.
+    integer_at 0 Lookahead 1 MAX_TIME None root >>= (λ lookahead.
+    integer_at 0 Horizon 1 MAX_HORIZON None root >>= (λ horizon.
+    integer_at 0 Seed 0 MAX_SEED (Some 0) root >>= (λ seed.
+    integer_at 0 Limit 1 MAX_LIMIT (Some USUAL_LIMIT) root >>= (λ limit.
     Ok (record { format = format; lookahead = lookahead; horizon = horizon; seed = seed; limit = limit }))))))
 
--- 1 to MOST_STATIONS stations
+-- 1 to MAX_STATIONS stations
 abbrev pub in_number : List Data → Result (List Data) ModelFault
 in_number ds = if length ds == 0 then Err (OutOfRange 0 Station) else
-    (if nat_lt MOST_STATIONS (length ds) then Err (TooMany 0) else Ok ds)
+    (if nat_lt MAX_STATIONS (length ds) then Err (TooMany 0) else Ok ds)
 
 -- the tables of the stations
 abbrev pub stations_at : Data → Result (List Data) ModelFault

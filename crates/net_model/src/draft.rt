@@ -5,13 +5,13 @@ ghost use Rattle.std.specs.Result.{result_map_both};
 ghost use Rattle.std.specs.Str.{bytes_eq};
 ghost use Rattle.toml.specs.View.{view};
 ghost use Rattle.net_model.specs.Drafts.{as_draft, draft_of, drafts_of, station_name_at};
-ghost use Rattle.net_model.specs.declared.limits.TheConstants.{MOST_STATIONS};
+ghost use Rattle.net_model.specs.declared.limits.TheConstants.{MAX_STATIONS};
 
 use crate::fault::ModelFault;
 use crate::field::Field;
 use crate::keys::{only_fields, station_fields};
 use crate::kinds::{kind_key, read_kind};
-use crate::limits::{MOST_LINKS, MOST_SEED};
+use crate::limits::{MAX_LINKS, MAX_SEED};
 use crate::links::{NamedLink, read_links};
 use crate::reading::{integer_key, name_key, spot_at};
 use crate::station::Kind;
@@ -26,7 +26,7 @@ pub struct Draft {
     pub name: Name,
     pub kind: Kind,
     pub stream: u64,
-    pub links: ArrayVec<NamedLink, MOST_LINKS>,
+    pub links: ArrayVec<NamedLink, MAX_LINKS>,
 }
 
 fn is_taken(name: &Name, earlier: &[Draft]) -> bool
@@ -64,7 +64,7 @@ fn read_draft(
     let word = kind_key(station, table)?;
     only_fields(station, station_fields(format, word), table)?;
     let key = spot_at(station, Field::Stream);
-    let stream = integer_key(key, 0, MOST_SEED, Some(u64::from(station)), table)?;
+    let stream = integer_key(key, 0, MAX_SEED, Some(u64::from(station)), table)?;
     let kind = read_kind(format, station, word, table)?;
     let links = read_links(station, word, table)?;
     Ok(Draft {
@@ -77,7 +77,7 @@ fn read_draft(
 
 /// The stations of the tables, in order.
 pub fn read_drafts(alloc: Global, format: u32, tables: &[Value]) -> Result<Vec<Draft>, ModelFault>
-    requires { length tables.now ≤ MOST_STATIONS }
+    requires { length tables.now ≤ MAX_STATIONS }
     ensures count { IfOk result (λ v. length v.items ≡ length tables.now) }
     ensures ok { IfOk result (λ v. drafts_of format [] 1 (map view tables.now) ≡ Ok (map as_draft v.items)) }
     ensures refused { IfErr result (λ e. e ≢ ModelFault.NoMemory

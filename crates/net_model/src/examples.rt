@@ -2,16 +2,16 @@
 //!
 //! The texts are in `specs/Examples.antt`. Each function's contract is a theorem; there is nothing to run.
 ghost use Rattle.std.specs.Prelude.{◌≡◌, ◌++◌, [], Ok, Err, codes};
-ghost use Rattle.sim_base.specs.declared.limits.TheConstants.{MOST_FILE_BYTES};
-ghost use Rattle.sim_base.specs.declared.name.TheConstants.{LONGEST_NAME};
+ghost use Rattle.sim_base.specs.declared.limits.TheConstants.{MAX_FILE_BYTES};
+ghost use Rattle.sim_base.specs.declared.name.TheConstants.{MAX_NAME_LEN};
 ghost use Rattle.net_model.specs.Text.{model};
 ghost use Rattle.net_model.specs.Examples.{cut_text, linked_desk, linked_out, named_desk, sinks, small};
 ghost use Rattle.net_model.specs.Examples.{small_text, timed_desk, top_text, top_with, with_top, without_link};
 ghost use Rattle.net_model.specs.declared.field.Field.TheVariants.{Lookahead, Horizon, Service};
-ghost use Rattle.net_model.specs.declared.key_text.TheConstants.{LONGEST_KEY_TEXT};
-ghost use Rattle.net_model.specs.declared.limits.TheConstants.{MOST_CLASS, MOST_HORIZON, MOST_JOBS};
-ghost use Rattle.net_model.specs.declared.limits.TheConstants.{MOST_LIMIT, MOST_LINKS, MOST_ROOM, MOST_SEED};
-ghost use Rattle.net_model.specs.declared.limits.TheConstants.{MOST_SERVERS, MOST_STATIONS, MOST_TIME, MOST_WEIGHT};
+ghost use Rattle.net_model.specs.declared.key_text.TheConstants.{MAX_KEY_TEXT_LEN};
+ghost use Rattle.net_model.specs.declared.limits.TheConstants.{MAX_CLASS, MAX_HORIZON, MAX_JOBS};
+ghost use Rattle.net_model.specs.declared.limits.TheConstants.{MAX_LIMIT, MAX_LINKS, MAX_ROOM, MAX_SEED};
+ghost use Rattle.net_model.specs.declared.limits.TheConstants.{MAX_SERVERS, MAX_STATIONS, MAX_TIME, MAX_WEIGHT};
 ghost use Rattle.net_model.specs.declared.limits.TheConstants.{USUAL_LIMIT};
 
 use crate::fault::ModelFault;
@@ -51,19 +51,19 @@ pub fn refused_links()
 
 /// The limits as numbers, as the format of model files has them.
 pub fn limits_in_numbers()
-    ensures bytes { MOST_FILE_BYTES ≡ 1048576 }
-    ensures name { LONGEST_NAME ≡ 16 }
-    ensures stations { MOST_STATIONS ≡ 64 }
-    ensures links { MOST_LINKS ≡ 16 }
-    ensures time { MOST_TIME ≡ 1000000 }
-    ensures horizon { MOST_HORIZON ≡ 1000000000 }
-    ensures seed { MOST_SEED ≡ 9223372036854775807 }
-    ensures limit { MOST_LIMIT ≡ 65536 }
+    ensures bytes { MAX_FILE_BYTES ≡ 1048576 }
+    ensures name { MAX_NAME_LEN ≡ 16 }
+    ensures stations { MAX_STATIONS ≡ 64 }
+    ensures links { MAX_LINKS ≡ 16 }
+    ensures time { MAX_TIME ≡ 1000000 }
+    ensures horizon { MAX_HORIZON ≡ 1000000000 }
+    ensures seed { MAX_SEED ≡ 9223372036854775807 }
+    ensures limit { MAX_LIMIT ≡ 65536 }
     ensures usual_limit { USUAL_LIMIT ≡ 16384 }
-    ensures jobs { MOST_JOBS ≡ 1000000 }
-    ensures class { MOST_CLASS ≡ 4 }
-    ensures servers { MOST_SERVERS ≡ 16 }
-    ensures room { MOST_ROOM ≡ 4096 }
-    ensures weight { MOST_WEIGHT ≡ 1000 }
-    ensures key_text { LONGEST_KEY_TEXT ≡ 32 }
+    ensures jobs { MAX_JOBS ≡ 1000000 }
+    ensures class { MAX_CLASS ≡ 4 }
+    ensures servers { MAX_SERVERS ≡ 16 }
+    ensures room { MAX_ROOM ≡ 4096 }
+    ensures weight { MAX_WEIGHT ≡ 1000 }
+    ensures key_text { MAX_KEY_TEXT_LEN ≡ 32 }
 {}

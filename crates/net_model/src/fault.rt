@@ -1,7 +1,7 @@
 //! Why a model text is refused.
 ghost use Rattle.std.specs.Prelude.{◌≡◌, ◌≤◌, IfSome, length, option_copied};
 ghost use Rattle.net_model.specs.Faults.{fault_key, fault_number, fault_place};
-ghost use Rattle.net_model.specs.declared.key_text.TheConstants.{LONGEST_KEY_TEXT};
+ghost use Rattle.net_model.specs.declared.key_text.TheConstants.{MAX_KEY_TEXT_LEN};
 
 use crate::field::Field;
 use crate::key_text::KeyText;
@@ -11,7 +11,7 @@ use std::alloc::{AllocError, AllocFailed};
 /// for the top of the file.
 #[derive(Clone, Copy, Debug, PartialEq, Eq)]
 pub enum ModelFault {
-    /// More bytes than [`MOST_FILE_BYTES`](sim_base::MOST_FILE_BYTES).
+    /// More bytes than [`MAX_FILE_BYTES`](sim_base::MAX_FILE_BYTES).
     TooLong,
     /// Not a TOML text.
     NotToml,
@@ -33,8 +33,8 @@ pub enum ModelFault {
     ShortDelay { place: u32 },
     /// A station that is no sink has no link.
     NoWayOut { place: u32 },
-    /// More stations than [`MOST_STATIONS`](crate::limits::MOST_STATIONS), or more links of a station than
-    /// [`MOST_LINKS`](crate::limits::MOST_LINKS).
+    /// More stations than [`MAX_STATIONS`](crate::limits::MAX_STATIONS), or more links of a station than
+    /// [`MAX_LINKS`](crate::limits::MAX_LINKS).
     TooMany { place: u32 },
     /// Out of memory.
     NoMemory,
@@ -88,7 +88,7 @@ impl ModelFault {
     /// The key that it names, or None if it names none. Of an unknown key its text.
     pub fn key(&self) -> Option<&str>
         ensures value { option_copied result ≡ fault_key self.now }
-        ensures short { IfSome result (λ key. length key.now ≤ LONGEST_KEY_TEXT) }
+        ensures short { IfSome result (λ key. length key.now ≤ MAX_KEY_TEXT_LEN) }
     {
         match self {
             ModelFault::Missing { field, .. }

@@ -1,7 +1,7 @@
 //! The keys of a model file.
 ghost use Rattle.std.specs.Prelude.{◌≡◌, ◌≤◌, length};
 ghost use Rattle.net_model.specs.Fields.{key_of};
-ghost use Rattle.net_model.specs.declared.key_text.TheConstants.{LONGEST_KEY_TEXT};
+ghost use Rattle.net_model.specs.declared.key_text.TheConstants.{MAX_KEY_TEXT_LEN};
 
 use sim_base::Param;
 
@@ -58,7 +58,7 @@ impl Field {
     /// The key as it is written in a file.
     pub fn key(&self) -> &'static str
         ensures value { result.now ≡ key_of self.now }
-        ensures short { length result.now ≤ LONGEST_KEY_TEXT }
+        ensures short { length result.now ≤ MAX_KEY_TEXT_LEN }
     {
         match self {
             Field::Format => "format",

@@ -2,26 +2,26 @@
 ghost use Rattle.std.specs.Prelude.{◌≡◌, ◌≤◌, length, map, take, true};
 ghost use Rattle.std.specs.List.{list_all};
 ghost use Rattle.net_model.specs.KeyTexts.{shown_byte as shown_byte', is_shown, key_text};
-ghost use Rattle.net_model.specs.declared.key_text.TheConstants.{LONGEST_KEY_TEXT};
+ghost use Rattle.net_model.specs.declared.key_text.TheConstants.{MAX_KEY_TEXT_LEN};
 
 use sim_base::name::is_name_byte;
 use std::marker::Model;
 use std::str;
 
 /// The most bytes of a key that are shown.
-pub const LONGEST_KEY_TEXT: usize = 32;
+pub const MAX_KEY_TEXT_LEN: usize = 32;
 
-/// At most [`LONGEST_KEY_TEXT`] bytes of `a-z`, `0-9`, `_` and `?`.
+/// At most [`MAX_KEY_TEXT_LEN`] bytes of `a-z`, `0-9`, `_` and `?`.
 #[derive(Clone, Copy, Debug, PartialEq, Eq)]
 pub struct KeyText {
-    bytes: [u8; LONGEST_KEY_TEXT],
+    bytes: [u8; MAX_KEY_TEXT_LEN],
     len: usize,
 }
 
 impl Model for KeyText {
     ghost use Rattle.std.specs.Prelude.{◌≡◌, ℕ, ◌-◌, ◌++◌, List, length, take, replicate};
     ghost use Rattle.net_model.specs.KeyTexts.{IsKeyText, key_text_back};
-    ghost use Rattle.net_model.specs.declared.key_text.TheConstants.{LONGEST_KEY_TEXT};
+    ghost use Rattle.net_model.specs.declared.key_text.TheConstants.{MAX_KEY_TEXT_LEN};
 
     ghost Value = { List ℕ };
 
@@ -29,7 +29,7 @@ impl Model for KeyText {
 
     ghost invariant = { λ k. IsKeyText k.bytes k.len };
 
-    ghost inverse = { λ xs. record { bytes = xs ++ replicate (LONGEST_KEY_TEXT - length xs) 0; len = length xs } };
+    ghost inverse = { λ xs. record { bytes = xs ++ replicate (MAX_KEY_TEXT_LEN - length xs) 0; len = length xs } };
 
     ghost inverse_ok = { λ k h i. record {
       bytes = (key_text_back k.bytes k.len h).0 i;
@@ -57,8 +57,8 @@ impl KeyText {
         ensures { result ≡ key_text key.now }
     {
         let text = key.as_bytes();
-        let len = text.len().min(LONGEST_KEY_TEXT);
-        let mut bytes = [0u8; LONGEST_KEY_TEXT];
+        let len = text.len().min(MAX_KEY_TEXT_LEN);
+        let mut bytes = [0u8; MAX_KEY_TEXT_LEN];
         bytes[..len].copy_from_slice(&text[..len]);
         show(&mut bytes[..len]);
         KeyText { bytes, len }
@@ -67,7 +67,7 @@ impl KeyText {
     fn as_bytes(&self) -> &[u8]
         ensures value { result.now ≡ self.now }
         ensures shown { list_all is_shown result.now ≡ true }
-        ensures short { length result.now ≤ LONGEST_KEY_TEXT }
+        ensures short { length result.now ≤ MAX_KEY_TEXT_LEN }
     {
         &self.bytes[..self.len]
     }
@@ -76,7 +76,7 @@ impl KeyText {
     pub fn text(&self) -> &str
         ensures value { result.now ≡ self.now }
         ensures shown { list_all is_shown result.now ≡ true }
-        ensures short { length result.now ≤ LONGEST_KEY_TEXT }
+        ensures short { length result.now ≤ MAX_KEY_TEXT_LEN }
     {
         match str::from_utf8(self.as_bytes()) {
             Ok(text) => text,

@@ -3,12 +3,12 @@ ghost use Rattle.std.specs.Prelude.{◌≡◌, ◌≤◌, IfOk};
 ghost use Rattle.toml.specs.View.{view};
 ghost use Rattle.net_model.specs.Kinds.{by_word, class_at, delay_of, kind_of, kind_word, kind_word_at};
 ghost use Rattle.net_model.specs.Kinds.{order_at, order_word, router_of, server_of, source_of};
-ghost use Rattle.net_model.specs.declared.limits.TheConstants.{MOST_CLASS};
+ghost use Rattle.net_model.specs.declared.limits.TheConstants.{MAX_CLASS};
 
 use crate::fault::ModelFault;
 use crate::field::Field;
 use crate::keys::KindWord;
-use crate::limits::{MOST_CLASS, MOST_JOBS, MOST_ROOM, MOST_SERVERS};
+use crate::limits::{MAX_CLASS, MAX_JOBS, MAX_ROOM, MAX_SERVERS};
 use crate::reading::{integer_key, out_of_range, read_text, span_key, spot_at, text_key};
 use crate::station::Kind;
 use toml::Value;
@@ -50,13 +50,13 @@ pub fn kind_key(station: u32, table: &Value) -> Result<KindWord, ModelFault>
 
 fn read_class(format: u32, station: u32, table: &Value) -> Result<u64, ModelFault>
     ensures value { result ≡ class_at format station (view table.now) }
-    ensures small { IfOk result (λ n. n ≤ MOST_CLASS) }
+    ensures small { IfOk result (λ n. n ≤ MAX_CLASS) }
 {
     if format == 1 {
         return Ok(1);
     }
     let key = spot_at(station, Field::Class);
-    integer_key(key, 1, MOST_CLASS, Some(1), table)
+    integer_key(key, 1, MAX_CLASS, Some(1), table)
 }
 
 fn order_named(text: &str) -> Option<bool>
@@ -106,7 +106,7 @@ fn read_source(format: u32, station: u32, table: &Value) -> Result<Kind, ModelFa
     ensures { result ≡ source_of format station (view table.now) }
 {
     let every = span_key(spot_at(station, Field::Every), 1, table)?;
-    let jobs = integer_key(spot_at(station, Field::Jobs), 0, MOST_JOBS, None, table)?;
+    let jobs = integer_key(spot_at(station, Field::Jobs), 0, MAX_JOBS, None, table)?;
     let class = read_class(format, station, table)? as u32;
     Ok(Kind::Source {
         lo: every.lo,
@@ -122,11 +122,11 @@ fn read_server(format: u32, station: u32, table: &Value) -> Result<Kind, ModelFa
     let servers = integer_key(
         spot_at(station, Field::Servers),
         1,
-        MOST_SERVERS,
+        MAX_SERVERS,
         None,
         table,
     )? as u32;
-    let room = integer_key(spot_at(station, Field::Room), 0, MOST_ROOM, None, table)? as u32;
+    let room = integer_key(spot_at(station, Field::Room), 0, MAX_ROOM, None, table)? as u32;
     let service = span_key(spot_at(station, Field::Service), 1, table)?;
     let by_class = read_order(format, station, table)?;
     Ok(Kind::Server {

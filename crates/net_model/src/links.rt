@@ -9,7 +9,7 @@ ghost use Rattle.net_model.specs.NamedLinks.{each_link, link_of, link_tables, li
 use crate::fault::ModelFault;
 use crate::field::Field;
 use crate::keys::{KindWord, link_fields, only_fields};
-use crate::limits::{MOST_LINKS, MOST_TIME, MOST_WEIGHT};
+use crate::limits::{MAX_LINKS, MAX_TIME, MAX_WEIGHT};
 use crate::reading::{integer_key, name_key, read_tables, spot_at};
 use arrayvec::ArrayVec;
 use sim_base::Name;
@@ -42,19 +42,19 @@ fn read_link(station: u32, table: &Value) -> Result<NamedLink, ModelFault>
 {
     only_fields(station, link_fields(), table)?;
     let to = name_key(spot_at(station, Field::To), table)?;
-    let delay = integer_key(spot_at(station, Field::Delay), 1, MOST_TIME, None, table)?;
+    let delay = integer_key(spot_at(station, Field::Delay), 1, MAX_TIME, None, table)?;
     let weight = integer_key(
         spot_at(station, Field::Weight),
         1,
-        MOST_WEIGHT,
+        MAX_WEIGHT,
         Some(1),
         table,
     )? as u32;
     Ok(NamedLink { to, delay, weight })
 }
 
-fn read_each(station: u32, tables: &[Value]) -> Result<ArrayVec<NamedLink, MOST_LINKS>, ModelFault>
-    requires { length tables.now ≤ MOST_LINKS }
+fn read_each(station: u32, tables: &[Value]) -> Result<ArrayVec<NamedLink, MAX_LINKS>, ModelFault>
+    requires { length tables.now ≤ MAX_LINKS }
     ensures { result_map_both (λ v. v.items) (λ e. e) result ≡ each_link station (map view tables.now) }
 {
     let mut links = ArrayVec::new();
@@ -70,7 +70,7 @@ fn read_each(station: u32, tables: &[Value]) -> Result<ArrayVec<NamedLink, MOST_
 fn link_values(station: u32, table: &Value) -> Result<&[Value], ModelFault>
     ensures value { result_map_both (λ vs. map view vs.now) (λ e. e) result ≡ link_tables station
         (get (key_of Field.Link) (view table.now)) }
-    ensures few { IfOk result (λ vs. length vs.now ≤ MOST_LINKS) }
+    ensures few { IfOk result (λ vs. length vs.now ≤ MAX_LINKS) }
 {
     let field = Field::Link;
     let Some(value) = table.get(field.key()) else {
@@ -78,7 +78,7 @@ fn link_values(station: u32, table: &Value) -> Result<&[Value], ModelFault>
     };
     match read_tables(spot_at(station, field), value) {
         Ok(tables) => {
-            if tables.len() > MOST_LINKS {
+            if tables.len() > MAX_LINKS {
                 return Err(ModelFault::TooMany { place: station });
             }
             Ok(tables)
@@ -92,7 +92,7 @@ pub fn read_links(
     station: u32,
     word: KindWord,
     table: &Value,
-) -> Result<ArrayVec<NamedLink, MOST_LINKS>, ModelFault>
+) -> Result<ArrayVec<NamedLink, MAX_LINKS>, ModelFault>
     ensures { result_map_both (λ v. v.items) (λ e. e) result ≡ links_of station word (view table.now) }
 {
     match word {

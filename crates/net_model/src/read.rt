@@ -3,7 +3,7 @@ ghost use Rattle.std.specs.Prelude.{◌≡◌, ◌≢◌, ◌≤◌, IfErr, IfOk
 ghost use Rattle.toml.specs.Errors.{IsMemory};
 ghost use Rattle.toml.specs.View.{table_view, view};
 ghost use Rattle.net_model.specs.Sites.{as_site};
-ghost use Rattle.net_model.specs.declared.limits.TheConstants.{MOST_STATIONS};
+ghost use Rattle.net_model.specs.declared.limits.TheConstants.{MAX_STATIONS};
 ghost use Rattle.net_model.specs.Text.{model, model_of, sites_of_tables, tree};
 
 use crate::draft::read_drafts;
@@ -13,7 +13,7 @@ use crate::model::Model;
 use crate::resolve::resolve_stations;
 use crate::station::Station;
 use crate::top::{Top, station_tables, top_numbers};
-use sim_base::MOST_FILE_BYTES;
+use sim_base::MAX_FILE_BYTES;
 use std::alloc::Global;
 use toml::de::Error;
 use toml::{Table, Value};
@@ -40,7 +40,7 @@ fn read_tree(alloc: Global, text: &[u8]) -> Result<Table, ModelFault>
 }
 
 fn read_stations(alloc: Global, top: Top, tables: &[Value]) -> Result<Vec<Station>, ModelFault>
-    requires { length tables.now ≤ MOST_STATIONS }
+    requires { length tables.now ≤ MAX_STATIONS }
     ensures ok { IfOk result (λ v. sites_of_tables top (map view tables.now) ≡ Ok (map as_site v.items)) }
     ensures refused { IfErr result (λ e. e ≢ ModelFault.NoMemory → sites_of_tables top (map view tables.now) ≡ Err e) }
 {
@@ -80,7 +80,7 @@ pub fn read_model(alloc: Global, text: &[u8]) -> Result<Model, ModelFault>
     ensures ok { IfOk result (λ m. model text.now ≡ Ok m) }
     ensures refused { IfErr result (λ e. e ≢ ModelFault.NoMemory → model text.now ≡ Err e) }
 {
-    if text.len() > MOST_FILE_BYTES {
+    if text.len() > MAX_FILE_BYTES {
         return Err(ModelFault::TooLong);
     }
     match read_tree(alloc, text) {

@@ -5,11 +5,11 @@ ghost use Rattle.std.specs.Str.{bytes_eq};
 ghost use Rattle.net_model.specs.Drafts.{as_draft};
 ghost use Rattle.net_model.specs.Resolving.{links_of_named, link_to, link_of_named, site_of_draft, sites_of};
 ghost use Rattle.net_model.specs.Sites.{as_site};
-ghost use Rattle.net_model.specs.declared.limits.TheConstants.{MOST_LINKS, MOST_STATIONS};
+ghost use Rattle.net_model.specs.declared.limits.TheConstants.{MAX_LINKS, MAX_STATIONS};
 
 use crate::draft::Draft;
 use crate::fault::ModelFault;
-use crate::limits::MOST_LINKS;
+use crate::limits::MAX_LINKS;
 use crate::links::NamedLink;
 use crate::station::{Kind, Link, Station};
 use arrayvec::ArrayVec;
@@ -32,7 +32,7 @@ fn link_into(
     i: usize,
     kind: Kind,
 ) -> Result<Link, ModelFault>
-    requires { i < MOST_STATIONS }
+    requires { i < MAX_STATIONS }
     ensures { result ≡ link_to lookahead station link.now i kind }
 {
     if kind.is_source() {
@@ -54,7 +54,7 @@ fn resolve_link(
     station: u32,
     link: &NamedLink,
 ) -> Result<Link, ModelFault>
-    requires { length drafts.now ≤ MOST_STATIONS }
+    requires { length drafts.now ≤ MAX_STATIONS }
     ensures { result ≡ link_of_named lookahead (map as_draft drafts.now) station link.now }
 {
     match named_draft(drafts, &link.to) {
@@ -68,9 +68,9 @@ fn resolve_links(
     drafts: &[Draft],
     station: u32,
     links: &[NamedLink],
-) -> Result<ArrayVec<Link, MOST_LINKS>, ModelFault>
-    requires some { length drafts.now ≤ MOST_STATIONS }
-    requires few { length links.now ≤ MOST_LINKS }
+) -> Result<ArrayVec<Link, MAX_LINKS>, ModelFault>
+    requires some { length drafts.now ≤ MAX_STATIONS }
+    requires few { length links.now ≤ MAX_LINKS }
     ensures { result_map_both (λ v. v.items) (λ e. e) result ≡ links_of_named lookahead
         (map as_draft drafts.now) station links.now }
 {
@@ -90,7 +90,7 @@ fn resolve_station(
     station: u32,
     draft: &Draft,
 ) -> Result<Station, ModelFault>
-    requires { length drafts.now ≤ MOST_STATIONS }
+    requires { length drafts.now ≤ MAX_STATIONS }
     ensures { result_map_both as_site (λ e. e) result ≡ site_of_draft lookahead (map as_draft drafts.now) station
         (as_draft draft.now) }
 {
@@ -112,7 +112,7 @@ pub fn resolve_stations(
     lookahead: u64,
     drafts: &[Draft],
 ) -> Result<Vec<Station>, ModelFault>
-    requires { length drafts.now ≤ MOST_STATIONS }
+    requires { length drafts.now ≤ MAX_STATIONS }
     ensures ok { IfOk result (λ v. sites_of lookahead (map as_draft drafts.now) 1 (map as_draft drafts.now)
         ≡ Ok (map as_site v.items)) }
     ensures refused { IfErr result (λ e. e ≢ ModelFault.NoMemory

@@ -2,7 +2,7 @@
 ghost use Rattle.std.specs.Prelude.{◌≡◌};
 ghost use Rattle.net_model.specs.Net.{is_source, is_sink, routes_by_turn, serves_by_class};
 
-use crate::limits::MOST_LINKS;
+use crate::limits::MAX_LINKS;
 use arrayvec::ArrayVec;
 use sim_base::Name;
 
@@ -93,5 +93,5 @@ pub struct Station {
     pub name: Name,
     pub kind: Kind,
     pub stream: u64,
-    pub links: ArrayVec<Link, MOST_LINKS>,
+    pub links: ArrayVec<Link, MAX_LINKS>,
 }

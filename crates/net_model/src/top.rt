@@ -6,7 +6,7 @@ ghost use Rattle.net_model.specs.Top.{in_number, stations_at, top_of};
 
 use crate::fault::ModelFault;
 use crate::field::Field;
-use crate::limits::{MOST_HORIZON, MOST_LIMIT, MOST_SEED, MOST_STATIONS, MOST_TIME, USUAL_LIMIT};
+use crate::limits::{MAX_HORIZON, MAX_LIMIT, MAX_SEED, MAX_STATIONS, MAX_TIME, USUAL_LIMIT};
 use crate::reading::{integer_key, out_of_range, read_tables, spot_at, value_key};
 use toml::Value;
 
@@ -25,13 +25,13 @@ pub fn top_numbers(root: &Value) -> Result<Top, ModelFault>
     ensures { result ≡ top_of (view root.now) }
 {
     let format = integer_key(spot_at(0, Field::Format), 1, 2, Some(1), root)? as u32;
-    let lookahead = integer_key(spot_at(0, Field::Lookahead), 1, MOST_TIME, None, root)?;
-    let horizon = integer_key(spot_at(0, Field::Horizon), 1, MOST_HORIZON, None, root)?;
-    let seed = integer_key(spot_at(0, Field::Seed), 0, MOST_SEED, Some(0), root)?;
+    let lookahead = integer_key(spot_at(0, Field::Lookahead), 1, MAX_TIME, None, root)?;
+    let horizon = integer_key(spot_at(0, Field::Horizon), 1, MAX_HORIZON, None, root)?;
+    let seed = integer_key(spot_at(0, Field::Seed), 0, MAX_SEED, Some(0), root)?;
     let limit = integer_key(
         spot_at(0, Field::Limit),
         1,
-        MOST_LIMIT,
+        MAX_LIMIT,
         Some(USUAL_LIMIT),
         root,
     )?;
@@ -45,21 +45,21 @@ pub fn top_numbers(root: &Value) -> Result<Top, ModelFault>
 }
 
 fn counted_tables(tables: &[Value]) -> Result<&[Value], ModelFault>
-    ensures few { IfOk result (λ vs. length vs.now ≤ MOST_STATIONS) }
+    ensures few { IfOk result (λ vs. length vs.now ≤ MAX_STATIONS) }
     ensures value { result_map_both (λ vs. map view vs.now) (λ e. e) result ≡ in_number (map view tables.now) }
 {
     if tables.is_empty() {
         return Err(out_of_range(spot_at(0, Field::Station)));
     }
-    if tables.len() > MOST_STATIONS {
+    if tables.len() > MAX_STATIONS {
         return Err(ModelFault::TooMany { place: 0 });
     }
     Ok(tables)
 }
 
-/// The tables of the stations, 1 to `MOST_STATIONS`.
+/// The tables of the stations, 1 to `MAX_STATIONS`.
 pub fn station_tables(root: &Value) -> Result<&[Value], ModelFault>
-    ensures few { IfOk result (λ vs. length vs.now ≤ MOST_STATIONS) }
+    ensures few { IfOk result (λ vs. length vs.now ≤ MAX_STATIONS) }
     ensures value { result_map_both (λ vs. map view vs.now) (λ e. e) result ≡ stations_at (view root.now) }
 {
     match value_key(spot_at(0, Field::Station), root) {

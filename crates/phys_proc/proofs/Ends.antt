@@ -2,7 +2,7 @@
 use Rattle.std.proofs.Common.{◌≡◌, ℕ, ◌<◌, ◌≤◌, ◌==◌, ◌&&◌, ◌||◌, not, min, Bool, true, false, cond, List}
 use Rattle.std.proofs.Common.{[], ◌∷◌, ◌++◌, inl, inr, refl, sym, ap, ◌∙◌, subst, arith, nat_lt, nat_le}
 use Rattle.std.proofs.lemmas.Bool.{cases_lt, lt-ltb, le-ltb, le-leb, lt-leb}
-use Rattle.sim_base.specs.declared.lists.TheConstants.{MOST_CLONES}
+use Rattle.sim_base.specs.declared.lists.TheConstants.{MAX_CLONES}
 use Rattle.phys_proc.specs.Ends.{ends_in, has_ended, AreEndsOfClones}
 
 -- ---- has_ended
@@ -66,7 +66,7 @@ pub ends_in-more : (horizon : ℕ) (es all : List (ℕ × ℕ)) (clone at c : �
 ends_in-more horizon es all clone at c e = ap (λ l. ends_in horizon l c) e ∙ ends_in-append horizon es (clone, at) c
 
 -- with an end more, of a number that a clone may have, the ends are still those of such numbers
-pub AreEndsOfClones-more : (es all : List (ℕ × ℕ)) (clone at : ℕ) → all ≡ es ++ (clone, at) ∷ [] → clone < MOST_CLONES
+pub AreEndsOfClones-more : (es all : List (ℕ × ℕ)) (clone at : ℕ) → all ≡ es ++ (clone, at) ∷ [] → clone < MAX_CLONES
     → AreEndsOfClones es → AreEndsOfClones all
 AreEndsOfClones-more es all clone at e l f = subst AreEndsOfClones (sym e) (both es f)
   where

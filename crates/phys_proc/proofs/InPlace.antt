@@ -7,12 +7,12 @@ use Rattle.std.proofs.lemmas.List.{get_or-set_same, set-get_or, length-take-le}
 use Rattle.std.proofs.lemmas.List.Edits.{length-remove}
 use Rattle.std.proofs.Math.ListN.{drop_of_length-le}
 use Rattle.std.proofs.Math.Seq.{take-append_seam, drop-append_seam}
-use Rattle.sim_base.specs.declared.lists.TheConstants.{MOST_CLONES}
+use Rattle.sim_base.specs.declared.lists.TheConstants.{MAX_CLONES}
 use Rattle.clone_sets.specs.Sets.{has, empty}
 use Rattle.clone_sets.specs.declared.set.CloneSet.{CloneSet}
 use Rattle.net_model.specs.Net.{Net}
 use Rattle.net_model.specs.Rules.{IsNet}
-use Rattle.stations.specs.declared.sender.TheConstants.{ALL_COUNTS}
+use Rattle.stations.specs.declared.sender.TheConstants.{MAX_COUNTS}
 use Rattle.run_laws.specs.Queue.{In}
 use Rattle.run_laws.specs.Copies.{Disjoint, Carries}
 use Rattle.run_laws.proofs.Queue.{all_in, all_from}
@@ -226,8 +226,8 @@ module _ (net : Net) (valid : IsNet net) (s : ℕ) (ends : ℕ → ℕ) (bound :
     stepped_to-fits f = holds_at (IsCopy net s) h.passed left x (subst (AllByRecursion (IsCopy net s)) whole_is f)
 
     -- with a bounded number of clones in all, the number handled and the number that it may handle can be counted
-    pub stepped_to-few : all_sizes all ≤ MOST_CLONES → (handled : ℕ) → handled + steps0 ≡ steps
-        → handled + may_handle net.limit x ≤ ALL_COUNTS
+    pub stepped_to-few : all_sizes all ≤ MAX_CLONES → (handled : ℕ) → handled + steps0 ≡ steps
+        → handled + may_handle net.limit x ≤ MAX_COUNTS
     stepped_to-few few handled e =
         let sizes = ap all_sizes whole_is in
         let f = h.far.few in

@@ -3,7 +3,7 @@ use Rattle.std.proofs.Common.{◌≡◌, ℕ, ◌<◌, ◌≤◌, true, false, L
 use Rattle.std.specs.List.{AllByRecursion}
 use Rattle.std.proofs.lemmas.Bool.{false≢true}
 use Rattle.sim_base.specs.Clones.{Clone}
-use Rattle.sim_base.specs.declared.lists.TheConstants.{MOST_CLONES}
+use Rattle.sim_base.specs.declared.lists.TheConstants.{MAX_CLONES}
 use Rattle.sim_base.proofs.ListLaws.{all_map}
 use Rattle.clone_sets.specs.Sets.{has, size}
 use Rattle.net_model.specs.Net.{Net}
@@ -51,7 +51,7 @@ module _ (net : Net) (cs : List Clone) (s front : ℕ) where
       false≢true (sym (all_in (λ h. has h.set c ≡ false) copies k.0 none k.1) ∙ k.2)
 
   -- copies that represent the clones show them
-  pub shows_clones : (copies : List StationCopy) → length cs ≤ MOST_CLONES → front ≤ net.horizon
+  pub shows_clones : (copies : List StationCopy) → length cs ≤ MAX_CLONES → front ≤ net.horizon
       → Stands (simulation net) has cs front s copies → ShowsClones net cs s front (map view_of_copy copies)
   shows_clones copies few early st = record {
     few = few;

@@ -8,15 +8,15 @@ use Rattle.std.proofs.Math.Bool.{or-false}
 use Rattle.std.proofs.Math.Nat.{add-mul, mul-le-mul_left}
 use Rattle.std.proofs.lemmas.Nat.{mul-le}
 use Rattle.std.proofs.lemmas.Bool.{cases_Bool, false≢true}
-use Rattle.sim_base.specs.declared.lists.TheConstants.{MOST_CLONES}
+use Rattle.sim_base.specs.declared.lists.TheConstants.{MAX_CLONES}
 use Rattle.sim_base.proofs.ListLaws.{all_weaker, all_map, all_of_map}
 use Rattle.clone_sets.specs.Sets.{has, union, empty, size, members}
 use Rattle.clone_sets.specs.declared.set.CloneSet.{CloneSet}
 use Rattle.clone_sets.proofs.SetLaws.{has-empty, has-union, same_members}
 use Rattle.net_model.specs.Net.{Net}
-use Rattle.net_model.specs.declared.limits.TheConstants.{MOST_LIMIT}
+use Rattle.net_model.specs.declared.limits.TheConstants.{MAX_LIMIT}
 use Rattle.stations.specs.Runs.{simulation}
-use Rattle.stations.specs.declared.sender.TheConstants.{ALL_COUNTS}
+use Rattle.stations.specs.declared.sender.TheConstants.{MAX_COUNTS}
 use Rattle.run_laws.specs.Copies.{Carries, Disjoint, IsStepped}
 use Rattle.run_laws.proofs.Queue.{all_from}
 use Rattle.phys_proc.specs.Own.{StationCopy, MarkedMessages, IsCopy, all_clones}
@@ -108,7 +108,7 @@ module _ (net : Net) (s : ℕ) (ends : ℕ → ℕ) (bound : ℕ) (old new : Lis
 
 -- the clones together are no more than there may be
 pub few_clones : (living : CloneSet) (copies : List StationCopy) → AreShared living copies
-    → size living ≤ MOST_CLONES → all_sizes copies ≤ MOST_CLONES
+    → size living ≤ MAX_CLONES → all_sizes copies ≤ MAX_CLONES
 few_clones living copies h l = let e = size_all copies h.disjoint in let t = ap size h.together in
     omega (arith, e, t, l)
 
@@ -118,33 +118,33 @@ pub sizes_are : (living : CloneSet) (copies : List StationCopy) → AreShared li
 sizes_are living copies h = size_all copies h.disjoint ∙ ap size h.together
 
 -- the number handled, and the number that the next copy may handle, do not overflow the counter
-pub few_next : (limit h : ℕ) (ys zs : List StationCopy) (x : StationCopy) → all_sizes (ys ++ x ∷ zs) ≤ MOST_CLONES
-    → limit ≤ MOST_LIMIT → h ≤ all_sizes ys * limit → h + may_handle limit x ≤ ALL_COUNTS
+pub few_next : (limit h : ℕ) (ys zs : List StationCopy) (x : StationCopy) → all_sizes (ys ++ x ∷ zs) ≤ MAX_CLONES
+    → limit ≤ MAX_LIMIT → h ≤ all_sizes ys * limit → h + may_handle limit x ≤ MAX_COUNTS
 few_next limit h ys zs x l k f =
     let e = all_sizes-append ys (x ∷ zs) in
     let d = add-mul (all_sizes ys) (size x.set) limit in
     let n : limit - length x.log ≤ limit = omega arith in
     let m = mul-le-mul_left (size x.set) n in
-    let b : all_sizes ys + size x.set ≤ MOST_CLONES = omega (arith, e, l) in
-    let c = mul-le (all_sizes ys + size x.set) limit MOST_CLONES MOST_LIMIT b k in
+    let b : all_sizes ys + size x.set ≤ MAX_CLONES = omega (arith, e, l) in
+    let c = mul-le (all_sizes ys + size x.set) limit MAX_CLONES MAX_LIMIT b k in
     omega (arith, d, m, c, f)
 
 -- the number handled once does not overflow the counter
 pub few_handled : (net : Net) (s handled : ℕ) (copies : List StationCopy) → AllByRecursion (IsCopy net s) copies
-    → all_sizes copies ≤ MOST_CLONES → net.limit ≤ MOST_LIMIT → handled ≤ handled_alone_by copies
-    → handled ≤ ALL_COUNTS
+    → all_sizes copies ≤ MAX_CLONES → net.limit ≤ MAX_LIMIT → handled ≤ handled_alone_by copies
+    → handled ≤ MAX_COUNTS
 few_handled net s handled copies f l k h =
     let short = all_weaker (IsCopy net s) (λ (a : StationCopy). length a.log ≤ net.limit) copies (λ a is. is.short) f in
     let a = alone_short net.limit copies short in
-    let c = mul-le (all_sizes copies) net.limit MOST_CLONES MOST_LIMIT l k in
+    let c = mul-le (all_sizes copies) net.limit MAX_CLONES MAX_LIMIT l k in
     omega (arith, a, c, h)
 
 -- there are no more clones than numbers
-pub few_members : (k : CloneSet) (n : ℕ) → n ≡ size k → n ≡ length (members k) → size k ≤ MOST_CLONES
+pub few_members : (k : CloneSet) (n : ℕ) → n ≡ size k → n ≡ length (members k) → size k ≤ MAX_CLONES
 unfolding members
 few_members k n e f =
-    let h = length-filter_both (has k) (λ c. not (has k c)) (λ c. refl) (range_with_len 0 MOST_CLONES) in
-    let l = length-range_with_len 0 MOST_CLONES in
+    let h = length-filter_both (has k) (λ c. not (has k c)) (λ c. refl) (range_with_len 0 MAX_CLONES) in
+    let l = length-range_with_len 0 MAX_CLONES in
     omega (arith, e, f, h, l)
 
 -- ---- KeepsShares, of one copy

@@ -1,7 +1,7 @@
 -- The ends of clones.
 use Rattle.std.specs.Prelude.{◌≡◌, ℕ, ◌<◌, ◌==◌, ◌&&◌, ◌||◌, Bool, false, List, [], ◌∷◌, if◌then◌else◌, min, nat_le}
 use Rattle.std.specs.List.{AllByRecursion}
-use Rattle.sim_base.specs.declared.lists.TheConstants.{MOST_CLONES}
+use Rattle.sim_base.specs.declared.lists.TheConstants.{MAX_CLONES}
 
 -- the least end in the list for a clone, or the horizon if there is none
 abbrev pub ends_in : ℕ → List (ℕ × ℕ) → ℕ → ℕ
@@ -20,4 +20,4 @@ has_ended t (e ∷ es) c = (nat_le e.1 t && e.0 == c) || has_ended t es c
 
 -- the ends are those of valid clone numbers
 abbrev pub AreEndsOfClones : List (ℕ × ℕ) → Type 0
-AreEndsOfClones es = AllByRecursion (λ e. e.0 < MOST_CLONES) es
+AreEndsOfClones es = AllByRecursion (λ e. e.0 < MAX_CLONES) es

@@ -4,12 +4,12 @@ use Rattle.std.specs.Prelude.{List, [], ◌∷◌, ◌++◌, true, length, map}
 use Rattle.std.specs.List.{AllByRecursion, AllZip}
 use Rattle.sim_base.specs.Order.{msg_cmp}
 use Rattle.sim_base.specs.Pending.{cut_by, insert_marked, spread_marks}
-use Rattle.sim_base.specs.declared.lists.TheConstants.{MOST_CLONES}
+use Rattle.sim_base.specs.declared.lists.TheConstants.{MAX_CLONES}
 use Rattle.sim_base.specs.declared.message.Msg.{Msg}
 use Rattle.sim_base.specs.declared.entry.Line.{Line}
 use Rattle.clone_sets.specs.Sets.{has, one, with, union, meet, common, empty, size}
 use Rattle.clone_sets.specs.declared.set.CloneSet.{CloneSet}
-use Rattle.stations.specs.declared.sender.TheConstants.{ALL_COUNTS}
+use Rattle.stations.specs.declared.sender.TheConstants.{MAX_COUNTS}
 use Rattle.net_model.specs.Net.{Net}
 use Rattle.net_model.specs.Rules.{IsNet}
 use Rattle.stations.specs.Fits.{FitsState, SuitsNet}
@@ -86,7 +86,7 @@ may_handle limit a = size a.set * (limit - length a.log)
 pub record MayAdvance (net : Net) (s bound handled : ℕ) (a : StationCopy) : Type 0 where
   pub fits : IsCopy net s a
   pub early : bound ≤ net.horizon
-  pub few : handled + may_handle net.limit a ≤ ALL_COUNTS
+  pub few : handled + may_handle net.limit a ≤ MAX_COUNTS
 
 -- the copy without its pending messages
 abbrev pub but_pending : StationCopy → StationCopy
@@ -165,8 +165,8 @@ with_message m k a = record a {
 
 -- two valid clone numbers, an existing one and a new one
 pub record AreCloneNumbers (old new : ℕ) : Type 0 where
-  pub old_below : old < MOST_CLONES
-  pub new_below : new < MOST_CLONES
+  pub old_below : old < MAX_CLONES
+  pub new_below : new < MAX_CLONES
 
 -- the copy with the clone `new` next to the clone `old`, if it has that one
 abbrev pub copy_after_fork : ℕ → ℕ → StationCopy → StationCopy

@@ -3,7 +3,7 @@ use Rattle.std.specs.Prelude.{◌≡◌, ◌↔◌, ℕ, ◌<◌, ◌≤◌, Lis
 use Rattle.std.specs.Prelude.{⊤}
 use Rattle.std.specs.List.{AllByRecursion}
 use Rattle.sim_base.specs.Clones.{Clone, clone_at, place_of}
-use Rattle.sim_base.specs.declared.lists.TheConstants.{MOST_CLONES}
+use Rattle.sim_base.specs.declared.lists.TheConstants.{MAX_CLONES}
 use Rattle.sim_base.specs.declared.message.Msg.{Msg}
 use Rattle.sim_base.specs.declared.entry.Entry.{Entry}
 use Rattle.sim_base.specs.declared.entry.Line.{Line}
@@ -41,7 +41,7 @@ AreDisjoint (h ∷ copies) = AllByRecursion (λ k. (c : ℕ) → has h.set c ≡
 -- each clone is in one copy, whose log is that of the clone alone up to the front. Clones with equal logs share one,
 -- and each copy has a clone
 pub record ShowsClones (net : Net) (cs : List Clone) (s front : ℕ) (copies : List RackCopyView) : Type 0 where
-  pub few : length cs ≤ MOST_CLONES
+  pub few : length cs ≤ MAX_CLONES
   pub early : front ≤ net.horizon
   pub inhabited : (h : RackCopyView) → In h copies → (c : ℕ) × (has h.set c ≡ true)
   pub disjoint : AreDisjoint copies

@@ -1,7 +1,7 @@
 -- The start of a step of all copies of a station.
 use Rattle.std.specs.Prelude.{◌≡◌, ℕ, ◌≤◌, List, []}
 use Rattle.std.specs.List.{AllByRecursion}
-use Rattle.sim_base.specs.declared.lists.TheConstants.{MOST_CLONES}
+use Rattle.sim_base.specs.declared.lists.TheConstants.{MAX_CLONES}
 use Rattle.clone_sets.specs.Sets.{has, empty}
 use Rattle.net_model.specs.Net.{Net}
 use Rattle.net_model.specs.Rules.{IsNet}
@@ -15,7 +15,7 @@ pub record MayStepCopies (net : Net) (s bound : ℕ) (copies : List StationCopy)
   pub fits : AllByRecursion (IsCopy net s) copies
   pub disjoint : Disjoint has copies
   pub early : bound ≤ net.horizon
-  pub few : all_sizes copies ≤ MOST_CLONES
+  pub few : all_sizes copies ≤ MAX_CLONES
 
 -- no copy has reached the bound yet, nothing was sent or handled, and no clone is over the limit
 pub record IsNewStage (stage : Stage) : Type 0 where

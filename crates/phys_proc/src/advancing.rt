@@ -12,7 +12,7 @@ use arrayvec::ArrayVec;
 use clone_sets::CloneSet;
 use net_model::Model;
 use sim_base::{Msg, NoMemory, Steps};
-use stations::MOST_SENDS;
+use stations::MAX_SENDS;
 use std::alloc::Global;
 use std::sync::ledger::Ledger;
 
@@ -70,7 +70,7 @@ pub(crate) fn handle_together<L: Ledger>(
     station: u32,
     ends: &CloneEnds,
     bound: u64,
-    out: &mut ArrayVec<Msg, MOST_SENDS>,
+    out: &mut ArrayVec<Msg, MAX_SENDS>,
     stage: &mut Stage,
     steps: &mut Steps<L>,
 ) -> Result<Stop, NoMemory>
@@ -112,7 +112,7 @@ pub(crate) fn bring_to_bound<L: Ledger>(
     station: u32,
     ends: &CloneEnds,
     bound: u64,
-    out: &mut ArrayVec<Msg, MOST_SENDS>,
+    out: &mut ArrayVec<Msg, MAX_SENDS>,
     stage: &mut Stage,
     steps: &mut Steps<L>,
 ) -> Result<(), NoMemory>

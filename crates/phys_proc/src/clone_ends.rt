@@ -2,7 +2,7 @@
 //!
 //! If a clone is listed more than once, the least time counts; a clone that is not listed ends at the horizon.
 ghost use Rattle.std.specs.Prelude.{◌≡◌, ℕ, ◌<◌, ◌∷◌, ◌++◌, [], OnOk, OnErr};
-ghost use Rattle.sim_base.specs.declared.lists.TheConstants.{MOST_CLONES};
+ghost use Rattle.sim_base.specs.declared.lists.TheConstants.{MAX_CLONES};
 ghost use Rattle.clone_sets.specs.Sets.{has};
 ghost use Rattle.phys_proc.specs.Ends.{ends_in, EndsWith, has_ended};
 
@@ -42,7 +42,7 @@ impl CloneEnds {
     ///
     /// If out of memory, changes nothing.
     pub fn end(&mut self, clone: u32, at: u64) -> Result<(), NoMemory>
-        requires clone { clone < MOST_CLONES }
+        requires clone { clone < MAX_CLONES }
         ensures ended { OnOk result (self.new ≡ self.old ++ (clone, at) ∷ []) }
         ensures ends { OnOk result (EndsWith clone at self.old self.new) }
         ensures err { OnErr result (self.new ≡ self.old) }

@@ -16,7 +16,7 @@ use log_chain::Log;
 use net_model::Model;
 use sim_base::{Entry, Msg, NoMemory, Pending, Steps};
 use stations::state::handle;
-use stations::{MOST_SENDS, State};
+use stations::{MAX_SENDS, State};
 use std::alloc::Global;
 use std::sync::ledger::Ledger;
 
@@ -92,7 +92,7 @@ pub(crate) fn handle_least<L: Ledger>(
     copy: &mut PhysCopy,
     model: &Model,
     station: u32,
-    out: &mut ArrayVec<Msg, MOST_SENDS>,
+    out: &mut ArrayVec<Msg, MAX_SENDS>,
     sent: &mut Vec<(Msg, CloneSet)>,
     steps: &mut Steps<L>,
 ) -> Result<(), NoMemory>

@@ -2,7 +2,7 @@
 ghost use Rattle.std.specs.Prelude.{◌≡◌, ℕ, ◌<◌};
 ghost use Rattle.sim_base.specs.Marked.{SortedMarked};
 ghost use Rattle.sim_base.specs.Order.{msg_cmp};
-ghost use Rattle.sim_base.specs.declared.lists.TheConstants.{MOST_CLONES};
+ghost use Rattle.sim_base.specs.declared.lists.TheConstants.{MAX_CLONES};
 ghost use Rattle.clone_sets.specs.Sets.{has};
 ghost use Rattle.run_laws.specs.Queue.{In};
 ghost use Rattle.run_laws.specs.Copies.{Carries};
@@ -20,7 +20,7 @@ use stations::due::earlier;
 /// The least time of a message that clone `c`, which ends at `end`, takes of the copy; None if it is not in it.
 pub(crate) fn least_of_clone(copy: &PhysCopy, c: u32, end: u64) -> Option<u64>
     requires sorted { SortedMarked msg_cmp copy.now.pending }
-    requires clone { c < MOST_CLONES }
+    requires clone { c < MAX_CLONES }
     ensures least { (ends : ℕ → ℕ) → end ≡ ends c → IsLeastTime (λ m. Carries has copy.now c ×
         In m (taken_at ends c copy.now.pending)) result }
 {
@@ -79,7 +79,7 @@ impl Proc {
     /// The least due time of the clone, below its end, or None if nothing is due.
     pub fn least_of(&self, model: &Model, ends: &CloneEnds, c: u32) -> Option<u64>
         requires proc { IsProc model.now self.now }
-        requires clone { c < MOST_CLONES }
+        requires clone { c < MAX_CLONES }
         ensures least { IsLeastOf (ends_in model.now.horizon ends.now) self.now.copies c result }
     {
         let end = ends.end_of(c, model.horizon());

@@ -2,7 +2,7 @@
 ghost use Rattle.std.specs.Prelude.{◌≡◌, ℕ, ◌<◌, ◌≤◌, ◌+◌, ◌*◌, ◌∷◌, [], true, false, OnOk, IfOk, map};
 ghost use Rattle.std.specs.List.{AllByRecursion, AllZip};
 ghost use Rattle.clone_sets.specs.Sets.{has, one, with, empty, size};
-ghost use Rattle.sim_base.specs.declared.lists.TheConstants.{MOST_CLONES};
+ghost use Rattle.sim_base.specs.declared.lists.TheConstants.{MAX_CLONES};
 ghost use Rattle.net_model.specs.Net.{Net, HasStation};
 ghost use Rattle.stations.specs.Runs.{simulation};
 ghost use Rattle.run_laws.specs.Copies.{first_copy, first_pending as first_pending', IsForked};
@@ -23,8 +23,8 @@ use arrayvec::ArrayVec;
 use clone_sets::CloneSet;
 use log_chain::Log;
 use net_model::Model;
-use sim_base::{Lists, MOST_CLONES, Msg, NoMemory, Pending, Steps};
-use stations::MOST_SENDS;
+use sim_base::{Lists, MAX_CLONES, Msg, NoMemory, Pending, Steps};
+use stations::MAX_SENDS;
 use stations::state::setup;
 use std::alloc::Global;
 use std::mem;
@@ -32,7 +32,7 @@ use std::sync::Arc;
 use std::sync::ledger::Ledger;
 
 // The number of hints of a station: one for each possible clone.
-const GUESSES: usize = MOST_CLONES as usize;
+const GUESSES: usize = MAX_CLONES as usize;
 
 /// The physical processes of one station: a list of copies. Each living clone is in one of them.
 #[derive(Drop)]
@@ -45,7 +45,7 @@ pub struct Proc {
     places: Vec<u8>,
     // buffer for the sends of one message, allocated by the first step and then reused: an empty one is over a kilobyte
     // to write
-    out: Option<Box<ArrayVec<Msg, MOST_SENDS>>>,
+    out: Option<Box<ArrayVec<Msg, MAX_SENDS>>>,
 }
 
 impl std::marker::Model for Proc {
@@ -134,8 +134,8 @@ fn note_place(places: &mut Vec<u8>, set: CloneSet, place: usize) {
 // The buffer used before, or a new one.
 fn buffer(
     alloc: Global,
-    used: Option<Box<ArrayVec<Msg, MOST_SENDS>>>,
-) -> Result<Box<ArrayVec<Msg, MOST_SENDS>>, NoMemory> {
+    used: Option<Box<ArrayVec<Msg, MAX_SENDS>>>,
+) -> Result<Box<ArrayVec<Msg, MAX_SENDS>>, NoMemory> {
     match used {
         Some(out) => Ok(out),
         None => Ok(Box::new(alloc, ArrayVec::new())?),
@@ -279,7 +279,7 @@ impl Proc {
     pub fn fork(&mut self, old: u32, new: u32)
         requires old { has self.old.living old ≡ true }
         requires new { has self.old.living new ≡ false }
-        requires below { new < MOST_CLONES }
+        requires below { new < MAX_CLONES }
         // result: the new clone lives too, next to the old one, in its copy and in the marks
         ensures forked { self.new ≡ record {
           station = self.old.station;

@@ -1,7 +1,7 @@
 //! Racks: the view of a station for readers, at a window boundary (front).
 ghost use Rattle.std.specs.Prelude.{◌≡◌, ◌<◌, IfOk, IfSome, IfNone, length, true, false};
 ghost use Rattle.std.specs.List.{AllByRecursion};
-ghost use Rattle.sim_base.specs.declared.lists.TheConstants.{MOST_CLONES};
+ghost use Rattle.sim_base.specs.declared.lists.TheConstants.{MAX_CLONES};
 ghost use Rattle.clone_sets.specs.Sets.{has, size};
 ghost use Rattle.run_laws.specs.Queue.{In};
 ghost use Rattle.phys_proc.specs.Racks.{RackCopyView, view_of_copy, FindsClone};
@@ -77,7 +77,7 @@ pub struct Found {
 
 // The copy that the clone is in.
 pub(crate) fn find_copy(copies: &[RackCopy], c: u32) -> Option<Found>
-    requires clone { c < MOST_CLONES }
+    requires clone { c < MAX_CLONES }
     ensures some { IfSome result (λ f. (h : RackCopyView) × In h copies.now × (has h.set c ≡ true) ×
         (f.handled ≡ length h.log) × (f.shared ≡ size h.set)) }
     ensures none { IfNone result (AllByRecursion (λ h. has h.set c ≡ false) copies.now) }

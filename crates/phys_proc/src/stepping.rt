@@ -12,7 +12,7 @@ use crate::copy::PhysCopy;
 use arrayvec::ArrayVec;
 use net_model::Model;
 use sim_base::{Msg, NoMemory, Steps};
-use stations::MOST_SENDS;
+use stations::MAX_SENDS;
 use std::alloc::Global;
 use std::sync::ledger::Ledger;
 
@@ -27,7 +27,7 @@ fn step_in_place<L: Ledger>(
     station: u32,
     ends: &CloneEnds,
     bound: u64,
-    out: &mut ArrayVec<Msg, MOST_SENDS>,
+    out: &mut ArrayVec<Msg, MAX_SENDS>,
     stage: &mut Stage,
     steps: &mut Steps<L>,
 ) -> Result<u64, NoMemory>
@@ -90,7 +90,7 @@ pub(crate) fn step_copies<L: Ledger>(
     station: u32,
     ends: &CloneEnds,
     bound: u64,
-    out: &mut ArrayVec<Msg, MOST_SENDS>,
+    out: &mut ArrayVec<Msg, MAX_SENDS>,
     stage: &mut Stage,
     steps: &mut Steps<L>,
 ) -> Result<(), NoMemory>

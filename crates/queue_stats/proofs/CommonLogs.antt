@@ -5,11 +5,11 @@ use Rattle.std.specs.List.{AllByRecursion}
 use Rattle.std.proofs.Math.Nat.{add-mul, mul_comm}
 use Rattle.std.proofs.lemmas.Nat.{mul-le}
 use Rattle.std.proofs.lemmas.Bool.{cases_lt}
-use Rattle.sim_base.specs.declared.limits.TheConstants.{MOST_HANDLED}
+use Rattle.sim_base.specs.declared.limits.TheConstants.{MAX_HANDLED}
 use Rattle.sim_base.specs.declared.entry.Entry.{Entry}
 use Rattle.sim_base.specs.declared.entry.Line.{Line}
 use Rattle.sim_base.specs.declared.message.Msg.{Msg}
-use Rattle.net_model.specs.declared.limits.TheConstants.{MOST_HORIZON}
+use Rattle.net_model.specs.declared.limits.TheConstants.{MAX_HORIZON}
 use Rattle.net_model.specs.Net.{site_of}
 use Rattle.queue_stats.specs.declared.tally.Tally.{Tally}
 use Rattle.queue_stats.specs.declared.stats.Stats.{Stats}
@@ -70,15 +70,15 @@ area-max m a l h n b area low number early =
     omega (arith, area, rows, whole, top, left, right)
 
 -- the sum is within the limits
-present-max : (single : Bool) (h : ℕ) (log : List (Entry Msg Line)) → IsServerQueue single h log → h ≤ MOST_HORIZON
-    → length log ≤ MOST_HANDLED → present h (moments log) ≤ MOST_HANDLED * MOST_HORIZON
+present-max : (single : Bool) (h : ℕ) (log : List (Entry Msg Line)) → IsServerQueue single h log → h ≤ MAX_HORIZON
+    → length log ≤ MAX_HANDLED → present h (moments log) ≤ MAX_HANDLED * MAX_HORIZON
 present-max single h log q early short =
     let t : Tally = tally_along empty_tally log in
     let may = may_add_all-log single h log q early short in
-    subst (λ n. n ≤ MOST_HANDLED * MOST_HORIZON)
+    subst (λ n. n ≤ MAX_HANDLED * MAX_HORIZON)
     (area_until-present h log (log-within_limits single h log q early short)
     (all-until_end single h log q early short))
-    (area-max MOST_HANDLED t.area t.last_time h t.in_system MOST_HORIZON may.area
+    (area-max MAX_HANDLED t.area t.last_time h t.in_system MAX_HORIZON may.area
     (last_time-log single h log q early short) may.in_system early)
 
 -- ---- statistics until another time
@@ -97,15 +97,15 @@ module _ (stats : Stats) (from until : ℕ) (c : HaveCommonLog stats from until)
   until-queue = server_queue c.net c.valid c.station until c.log c.is_station c.of_until c.server
 
   -- the one time is within the limits
-  from-le : from ≤ MOST_HORIZON
+  from-le : from ≤ MAX_HORIZON
   from-le = until-le c.net c.valid c.station from c.log c.is_station c.of_from
 
   -- and the other
-  until_time-le : until ≤ MOST_HORIZON
+  until_time-le : until ≤ MAX_HORIZON
   until_time-le = until-le c.net c.valid c.station until c.log c.is_station c.of_until
 
   -- the log is within the limits
-  short : length c.log ≤ MOST_HANDLED
+  short : length c.log ≤ MAX_HANDLED
   short = let entries = c.entries_max in let limit = c.valid.short in omega (arith, entries, limit)
 
   -- the figures are those of the log
@@ -166,8 +166,8 @@ module _ (stats : Stats) (from until : ℕ) (c : HaveCommonLog stats from until)
       ∙ sym present-is
 
   -- both are within the limits
-  pub later-max : from ≤ until → stats.present + (until - from) * last ≤ MOST_HANDLED * MOST_HORIZON
-  later-max le = subst (λ n. n ≤ MOST_HANDLED * MOST_HORIZON) (present-later_is le)
+  pub later-max : from ≤ until → stats.present + (until - from) * last ≤ MAX_HANDLED * MAX_HORIZON
+  later-max le = subst (λ n. n ≤ MAX_HANDLED * MAX_HORIZON) (present-later_is le)
       (present-max (is_single_by_arrival (site_of c.net c.station).kind) until c.log until-queue until_time-le short)
 
   pub earlier-max : until < from → (from - until) * last ≤ stats.present

@@ -4,12 +4,12 @@ use Rattle.std.proofs.Common.{subst, arith, length-append, cond, ◌&&◌, ◌==
 use Rattle.std.proofs.Common.{eqb-true, IsSome}
 use Rattle.std.specs.List.{AllByRecursion, filter}
 use Rattle.std.proofs.lemmas.Bool.{and_parts, false≢true}
-use Rattle.sim_base.specs.declared.limits.TheConstants.{MOST_HANDLED}
+use Rattle.sim_base.specs.declared.limits.TheConstants.{MAX_HANDLED}
 use Rattle.sim_base.specs.declared.entry.Entry.{Entry}
 use Rattle.sim_base.specs.declared.entry.Line.{Line}
 use Rattle.sim_base.specs.declared.message.Msg.{Msg}
 use Rattle.sim_base.proofs.ListLaws.{all_weaker, all_pop}
-use Rattle.net_model.specs.declared.limits.TheConstants.{MOST_HORIZON}
+use Rattle.net_model.specs.declared.limits.TheConstants.{MAX_HORIZON}
 use Rattle.queue_stats.specs.declared.tally.Tally.{Tally}
 use Rattle.queue_stats.specs.declared.waits.Waits.{Waits}
 use Rattle.queue_stats.specs.declared.stats.Stats.{Stats}
@@ -43,12 +43,12 @@ count-le p (m ∷ ms) = by (p m.event) (count-le p ms)
 -- the moments are at time t or later, in order of time, and their times and numbers in the system are within the limits
 abbrev AreWithinLimits : ℕ → List Moment → Type 0
 AreWithinLimits t [] = Unit {0}
-AreWithinLimits t (m ∷ ms) = (t ≤ m.time) × (m.time ≤ MOST_HORIZON) × (in_system m ≤ MOST_HANDLED)
+AreWithinLimits t (m ∷ ms) = (t ≤ m.time) × (m.time ≤ MAX_HORIZON) × (in_system m ≤ MAX_HANDLED)
     × AreWithinLimits m.time ms
 
 -- one moment more
 within_limits-push : (t : ℕ) (ms : List Moment) (m : Moment) → AreWithinLimits t ms → t ≤ m.time
-    → AllByRecursion (λ x. x.time ≤ m.time) ms → m.time ≤ MOST_HORIZON → in_system m ≤ MOST_HANDLED
+    → AllByRecursion (λ x. x.time ≤ m.time) ms → m.time ≤ MAX_HORIZON → in_system m ≤ MAX_HANDLED
     → AreWithinLimits t (ms ++ m ∷ [])
 within_limits-push t [] m within low all early number = (low, early, number, tt)
 within_limits-push t (x ∷ xs) m within low all early number = (
@@ -60,12 +60,12 @@ within_limits-push t (x ∷ xs) m within low all early number = (
 
 -- the moments of a queue are within the limits
 queue-within_limits : {servers : ℕ} {ms : List Moment} → IsQueue servers ms
-    → AllByRecursion (λ x. x.time ≤ MOST_HORIZON) ms → length ms ≤ MOST_HANDLED → AreWithinLimits 0 ms
+    → AllByRecursion (λ x. x.time ≤ MAX_HORIZON) ms → length ms ≤ MAX_HANDLED → AreWithinLimits 0 ms
 queue-within_limits opened early short = tt
 queue-within_limits {servers} (goes_on {before = ms} m q is f) early short =
-    let parts = all_pop (λ x. x.time ≤ MOST_HORIZON) ms m
-    (subst (AllByRecursion (λ x. x.time ≤ MOST_HORIZON)) is early) in
-    let long : length (ms ++ m ∷ []) ≤ MOST_HANDLED = subst (λ l. length l ≤ MOST_HANDLED) is short in
+    let parts = all_pop (λ x. x.time ≤ MAX_HORIZON) ms m
+    (subst (AllByRecursion (λ x. x.time ≤ MAX_HORIZON)) is early) in
+    let long : length (ms ++ m ∷ []) ≤ MAX_HANDLED = subst (λ l. length l ≤ MAX_HANDLED) is short in
     let more = length-append ms (m ∷ []) in
     let kept = f.conserved in
     let visits = count-le is_visit (ms ++ m ∷ []) in
@@ -90,13 +90,13 @@ moments-length before [] = refl
 moments-length before (e ∷ es) = ap suc (moments-length (lost_in e.line) es)
 
 module _ (single : Bool) (h : ℕ) (log : List (Entry Msg Line)) (q : IsServerQueue single h log)
-    (early : h ≤ MOST_HORIZON) (short : length log ≤ MOST_HANDLED) where
+    (early : h ≤ MAX_HORIZON) (short : length log ≤ MAX_HANDLED) where
   -- the log is within the limits
   pub log-within_limits : IsWithinLimits 0 log
   log-within_limits =
       let long = moments-length 0 log in
       entries-within_limits 0 0 log (queue-within_limits q.queue
-      (all_weaker (λ x. x.time < h) (λ x. x.time ≤ MOST_HORIZON) (moments log) (λ x l. omega (arith, l, early))
+      (all_weaker (λ x. x.time < h) (λ x. x.time ≤ MAX_HORIZON) (moments log) (λ x l. omega (arith, l, early))
       q.early) (omega (arith, long, short)))
 
   -- no moment is after h

@@ -14,7 +14,7 @@ use Rattle.stations.specs.Runs.{log_at}
 use Rattle.queue_stats.specs.Moments.{moments, is_change}
 use Rattle.queue_stats.specs.Figures.{count, loss_count, waits}
 use Rattle.queue_stats.specs.Queues.{IsQueue, IsServerQueue}
-use Rattle.net_model.specs.declared.limits.TheConstants.{MOST_HORIZON}
+use Rattle.net_model.specs.declared.limits.TheConstants.{MAX_HORIZON}
 use Rattle.queue_stats.specs.Laws.{IsLogOf, is_server, is_single_by_arrival}
 use Rattle.queue_stats.specs.Orders.{DepartInOrder, VisitsEndInOrder}
 use Rattle.queue_stats.specs.Stats.{server_stats, reports_waits, waits_summary}
@@ -48,7 +48,7 @@ module _ (net : Net) (valid : IsNet net) (s until : ℕ) (log : List (Entry Msg 
   server_queue serves = server_queue_by (site_of net s).kind refl serves
 
   -- its end is at most the greatest horizon
-  pub until-le : until ≤ MOST_HORIZON
+  pub until-le : until ≤ MAX_HORIZON
   until-le =
       let e = of.end in
       let w = of.within in

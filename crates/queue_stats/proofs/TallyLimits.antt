@@ -1,7 +1,7 @@
 -- The limits on the sums of a walk: no sum gets too large.
 use Rattle.std.proofs.Common.{◌≡◌, ℕ, ◌+◌, ◌-◌, ◌*◌, ◌≤◌, List, ◌∷◌, length, arith, ◌&&◌, nat_lt}
 use Rattle.std.proofs.Math.Nat.{mul-le-mul_left}
-use Rattle.sim_base.specs.declared.limits.TheConstants.{MOST_HANDLED}
+use Rattle.sim_base.specs.declared.limits.TheConstants.{MAX_HANDLED}
 use Rattle.sim_base.specs.declared.entry.Entry.{Entry}
 use Rattle.sim_base.specs.declared.entry.Line.{Line}
 use Rattle.sim_base.specs.declared.message.Msg.{Msg}
@@ -12,12 +12,12 @@ use Rattle.queue_stats.proofs.Lists.{one_if-le}
 
 -- some entries may be added one after another
 pub record MayAddAll (t : Tally) (es : List (Entry Msg Line)) : Type 0 where
-  pub arrived : t.arrived + length es ≤ MOST_HANDLED
-  pub lost : t.lost + length es ≤ MOST_HANDLED
-  pub done : t.done + length es ≤ MOST_HANDLED
-  pub changes : t.changes + length es ≤ MOST_HANDLED
-  pub in_system : t.in_system ≤ MOST_HANDLED
-  pub area : t.area ≤ MOST_HANDLED * t.last_time
+  pub arrived : t.arrived + length es ≤ MAX_HANDLED
+  pub lost : t.lost + length es ≤ MAX_HANDLED
+  pub done : t.done + length es ≤ MAX_HANDLED
+  pub changes : t.changes + length es ≤ MAX_HANDLED
+  pub in_system : t.in_system ≤ MAX_HANDLED
+  pub area : t.area ≤ MAX_HANDLED * t.last_time
   pub within_limits : IsWithinLimits t.last_time es
 
 -- once the first of them is added, the rest may be added
@@ -31,7 +31,7 @@ may_add_all-rest t e es may =
     let later = may.within_limits.0 in
     let d : ℕ = e.msg.key.time - t.last_time in
     let whole : t.last_time + d ≡ e.msg.key.time = omega (arith, later) in
-    let product : d * t.in_system ≤ d * MOST_HANDLED = mul-le-mul_left d may.in_system in
+    let product : d * t.in_system ≤ d * MAX_HANDLED = mul-le-mul_left d may.in_system in
     record {
       arrived = omega (arith, may.arrived, job);
       lost = omega (arith, may.lost, loss);

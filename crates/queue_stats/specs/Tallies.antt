@@ -5,8 +5,8 @@ use Rattle.sim_base.specs.declared.message.Payload.{Payload}
 use Rattle.sim_base.specs.declared.message.Payload.TheVariants.{Job, Done, Set}
 use Rattle.sim_base.specs.declared.entry.Entry.{Entry}
 use Rattle.sim_base.specs.declared.entry.Line.{Line}
-use Rattle.sim_base.specs.declared.limits.TheConstants.{MOST_HANDLED}
-use Rattle.net_model.specs.declared.limits.TheConstants.{MOST_HORIZON}
+use Rattle.sim_base.specs.declared.limits.TheConstants.{MAX_HANDLED}
+use Rattle.net_model.specs.declared.limits.TheConstants.{MAX_HORIZON}
 use Rattle.queue_stats.specs.declared.tally.Tally.{Tally}
 use Rattle.queue_stats.specs.Moments.{busy_in, wait_in, lost_in}
 use Rattle.queue_stats.specs.Figures.{one_if}
@@ -62,18 +62,18 @@ empty_tally = record {
 -- an entry may be added, since no sum gets too large
 pub record MayAdd (t : Tally) (e : Entry Msg Line) : Type 0 where
   pub later : t.last_time ≤ e.msg.key.time
-  pub early : e.msg.key.time ≤ MOST_HORIZON
-  pub in_system : busy_in e.line + wait_in e.line ≤ MOST_HANDLED
-  pub arrived : t.arrived < MOST_HANDLED
-  pub lost : t.lost < MOST_HANDLED
-  pub done : t.done < MOST_HANDLED
-  pub changes : t.changes < MOST_HANDLED
-  pub before : t.in_system ≤ MOST_HANDLED
-  pub area : t.area ≤ MOST_HANDLED * t.last_time
+  pub early : e.msg.key.time ≤ MAX_HORIZON
+  pub in_system : busy_in e.line + wait_in e.line ≤ MAX_HANDLED
+  pub arrived : t.arrived < MAX_HANDLED
+  pub lost : t.lost < MAX_HANDLED
+  pub done : t.done < MAX_HANDLED
+  pub changes : t.changes < MAX_HANDLED
+  pub before : t.in_system ≤ MAX_HANDLED
+  pub area : t.area ≤ MAX_HANDLED * t.last_time
 
 -- the entries come at time t or later, in order of time, and their times and numbers in the system are within the
 -- limits
 abbrev pub IsWithinLimits : ℕ → List (Entry Msg Line) → Type 0
 IsWithinLimits t [] = Unit {0}
-IsWithinLimits t (e ∷ es) = (t ≤ e.msg.key.time) × (e.msg.key.time ≤ MOST_HORIZON)
-    × (busy_in e.line + wait_in e.line ≤ MOST_HANDLED) × IsWithinLimits e.msg.key.time es
+IsWithinLimits t (e ∷ es) = (t ≤ e.msg.key.time) × (e.msg.key.time ≤ MAX_HORIZON)
+    × (busy_in e.line + wait_in e.line ≤ MAX_HANDLED) × IsWithinLimits e.msg.key.time es

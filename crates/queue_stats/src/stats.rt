@@ -1,8 +1,8 @@
 //! The statistics of a server in the run of a clone.
 ghost use Rattle.std.specs.Prelude.{◌≡◌, ◌≤◌, ◌<◌, ◌+◌, ◌-◌, ◌*◌, length, IsSome, Some, None, true, if◌then◌else◌};
 ghost use Rattle.std.specs.Prelude.{◌&&◌, ◌==◌};
-ghost use Rattle.sim_base.specs.declared.limits.TheConstants.{MOST_HANDLED};
-ghost use Rattle.net_model.specs.declared.limits.TheConstants.{MOST_HORIZON};
+ghost use Rattle.sim_base.specs.declared.limits.TheConstants.{MAX_HANDLED};
+ghost use Rattle.net_model.specs.declared.limits.TheConstants.{MAX_HORIZON};
 ghost use Rattle.net_model.specs.Net.{HasStation, site_of};
 ghost use Rattle.queue_stats.specs.Moments.{moments};
 ghost use Rattle.queue_stats.specs.Figures.{time_in_system};
@@ -39,7 +39,7 @@ pub struct Stats {
 
 // The sum continued to another time; the number in the system is constant from the earlier of the two times on.
 fn present_until(present: u64, in_system: u64, from: u64, until: u64) -> u64
-    requires later_max { from ≤ until → present + (until - from) * in_system ≤ MOST_HANDLED * MOST_HORIZON }
+    requires later_max { from ≤ until → present + (until - from) * in_system ≤ MAX_HANDLED * MAX_HORIZON }
     requires earlier_max { until < from → (from - until) * in_system ≤ present }
     ensures later { from ≤ until → result ≡ present + (until - from) * in_system }
     ensures earlier { until < from → result + (from - until) * in_system ≡ present }
@@ -94,7 +94,7 @@ fn reports_waits(single: bool, tally: &Tally) -> bool
 // The waits of a log if they are reported.
 fn waits_if(reported: bool, log: &Log) -> Option<Waits>
     requires within_limits { IsWithinLimits 0 log.now }
-    requires entries_max { length log.now ≤ MOST_HANDLED }
+    requires entries_max { length log.now ≤ MAX_HANDLED }
     ensures value { result ≡ (if reported then Some (waits_along_log log.now) else None) }
 {
     if reported { Some(waits_of(log)) } else { None }
@@ -103,8 +103,8 @@ fn waits_if(reported: bool, log: &Log) -> Option<Waits>
 // The statistics of a queue's log until a time.
 fn stats_until(single: bool, log: &Log, until: u64) -> Stats
     requires queue { IsServerQueue single until log.now }
-    requires until_max { until ≤ MOST_HORIZON }
-    requires entries_max { length log.now ≤ MOST_HANDLED }
+    requires until_max { until ≤ MAX_HORIZON }
+    requires entries_max { length log.now ≤ MAX_HANDLED }
     ensures value { result ≡ stats single until log.now }
     ensures little { result.present ≡ time_in_system until (moments log.now) }
     ensures lindley { IsSome result.waits → IsLindley (moments log.now) }

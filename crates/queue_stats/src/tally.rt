@@ -1,7 +1,7 @@
 //! One walk along a server's log, which adds up all figures except the waits.
 ghost use Rattle.std.specs.Prelude.{◌≡◌, ◌+◌, ◌-◌, ◌*◌, ◌≤◌, length};
-ghost use Rattle.sim_base.specs.declared.limits.TheConstants.{MOST_HANDLED};
-ghost use Rattle.net_model.specs.declared.limits.TheConstants.{MOST_HORIZON};
+ghost use Rattle.sim_base.specs.declared.limits.TheConstants.{MAX_HANDLED};
+ghost use Rattle.net_model.specs.declared.limits.TheConstants.{MAX_HORIZON};
 ghost use Rattle.queue_stats.specs.Moments.{busy_in, wait_in, lost_in};
 ghost use Rattle.queue_stats.specs.Tallies.{is_job as is_job_of, is_done as is_done_of, is_set as is_set_of};
 ghost use Rattle.queue_stats.specs.Tallies.{with_entry, tally_along, empty_tally, MayAdd, IsWithinLimits};
@@ -110,9 +110,9 @@ impl Tally {
     /// The number of jobs in the system, summed over the times before this one.
     pub fn present(self, until: u64) -> u64
         requires until_min { self.last_time ≤ until }
-        requires until_max { until ≤ MOST_HORIZON }
-        requires in_system_max { self.in_system ≤ MOST_HANDLED }
-        requires area_max { self.area ≤ MOST_HANDLED * self.last_time }
+        requires until_max { until ≤ MAX_HORIZON }
+        requires in_system_max { self.in_system ≤ MAX_HANDLED }
+        requires area_max { self.area ≤ MAX_HANDLED * self.last_time }
         ensures value { result ≡ self.area + (until - self.last_time) * self.in_system }
     {
         self.area + (until - self.last_time) * self.in_system
@@ -122,7 +122,7 @@ impl Tally {
 /// The sums of a whole log.
 pub fn tally_of(log: &Log) -> Tally
     requires within_limits { IsWithinLimits 0 log.now }
-    requires entries_max { length log.now ≤ MOST_HANDLED }
+    requires entries_max { length log.now ≤ MAX_HANDLED }
     ensures value { result ≡ tally_along empty_tally log.now }
 {
     let mut tally = Tally {

@@ -3,8 +3,8 @@
 //! Jobs are served in order of arrival, so the next service start is that of the next arrival. The first walk finds the
 //! service starts, and the second their arrivals.
 ghost use Rattle.std.specs.Prelude.{◌≡◌, ◌+◌, ◌*◌, ◌≤◌, length};
-ghost use Rattle.sim_base.specs.declared.limits.TheConstants.{MOST_HANDLED};
-ghost use Rattle.net_model.specs.declared.limits.TheConstants.{MOST_HORIZON};
+ghost use Rattle.sim_base.specs.declared.limits.TheConstants.{MAX_HANDLED};
+ghost use Rattle.net_model.specs.declared.limits.TheConstants.{MAX_HORIZON};
 ghost use Rattle.queue_stats.specs.Tallies.{IsWithinLimits};
 ghost use Rattle.queue_stats.specs.Trails.{first_arrival, after_first_arrival, with_wait, waits_along_log};
 
@@ -23,7 +23,7 @@ pub struct Waits {
 impl Waits {
     // These waits, and one more.
     fn with(self, wait: u64) -> Waits
-        requires sum_max { self.waited + wait ≤ MOST_HANDLED * MOST_HORIZON }
+        requires sum_max { self.waited + wait ≤ MAX_HANDLED * MAX_HORIZON }
         ensures value { result ≡ with_wait self wait }
     {
         Waits {
@@ -49,7 +49,7 @@ fn next_arrival(walk: &mut Walk<'_>) -> u64
 // The waits of the visits of a log.
 pub(crate) fn waits_of(log: &Log) -> Waits
     requires within_limits { IsWithinLimits 0 log.now }
-    requires entries_max { length log.now ≤ MOST_HANDLED }
+    requires entries_max { length log.now ≤ MAX_HANDLED }
     ensures value { result ≡ waits_along_log log.now }
 {
     let mut lead = log.walk_from(0);

@@ -9,7 +9,7 @@ use Rattle.sim_base.specs.declared.message.Job.{Job as JobOf}
 use Rattle.sim_base.specs.declared.message.Payload.{Payload}
 use Rattle.sim_base.specs.declared.message.Payload.TheVariants.{Job}
 use Rattle.net_model.specs.declared.station.Link.{Link}
-use Rattle.net_model.specs.declared.limits.TheConstants.{MOST_TIME}
+use Rattle.net_model.specs.declared.limits.TheConstants.{MAX_TIME}
 use Rattle.net_model.specs.Net.{Net}
 use Rattle.net_model.specs.Rules.{IsLink, IsRange}
 use Rattle.sim_draw.specs.Drawing.{DrawsView, range_of, next_of}
@@ -32,7 +32,7 @@ module _ (net : Net) (now : ℕ) where
   -- a message that station s sends in a run at `now`: a tick or a completion is for s itself
   pub record IsRunSend (s : ℕ) (m : Msg) : Type 0 where
     pub job : CarriesJobOf net m.payload
-    pub time_max : m.key.time ≤ now + 2 * MOST_TIME
+    pub time_max : m.key.time ≤ now + 2 * MAX_TIME
     pub to_itself : (ticks_in m.payload + completions_in m.payload ≡ 0) ⊎ (m.to ≡ s)
 
   -- b is a after more messages, of which t are ticks and d are service completions
@@ -149,7 +149,7 @@ module _ (net : Net) (now : ℕ) where
   module _ (links : List Link) (valid : AllByRecursion (IsLink net) links) where
     -- a job goes over a link
     pub adds-over : (link : Option Link) (i time : ℕ) (j : JobOf) (a : Outgoing) → link ≡ slice_get links i →
-        time ≤ now + MOST_TIME → is_job_of net j ≡ true → Adds 0 0 a (send_over link time j a)
+        time ≤ now + MAX_TIME → is_job_of net j ≡ true → Adds 0 0 a (send_over link time j a)
     adds-over None i time j a is soon own = adds-none a
     adds-over (Some link) i time j a is soon own =
         let small = (AllByRecursion-slice_get (IsLink net) links i link valid (sym is)).small in
@@ -177,7 +177,7 @@ module _ (net : Net) (now : ℕ) where
         (adds-over (link_by links weights a) _ now j picked refl (omega arith) own)
 
     -- a link is picked, and a job goes over it after a time drawn from a range
-    pub adds-held : (weights : List ℕ) (lo hi : ℕ) (j : JobOf) (a : Outgoing) → lo ≤ hi → hi ≤ MOST_TIME →
+    pub adds-held : (weights : List ℕ) (lo hi : ℕ) (j : JobOf) (a : Outgoing) → lo ≤ hi → hi ≤ MAX_TIME →
         is_job_of net j ≡ true →
         Adds 0 0 a (send_over (link_by links weights a) (now + range_of lo hi (after_pick weights a).sender.draws) j
         (draw (after_pick weights a)))

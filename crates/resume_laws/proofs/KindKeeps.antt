@@ -10,14 +10,14 @@ use Rattle.sim_base.specs.declared.message.Payload.{Payload}
 use Rattle.sim_base.specs.declared.message.Payload.TheVariants.{Tick, Job, Done, Set}
 use Rattle.net_model.specs.declared.station.Kind.{Kind}
 use Rattle.net_model.specs.declared.station.Kind.TheVariants as kind
-use Rattle.net_model.specs.declared.limits.TheConstants.{MOST_JOBS}
+use Rattle.net_model.specs.declared.limits.TheConstants.{MAX_JOBS}
 use Rattle.net_model.specs.Net.{Net, Site, site_of, is_source, routes_by_turn}
 use Rattle.net_model.specs.Rules.{IsLink, IsRange}
 use Rattle.stations.specs.declared.kind_state.KindState.{KindState}
 use Rattle.stations.specs.declared.kind_state.KindState.TheVariants.{Source, Server, Delay, Router, Sink}
 use Rattle.stations.specs.declared.kind_state.SourceState.{SourceState}
 use Rattle.stations.specs.declared.kind_state.RouterState.{RouterState}
-use Rattle.stations.specs.declared.sender.TheConstants.{ALL_TIMES}
+use Rattle.stations.specs.declared.sender.TheConstants.{MAX_EVENT_TIMES}
 use Rattle.stations.specs.Changes.{is_accepted}
 use Rattle.stations.specs.Fits.{GoodKind}
 use Rattle.stations.specs.Handling.{kind_on}
@@ -70,9 +70,9 @@ module _ (net : Net) (now : ℕ) (early : now < net.horizon) where
 
   -- the source of a new job made it before the horizon
   is_job_of-made : (station sent jobs : ℕ) → is_source (site_of net station).kind ≡ true → sent < jobs →
-      jobs ≤ MOST_JOBS → is_job_of net (record { source = station; count = sent; born = now }) ≡ true
+      jobs ≤ MAX_JOBS → is_job_of net (record { source = station; count = sent; born = now }) ≡ true
   is_job_of-made station sent jobs source less few =
-      rw (source, lt-ltb sent MOST_JOBS (omega arith), lt-ltb now net.horizon early) refl
+      rw (source, lt-ltb sent MAX_JOBS (omega arith), lt-ltb now net.horizon early) refl
 
 module _ (net : Net) (site : Site) (now : ℕ) (links : AllByRecursion (IsLink net) site.links)
     (early : now < net.horizon) where
@@ -95,7 +95,7 @@ module _ (net : Net) (site : Site) (now : ℕ) (links : AllByRecursion (IsLink n
 
   -- a source makes a job at its tick
   source_ticks-reacts : (lo hi jobs class handled : ℕ) (s : SourceState) (a : Outgoing) →
-      is_source (site_of net a.sender.station).kind ≡ true → s.jobs ≡ jobs → IsRange 1 s.lo s.hi → s.jobs ≤ MOST_JOBS →
+      is_source (site_of net a.sender.station).kind ≡ true → s.jobs ≡ jobs → IsRange 1 s.lo s.hi → s.jobs ≤ MAX_JOBS →
       s.sent + 1 ≤ s.jobs → KindReacts net now (kind.Source lo hi jobs class) handled Tick (Source s) a
       (kind_on net site now Tick (Source s) a)
   source_ticks-reacts lo hi jobs class handled s a source same range few may =
@@ -156,7 +156,7 @@ module _ (net : Net) (site : Site) (now : ℕ) (links : AllByRecursion (IsLink n
   -- every kind, at every message
   pub kind_on-reacts : (k : Kind) (handled : ℕ) (p : Payload) (s : KindState) (a : Outgoing) → site.kind ≡ k →
       is_source (site_of net a.sender.station).kind ≡ is_source k → GoodKind handled s → RunKeepsKind net k handled s →
-      CarriesJobOf net p → now < ALL_TIMES → sent_of s + ticks_in p ≤ jobs_of s →
+      CarriesJobOf net p → now < MAX_EVENT_TIMES → sent_of s + ticks_in p ≤ jobs_of s →
       KindReacts net now k handled p s a (kind_on net site now p s a)
   kind_on-reacts (kind.Source lo hi jobs class) handled Tick (Source s) a is source good kept own soon may =
       source_ticks-reacts lo hi jobs class handled s a source kept good.range good.jobs may

@@ -7,12 +7,12 @@ use Rattle.std.proofs.lemmas.Bool.{le-leb, lt-ltb, and_from as and}
 use Rattle.sim_base.specs.Weights.{IsWeight}
 use Rattle.net_model.specs.declared.station.Kind.{Kind}
 use Rattle.net_model.specs.declared.station.Kind.TheVariants as kind
-use Rattle.net_model.specs.declared.limits.TheConstants.{MOST_WEIGHT}
+use Rattle.net_model.specs.declared.limits.TheConstants.{MAX_WEIGHT}
 use Rattle.net_model.specs.Net.{Net, Site, site_at, site_of}
 use Rattle.net_model.specs.Rules.{IsNet, is_within}
 use Rattle.stations.specs.declared.kind_state.KindState.{KindState}
 use Rattle.stations.specs.declared.kind_state.KindState.TheVariants.{Source, Server, Delay, Router, Sink}
-use Rattle.stations.specs.declared.sender.TheConstants.{ALL_STAYS}
+use Rattle.stations.specs.declared.sender.TheConstants.{MAX_STAY_SUM}
 use Rattle.stations.specs.Fits.{FitsKind, IsOfKind}
 use Rattle.stations.specs.Fitting.{is_job_of, fits_shape}
 use Rattle.stations.specs.Handling.{StateView}
@@ -53,16 +53,16 @@ module _ (net : Net) where
       and _ _ (range-true 0 s.lo s.hi fits.range) (le-leb s.passed handled fits.passed)
   fits_shape-shape_of site (kind.Router turn) handled (Router s) few valid kept fits of sent =
       and _ _ (and _ _ (eq-eqb (length s.weights.items) (length site.links) of)
-      (all_pass-true (is_within 1 MOST_WEIGHT) s.weights.items (weights s.weights.items fits.weights.all)))
+      (all_pass-true (is_within 1 MAX_WEIGHT) s.weights.items (weights s.weights.items fits.weights.all)))
       (le-leb s.passed handled fits.passed)
     where
-      weights : (ws : List ℕ) → AllByRecursion IsWeight ws → AllByRecursion (λ w. is_within 1 MOST_WEIGHT w ≡ true) ws
+      weights : (ws : List ℕ) → AllByRecursion IsWeight ws → AllByRecursion (λ w. is_within 1 MAX_WEIGHT w ≡ true) ws
       weights [] all = tt
-      weights (w ∷ ws) all = (within-true 1 MOST_WEIGHT w all.0.heavy all.0.light, weights ws all.1)
+      weights (w ∷ ws) all = (within-true 1 MAX_WEIGHT w all.0.heavy all.0.light, weights ws all.1)
   fits_shape-shape_of site kind.Sink handled (Sink s) few valid kept fits of sent =
       let short = valid.short in
       let k = kept in
-      and _ _ (le-leb s.got handled fits.got) (lt-ltb s.stay ALL_STAYS (omega (arith, k, few, short)))
+      and _ _ (le-leb s.got handled fits.got) (lt-ltb s.stay MAX_STAY_SUM (omega (arith, k, few, short)))
   fits_shape-shape_of site k handled s few valid kept fits of sent = absurd kept
 
   -- a state with another kind's state, and with another station, seed and stream for its draws

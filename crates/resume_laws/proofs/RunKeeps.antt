@@ -23,11 +23,11 @@ use Rattle.run_laws.proofs.Running.{fine_keeps}
 use Rattle.run_laws.proofs.Worlds.{put_cases, world_lawful, begins_fine, run_reached}
 use Rattle.net_model.specs.declared.station.Kind.{Kind}
 use Rattle.net_model.specs.declared.station.Kind.TheVariants as kind
-use Rattle.net_model.specs.declared.limits.TheConstants.{MOST_TIME}
+use Rattle.net_model.specs.declared.limits.TheConstants.{MAX_TIME}
 use Rattle.net_model.specs.Net.{Net, Site, site_of, no_site}
 use Rattle.net_model.specs.Rules.{IsNet, IsLink}
 use Rattle.stations.specs.declared.kind_state.KindState.TheVariants.{Source}
-use Rattle.stations.specs.declared.sender.TheConstants.{ALL_TIMES}
+use Rattle.stations.specs.declared.sender.TheConstants.{MAX_EVENT_TIMES}
 use Rattle.stations.specs.Fits.{GoodKind}
 use Rattle.stations.specs.Good.{IsGood}
 use Rattle.stations.specs.Handling.{StateView, handle}
@@ -185,7 +185,7 @@ module _ (net : Net) (valid : IsNet net) where
       let left = h.jobs_max in
       let jobs = h.jobs in
       let busy = h.busy in
-      let soon : net.horizon + 2 * MOST_TIME < ALL_TIMES = let far = valid.soon in omega (arith, far) in
+      let soon : net.horizon + 2 * MAX_TIME < MAX_EVENT_TIMES = let far = valid.soon in omega (arith, far) in
       record {
         states = put_cases (RunKeepsState net) x.states r st2 h.state (λ s n. kept.states s);
         pending = all_insert_all (lawful-stations net valid).order.order (RunKeepsMessage net) zs q
@@ -235,7 +235,7 @@ module _ (net : Net) (valid : IsNet net) where
   -- the first message of station s is a tick to s, if the station has a first message
   abbrev IsFirstTick : ℕ → Option Msg → Type 0
   IsFirstTick s None = Unit {0}
-  IsFirstTick s (Some m) = (m.payload ≡ Tick) × (m.key.time < ALL_TIMES) × (m.to ≡ s)
+  IsFirstTick s (Some m) = (m.payload ≡ Tick) × (m.key.time < MAX_EVENT_TIMES) × (m.to ≡ s)
 
   -- the invariant of station s when it opens
   record OpeningKeeps (s : ℕ) (k : Kind) (stream : ℕ) (o : Opening StateView Msg) : Type 0 where

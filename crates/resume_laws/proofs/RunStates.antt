@@ -13,7 +13,7 @@ use Rattle.run_laws.proofs.Queue.{all_in, all_from}
 use Rattle.run_laws.proofs.Replaying.{state_is_replay, replay_is_good}
 use Rattle.net_model.specs.Net.{Net}
 use Rattle.net_model.specs.Rules.{IsNet}
-use Rattle.stations.specs.declared.sender.TheConstants.{ALL_TIMES}
+use Rattle.stations.specs.declared.sender.TheConstants.{MAX_EVENT_TIMES}
 use Rattle.stations.specs.Fits.{FitsState, SuitsNet}
 use Rattle.stations.specs.Good.{IsGood}
 use Rattle.stations.specs.Handling.{StateView}
@@ -26,14 +26,14 @@ use Rattle.resume_laws.specs.Tally.{tally}
 use Rattle.resume_laws.proofs.RunKeeps.{run_invariant_holds}
 
 module _ (net : Net) (valid : IsNet net) where
-  -- all that a station handled before a front up to the horizon comes before `ALL_TIMES`
+  -- all that a station handled before a front up to the horizon comes before `MAX_EVENT_TIMES`
   log_at-early : (c : Clone) (s front : ℕ) → front ≤ net.horizon →
-      AllByRecursion (λ e. e.msg.key.time < ALL_TIMES) (log_at net c s front)
+      AllByRecursion (λ e. e.msg.key.time < MAX_EVENT_TIMES) (log_at net c s front)
   log_at-early c s front within =
       let trace : List (Entry Msg Line) = (run_of (simulation net) c front).at.trace in
       let bound : ℕ = min front (end_of (simulation net) c) in
       let far = valid.soon in
-      all_from (λ e. e.msg.key.time < ALL_TIMES) (log_at net c s front) (λ e i.
+      all_from (λ e. e.msg.key.time < MAX_EVENT_TIMES) (log_at net c s front) (λ e i.
       let early : e.msg.key.time < min front (end_of (simulation net) c) =
       all_in (λ e. e.msg.key.time < bound) trace e (trace_below (lawful-stations net valid) c.plans bound)
       (in_filter (λ e. e.msg.to == s) trace e i).0 in

@@ -12,7 +12,7 @@ use Rattle.net_model.specs.declared.station.Kind.TheVariants as kind
 use Rattle.net_model.specs.Net.{Net, site_of}
 use Rattle.stations.specs.declared.kind_state.KindState.{KindState}
 use Rattle.stations.specs.declared.kind_state.KindState.TheVariants.{Source, Server, Delay, Router, Sink}
-use Rattle.stations.specs.declared.sender.TheConstants.{ALL_TIMES}
+use Rattle.stations.specs.declared.sender.TheConstants.{MAX_EVENT_TIMES}
 use Rattle.stations.specs.Fitting.{is_job_of}
 use Rattle.stations.specs.Handling.{StateView}
 use Rattle.resume_laws.specs.Tally.{tally}
@@ -62,14 +62,15 @@ busy_of (Server s) = s.busy
 busy_of _ = 0
 
 -- the invariant of a kind's state in a run. A source may send the model's number of jobs. Sources of the network may
--- have made the waiting jobs, before the horizon. The sum of stays at a sink is at most `ALL_TIMES` for each message
+-- have made the waiting jobs, before the horizon. The sum of stays at a sink is at most `MAX_EVENT_TIMES` for each
+-- message
 abbrev pub RunKeepsKind : Net → Kind → ℕ → KindState → Type 0
 RunKeepsKind net (kind.Source lo hi jobs class) handled (Source s) = s.jobs ≡ jobs
 RunKeepsKind net (kind.Server servers room lo hi by_class) handled (Server s) =
     AllByRecursion (λ j. is_job_of net j ≡ true) s.waiting
 RunKeepsKind net (kind.Delay lo hi) handled (Delay s) = Unit {0}
 RunKeepsKind net (kind.Router turn) handled (Router s) = Unit {0}
-RunKeepsKind net kind.Sink handled (Sink s) = s.stay ≤ ALL_TIMES * handled
+RunKeepsKind net kind.Sink handled (Sink s) = s.stay ≤ MAX_EVENT_TIMES * handled
 RunKeepsKind net _ handled _ = ⊥
 
 -- the invariant of the state of station s in a run: it draws from the model's stream with the model's seed
@@ -81,7 +82,7 @@ pub record RunKeepsState (net : Net) (s : ℕ) (st : StateView) : Type 0 where
 -- the invariant of a pending message in a run
 pub record RunKeepsMessage (net : Net) (m : Msg) : Type 0 where
   pub job : CarriesJobOf net m.payload
-  pub time_max : m.key.time < ALL_TIMES
+  pub time_max : m.key.time < MAX_EVENT_TIMES
 
 -- the invariant of a run's world. A source has at most one pending tick, and only if a job is left to send. A server
 -- has no more pending completions than jobs in service

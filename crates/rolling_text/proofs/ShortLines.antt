@@ -24,7 +24,7 @@ use Rattle.stations.specs.Good.{sender_of, number_of}
 use Rattle.stations.specs.Runs.{simulation, trace_of, log_at}
 use Rattle.stations.proofs.GoodLaws.{lawful-stations, stations-to_stations, fresh-stations}
 use Rattle.log_chain.specs.Times.{from_time}
-use Rattle.trace_report.specs.declared.line.TheConstants.{MOST_LINE}
+use Rattle.trace_report.specs.declared.line.TheConstants.{MAX_LINE}
 use Rattle.trace_report.specs.TraceText.{entry_line}
 use Rattle.trace_cursor.specs.Rests.{merge_of_rests}
 use Rattle.trace_cursor.specs.Words.{by_key}
@@ -43,12 +43,12 @@ pub short_none : (net : Net) → HaveShortLines net []
 short_none net = record { each = λ e i. absurd i }
 
 -- one more entry
-pub short_more : (net : Net) (e : Entry Msg Line) (es : List (Entry Msg Line)) → length (entry_line net e) ≤ MOST_LINE
+pub short_more : (net : Net) (e : Entry Msg Line) (es : List (Entry Msg Line)) → length (entry_line net e) ≤ MAX_LINE
     → HaveShortLines net es → HaveShortLines net (e ∷ es)
 short_more net e es l h = record { each = one }
   where
-    one : (x : Entry Msg Line) → In x (e ∷ es) → length (entry_line net x) ≤ MOST_LINE
-    one x (inl is) = subst (λ (y : Entry Msg Line). length (entry_line net y) ≤ MOST_LINE) (sym is) l
+    one : (x : Entry Msg Line) → In x (e ∷ es) → length (entry_line net x) ≤ MAX_LINE
+    one x (inl is) = subst (λ (y : Entry Msg Line). length (entry_line net y) ≤ MAX_LINE) (sym is) l
     one x (inr i) = h.each x i
 
 -- a merged list of two lists
@@ -58,9 +58,9 @@ short_merge net cmp xs ys h k = record {
   each = λ e i. elim (in_merge cmp xs ys e i) [ inl a ↦ h.each e a | inr b ↦ k.each e b ];
 }
 
--- the lines of entries are bounded by `MOST_LINE` for each
+-- the lines of entries are bounded by `MAX_LINE` for each
 sum_short : (net : Net) (es : List (Entry Msg Line)) → HaveShortLines net es
-    → sum_by (λ e. length (entry_line net e)) es ≤ MOST_LINE * length es
+    → sum_by (λ e. length (entry_line net e)) es ≤ MAX_LINE * length es
 sum_short net [] h = omega arith
 sum_short net (e ∷ es) h =
     let a = h.each e (inl refl) in
@@ -91,9 +91,9 @@ module _ (world : WorldView) (over : IsOver world) (c : ℕ) (there : c < length
   abbrev clone : Clone
   clone = clone_at world.clones c
 
-  -- the lines of a log are within `MOST_LINE` bytes each
+  -- the lines of a log are within `MAX_LINE` bytes each
   log_bounded : (s : ℕ) (log : List (Entry Msg Line)) → log ≡ log_at net clone s world.front
-      → HaveShortLines net (trace_of net clone) → log_length net clone 0 s ≤ MOST_LINE * length log
+      → HaveShortLines net (trace_of net clone) → log_length net clone 0 s ≤ MAX_LINE * length log
   log_bounded s log e h =
       let a = log_measured world over c there 0 s log e in
       let in_trace : (x : Entry Msg Line) → In x (from_time 0 log) → In x (trace_of net clone) =
@@ -106,10 +106,10 @@ module _ (world : WorldView) (over : IsOver world) (c : ℕ) (there : c < length
       let d = length-from_time 0 log in
       omega (arith, a, b, d)
 
-  -- with one more log the bound grows by `MOST_LINE` for each entry
+  -- with one more log the bound grows by `MAX_LINE` for each entry
   pub bound_more : (i bound new : ℕ) (log : List (Entry Msg Line)) → log ≡ log_at net clone (i + 1) world.front
       → HaveShortLines net (trace_of net clone) → first_lengths net clone 0 i ≤ bound
-      → new ≡ bound + MOST_LINE * length log → first_lengths net clone 0 (i + 1) ≤ new
+      → new ≡ bound + MAX_LINE * length log → first_lengths net clone 0 (i + 1) ≤ new
   bound_more i bound new log e h l n =
       let a = log_bounded (i + 1) log e h in
       let b = lengths_more net clone 0 i in

@@ -4,7 +4,7 @@ use Rattle.std.specs.List.{flat_map}
 use Rattle.std.specs.declared.vec.Vec.{Vec}
 use Rattle.crew_pool.specs.Calls.{CallView}
 use Rattle.crew_pool.specs.Tasks.{AnswersTo, EachAt}
-use Rattle.crew_pool.specs.declared.crew.TheConstants.{MOST_TASKS}
+use Rattle.crew_pool.specs.declared.crew.TheConstants.{MAX_TASKS}
 use Rattle.rolling_text.specs.Orders.{IsMade, Span, span_between}
 use Rattle.rolling_text.specs.TextSpans.{span_of}
 use Rattle.rolling_text.specs.WorldTraces.{WorldTracesView}
@@ -54,4 +54,4 @@ pub record IsUnderWay (traces : WorldTracesView) (call : CallView WorldTracesVie
   pub work : call.work ≡ traces
   pub joined : AreJoined c from call.items until
   pub some : 1 ≤ most
-  pub few : most ≤ MOST_TASKS
+  pub few : most ≤ MAX_TASKS

@@ -11,7 +11,7 @@ use Rattle.net_model.specs.Net.{Net}
 use Rattle.run_laws.specs.Queue.{In}
 use Rattle.run_laws.specs.SharedTexts.{entries_from, parting_of}
 use Rattle.stations.specs.Runs.{simulation, trace_of}
-use Rattle.trace_report.specs.declared.line.TheConstants.{MOST_LINE}
+use Rattle.trace_report.specs.declared.line.TheConstants.{MAX_LINE}
 use Rattle.trace_report.specs.TraceText.{entry_line}
 use Rattle.trace_report.specs.Outputs.{clone_text, clone_texts}
 use Rattle.sim_outer.specs.Bytes.{IsAppended}
@@ -60,9 +60,9 @@ pub record AreLeft (net : Net) (cs : List Clone) (c dropped : ℕ) (lines : List
   pub before : lines ++ others ≡ body_before net cs c
   pub drops : dropped + length others ≡ dropped_at net cs c
 
--- each line of these entries is at most `MOST_LINE` bytes
+-- each line of these entries is at most `MAX_LINE` bytes
 pub record HaveShortLines (net : Net) (es : List (Entry Msg Line)) : Type 0 where
-  pub each : (e : Entry Msg Line) → In e es → length (entry_line net e) ≤ MOST_LINE
+  pub each : (e : Entry Msg Line) → In e es → length (entry_line net e) ≤ MAX_LINE
 
 -- the lines of each clone, and a margin, fit into the reserved bytes
 abbrev pub AllFit : Net → List Clone → ℕ → Type 0
@@ -71,7 +71,7 @@ AllFit net cs reserved = (c : ℕ) → c < length cs → MARGIN + length (body n
 -- the cursor has room for all logs, and the piece for a line
 pub record CanPut (net : Net) (texts : Texts) : Type 0 where
   pub walk : IsWalk net texts.walk
-  pub line : MOST_LINE ≤ length texts.piece.items
+  pub line : MAX_LINE ≤ length texts.piece.items
 
 -- all memory for the texts of these clones is allocated, with a buffer that fits the longest
 pub record AreTextsReady (net : Net) (cs : List Clone) (texts : Texts) : Type 0 where

@@ -2,7 +2,7 @@
 use Rattle.std.specs.Prelude.{◌≡◌, ℕ, ◌<◌, ◌≤◌, List, length}
 use Rattle.sim_base.specs.Clones.{Clone, clone_at}
 use Rattle.sim_base.specs.declared.message.TheConstants.{WORD_NUMBERS}
-use Rattle.sim_base.specs.declared.lists.TheConstants.{MOST_CLONES}
+use Rattle.sim_base.specs.declared.lists.TheConstants.{MAX_CLONES}
 use Rattle.net_model.specs.Net.{Net}
 use Rattle.net_model.specs.Rules.{IsNet}
 use Rattle.trace_cursor.specs.Cursors.{CursorView}
@@ -37,7 +37,7 @@ AreShort cs = (k : ℕ) → k < length cs → length (clone_at cs k).plans ≤ W
 pub record IsOver (world : WorldView) : Type 0 where
   pub valid : IsNet world.net
   pub in_net : AreInNet world.net world.clones
-  pub few : length world.clones ≤ MOST_CLONES
+  pub few : length world.clones ≤ MAX_CLONES
   pub done : world.front ≡ world.net.horizon
   pub within : NoneBeyond world.net world.clones world.front
   pub short : AreShort world.clones

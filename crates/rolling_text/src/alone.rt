@@ -2,7 +2,7 @@
 ghost use Rattle.std.specs.Prelude.{◌≡◌, ◌<◌, ◌≤◌, ◌++◌, length, take, codes, OnOk, OnErr};
 ghost use Rattle.std.specs.List.{flat_map};
 ghost use Rattle.trace_report.specs.Slots.{AreNames};
-ghost use Rattle.trace_report.specs.declared.line.TheConstants.{MOST_LINE};
+ghost use Rattle.trace_report.specs.declared.line.TheConstants.{MAX_LINE};
 ghost use Rattle.trace_report.specs.TraceText.{entry_line};
 ghost use Rattle.rolling_text.specs.Puts.{IsPartPut, IsPut, IsCutOff};
 ghost use Rattle.rolling_text.specs.Texts.{text_after};
@@ -12,7 +12,7 @@ use log_chain::{Log, Walk};
 use net_model::Model;
 use sim_base::Name;
 use sim_outer::{PutFailed, Sink};
-use trace_report::{MOST_LINE, Names, write_stored};
+use trace_report::{MAX_LINE, Names, write_stored};
 
 // Writes the lines of the next entries of a walk into a piece, while a line fits and `left` of them remain. Updates
 // `left`, and returns the number of bytes written.
@@ -25,7 +25,7 @@ fn make_piece(
 ) -> usize
     requires names { AreNames model.now names.now }
     requires left { left.old ≡ length walk.old }
-    requires free { MOST_LINE ≤ length piece.old }
+    requires free { MAX_LINE ≤ length piece.old }
     // the lines in the piece, and then those of the remaining entries, are all lines of the walk
     ensures text { take result piece.new ++ flat_map (entry_line model.now) walk.new
         ≡ flat_map (entry_line model.now) walk.old }
@@ -37,7 +37,7 @@ fn make_piece(
     ensures size { length piece.new ≡ length piece.old }
 {
     let mut at = 0;
-    while *left > 0 && piece.len() - at >= MOST_LINE {
+    while *left > 0 && piece.len() - at >= MAX_LINE {
         let entry = walk.take();
         at = write_stored(piece, at, model, names, entry);
         *left -= 1;

@@ -1,6 +1,6 @@
 //! Batches of spans: a crew makes the lines of one batch while its caller puts those of the previous batch.
 ghost use Rattle.std.specs.Prelude.{◌≡◌, ◌<◌, ◌≤◌, length, IfOk, IfSome};
-ghost use Rattle.crew_pool.specs.declared.crew.TheConstants.{MOST_TASKS};
+ghost use Rattle.crew_pool.specs.declared.crew.TheConstants.{MAX_TASKS};
 ghost use Rattle.rolling_text.specs.Batches.{AreJoined, AreMade, IsBatchOf, batch_span, bytes_of};
 ghost use Rattle.rolling_text.specs.Orders.{HasSpan, IsMade};
 
@@ -11,7 +11,7 @@ use crate::making::Lines;
 use crate::text_order::place_in;
 use crate::text_span::TextSpan;
 use crate::world_traces::WorldTraces;
-use crew_pool::{Bell, Crew, MOST_TASKS, Member, NoGate, Started, Workers, serve_all};
+use crew_pool::{Bell, Crew, MAX_TASKS, Member, NoGate, Started, Workers, serve_all};
 use sim_base::{NoMemory, Steps};
 use std::alloc::Global;
 use std::marker::Brand;
@@ -36,14 +36,14 @@ pub(crate) struct Makers<'t> {
 
 impl<'t> std::marker::Model for Makers<'t> {
     ghost use Rattle.std.specs.Prelude.{◌≤◌};
-    ghost use Rattle.crew_pool.specs.declared.crew.TheConstants.{MOST_TASKS};
+    ghost use Rattle.crew_pool.specs.declared.crew.TheConstants.{MAX_TASKS};
     ghost use Rattle.rolling_text.specs.WorldTraces.{WorldTracesView};
 
     ghost Value = { WorldTracesView };
 
     ghost view = { λ m. m.lines.value };
 
-    ghost invariant = { λ m. (1 ≤ m.spans) × (m.spans ≤ MOST_TASKS) };
+    ghost invariant = { λ m. (1 ≤ m.spans) × (m.spans ≤ MAX_TASKS) };
 }
 
 /// The members of a crew that makes lines, except its caller.
@@ -91,7 +91,7 @@ fn begin<'t>(
     let lines = Arc::new(alloc, Lines::of(traces))?;
     let (crew, members) = Crew::begin(alloc, &NoGate, workers)?;
     let bell = crew.bell()?;
-    let spans = (workers.count as usize * SPANS_OF_A_WORKER).min(MOST_TASKS);
+    let spans = (workers.count as usize * SPANS_OF_A_WORKER).min(MAX_TASKS);
     Ok((Makers { lines, crew, spans }, Others { members, bell }))
 }
 

@@ -1,6 +1,6 @@
 //! Bounds on the lengths of texts, known before any text is made.
 //!
-//! No line is longer than `MOST_LINE`, since its numbers have 64 bits and names have at most 16 bytes. The entries of a
+//! No line is longer than `MAX_LINE`, since its numbers have 64 bits and names have at most 16 bytes. The entries of a
 //! clone after it parts from the previous clone are visited once each, which proves this for them. The earlier entries
 //! are the previous clone's.
 ghost use Rattle.std.specs.Prelude.{◌≡◌, ℕ, ◌<◌, ◌≤◌, length};
@@ -10,17 +10,17 @@ ghost use Rattle.run_laws.specs.SharedTexts.{entries_from};
 ghost use Rattle.log_chain.specs.Times.{RiseByTime, from_time};
 ghost use Rattle.trace_report.specs.Slots.{AreNames};
 ghost use Rattle.rolling_text.specs.Texts.{HaveShortLines, body, parting_at as parting_at'};
-ghost use Rattle.rolling_text.specs.declared.texts.TheConstants.{MOST_TEXT};
+ghost use Rattle.rolling_text.specs.declared.texts.TheConstants.{MAX_TEXT};
 ghost use Rattle.rolling_text.specs.WorldTraces.{IsOverWith, MayTrace};
 
 use crate::text_order::place_in;
 use crate::world_traces::WorldTraces;
 use log_chain::Log;
 use net_model::Model;
-use trace_report::{MOST_LINE, Names, line_len};
+use trace_report::{MAX_LINE, Names, line_len};
 use world_core::World;
 
-// Recalls for each entry of a log from a time on that its line is at most `MOST_LINE` bytes.
+// Recalls for each entry of a log from a time on that its line is at most `MAX_LINE` bytes.
 fn meet_log(model: &Model, names: &Names, log: &Log, from: u64)
     requires names { AreNames model.now names.now }
     requires rises { RiseByTime log.now }
@@ -50,11 +50,11 @@ fn bound_of(world: &World, c: u32) -> usize
     requires clone { IsOverWith world.now c }
     requires short { HaveShortLines world.now.net (trace_of world.now.net (clone_at world.now.clones c)) }
     ensures bound { length (body world.now.net (clone_at world.now.clones c)) ≤ result }
-    ensures few { result ≤ MOST_TEXT }
+    ensures few { result ≤ MAX_TEXT }
 {
     let mut bound = 0;
     for s in 0..world.model().len() {
-        bound += MOST_LINE * world.log(c, s + 1).len() as usize;
+        bound += MAX_LINE * world.log(c, s + 1).len() as usize;
     }
     bound
 }
@@ -74,7 +74,7 @@ pub(crate) fn parting_at(traces: &WorldTraces<'_>, c: u32) -> u64
 pub(crate) fn greatest_bound(traces: &WorldTraces<'_>) -> usize
     ensures bound { (c : ℕ) → c < length traces.now.clones
         → length (body traces.now.net (clone_at traces.now.clones c)) ≤ result }
-    ensures few { result ≤ MOST_TEXT }
+    ensures few { result ≤ MAX_TEXT }
 {
     let mut most = 0usize;
     for c in 0..traces.len() {

@@ -5,7 +5,7 @@ ghost use Rattle.sim_base.specs.Clones.{clone_at};
 ghost use Rattle.stations.specs.Runs.{simulation, trace_of};
 ghost use Rattle.run_laws.specs.SharedTexts.{entries_from};
 ghost use Rattle.trace_report.specs.Slots.{AreNames};
-ghost use Rattle.trace_report.specs.declared.line.TheConstants.{MOST_LINE};
+ghost use Rattle.trace_report.specs.declared.line.TheConstants.{MAX_LINE};
 ghost use Rattle.trace_report.specs.TraceText.{entry_line};
 ghost use Rattle.rolling_text.specs.Puts.{IsPutTo, IsCutOff};
 ghost use Rattle.rolling_text.specs.WorldTraces.{IsOverWith};
@@ -16,7 +16,7 @@ use net_model::Model;
 use sim_base::NoMemory;
 use sim_outer::{PutFailed, Sink};
 use trace_cursor::Cursor;
-use trace_report::{MOST_LINE, Names, write_stored};
+use trace_report::{MAX_LINE, Names, write_stored};
 use world_core::World;
 
 /// Fills a cursor with the entries of a clone's logs from a time on. Returns the number of entries.
@@ -50,7 +50,7 @@ fn make_piece(
 ) -> usize
     requires names { AreNames model.now names.now }
     requires left { left.old ≤ length cursor.old.left }
-    requires free { MOST_LINE ≤ length piece.old }
+    requires free { MAX_LINE ≤ length piece.old }
     // the lines in the piece are those of the entries that the cursor has passed
     ensures text { take result piece.new ++ flat_map (entry_line model.now) cursor.new.left
         ≡ flat_map (entry_line model.now) cursor.old.left }
@@ -63,7 +63,7 @@ fn make_piece(
     ensures most { cursor.new.most ≡ cursor.old.most }
 {
     let mut at = 0;
-    while *left > 0 && piece.len() - at >= MOST_LINE {
+    while *left > 0 && piece.len() - at >= MAX_LINE {
         let entry = cursor.take();
         at = write_stored(piece, at, model, names, entry);
         *left -= 1;
@@ -113,7 +113,7 @@ pub(crate) fn put_entries<O: Sink>(
 ) -> Result<(), PutFailed>
     requires names { AreNames model.now names.now }
     requires count { count ≤ length cursor.old.left }
-    requires free { MOST_LINE ≤ length piece.old }
+    requires free { MAX_LINE ≤ length piece.old }
     requires fits { keeps ≡ true → length page.old.text + length (flat_map (entry_line model.now) cursor.old.left)
         ≤ page.old.reserved }
     // the lines are put, and the page has them if they are kept

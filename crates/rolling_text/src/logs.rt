@@ -2,14 +2,14 @@
 ghost use Rattle.std.specs.Prelude.{◌≡◌, ◌+◌, ◌*◌, ◌<◌, ◌≤◌, length, sum_by};
 ghost use Rattle.sim_base.specs.Clones.{clone_at};
 ghost use Rattle.log_chain.specs.Times.{RiseByTime, from_time};
-ghost use Rattle.net_model.specs.declared.limits.TheConstants.{MOST_LIMIT};
+ghost use Rattle.net_model.specs.declared.limits.TheConstants.{MAX_LIMIT};
 ghost use Rattle.trace_report.specs.Slots.{AreNames};
-ghost use Rattle.trace_report.specs.declared.line.TheConstants.{MOST_LINE};
+ghost use Rattle.trace_report.specs.declared.line.TheConstants.{MAX_LINE};
 ghost use Rattle.trace_report.specs.TraceText.{entry_line};
 ghost use Rattle.run_laws.specs.SharedTexts.{entries_from};
 ghost use Rattle.stations.specs.Runs.{simulation, trace_of};
 ghost use Rattle.rolling_text.specs.Texts.{rest};
-ghost use Rattle.rolling_text.specs.declared.texts.TheConstants.{MOST_TEXT};
+ghost use Rattle.rolling_text.specs.declared.texts.TheConstants.{MAX_TEXT};
 ghost use Rattle.rolling_text.specs.WorldTraces.{IsOverWith, MayTrace};
 
 use log_chain::Log;
@@ -21,11 +21,11 @@ use world_core::World;
 fn log_len(model: &Model, names: &Names, log: &Log, from: u64, until: u64) -> usize
     requires names { AreNames model.now names.now }
     requires rises { RiseByTime log.now }
-    requires short { length log.now ≤ MOST_LIMIT }
+    requires short { length log.now ≤ MAX_LIMIT }
     requires order { from ≤ until }
     ensures value { result + sum_by (λ e. length (entry_line model.now e)) (from_time until log.now)
         ≡ sum_by (λ e. length (entry_line model.now e)) (from_time from log.now) }
-    ensures short { result ≤ MOST_LINE * MOST_LIMIT }
+    ensures short { result ≤ MAX_LINE * MAX_LIMIT }
 {
     let mut sum = 0;
     let mut walk = log.walk_from_time(from);
@@ -45,7 +45,7 @@ pub(crate) fn len_between(world: &World, names: &Names, c: u32, from: u64, until
     requires order { from ≤ until }
     ensures value { result + length (rest world.now.net (clone_at world.now.clones c) until)
         ≡ length (rest world.now.net (clone_at world.now.clones c) from) }
-    ensures short { result ≤ MOST_TEXT }
+    ensures short { result ≤ MAX_TEXT }
 {
     let model = world.model();
     let mut sum = 0;

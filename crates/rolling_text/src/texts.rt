@@ -5,11 +5,11 @@ ghost use Rattle.rolling_text.specs.Texts.{AreTextsReady};
 use crate::bounds::greatest_bound;
 use crate::page::Page;
 use crate::world_traces::WorldTraces;
-use net_model::limits::{MOST_LIMIT, MOST_STATIONS};
+use net_model::limits::{MAX_LIMIT, MAX_STATIONS};
 use sim_base::NoMemory;
 use std::alloc::Global;
 use trace_cursor::Cursor;
-use trace_report::MOST_LINE;
+use trace_report::MAX_LINE;
 
 /// The bytes before the lines. The name line is at their end: `clone `, at most 16 bytes and a line feed.
 pub(crate) const MARGIN: usize = 32;
@@ -21,7 +21,7 @@ pub(crate) const FEED: usize = MARGIN - 1;
 pub(crate) const PIECE: usize = 16_384;
 
 /// The maximum number of bytes in the lines of a clone: all logs of the largest model are full.
-pub const MOST_TEXT: usize = MOST_STATIONS * MOST_LIMIT as usize * MOST_LINE;
+pub const MAX_TEXT: usize = MAX_STATIONS * MAX_LIMIT as usize * MAX_LINE;
 
 /// All memory for the texts of clones: a buffer for shared lines, a cursor, and a buffer for new lines.
 #[derive(Drop)]

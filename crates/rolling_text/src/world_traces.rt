@@ -1,7 +1,7 @@
 //! The traces of all clones of a world, from the logs of its stations.
 ghost use Rattle.std.specs.Prelude.{◌≡◌, ◌<◌, ◌≤◌, length};
 ghost use Rattle.sim_base.specs.Clones.{clone_at};
-ghost use Rattle.sim_base.specs.declared.lists.TheConstants.{MOST_CLONES};
+ghost use Rattle.sim_base.specs.declared.lists.TheConstants.{MAX_CLONES};
 ghost use Rattle.sim_base.specs.Decisions.{same_plan};
 ghost use Rattle.net_model.specs.Rules.{IsNet};
 ghost use Rattle.run_laws.specs.SharedTexts.{parting_of as parting_of'};
@@ -97,7 +97,7 @@ impl<'a> WorldTraces<'a> {
     /// The number of clones.
     pub fn len(&self) -> u32
         ensures value { result ≡ length self.now.clones }
-        ensures few { result ≤ MOST_CLONES }
+        ensures few { result ≤ MAX_CLONES }
         ensures valid { IsNet self.now.net }
         ensures in_net { AreInNet self.now.net self.now.clones }
     {

@@ -17,7 +17,7 @@ use sim_base::NoMemory;
 use sim_outer::{PutFailed, Sink};
 use std::alloc::Global;
 use trace_cursor::Cursor;
-use trace_report::MOST_LINE;
+use trace_report::MAX_LINE;
 
 // Fills a cursor with what a clone handled from a time on. Returns the number of these entries before `until`.
 fn gather_span<'a>(
@@ -65,7 +65,7 @@ pub(crate) fn make_lines(
     let mut walk = Cursor::new(alloc, model.len() as usize)?;
     let count = gather_span(traces, &mut walk, c, from, until);
     // so that the buffer never grows
-    let mut bytes = Vec::with_capacity(alloc, (count as usize).saturating_mul(MOST_LINE))?;
+    let mut bytes = Vec::with_capacity(alloc, (count as usize).saturating_mul(MAX_LINE))?;
     add_entries(&mut bytes, &mut walk, count, model, &traces.names)?;
     Ok(bytes)
 }

@@ -7,7 +7,7 @@ ghost use mathlib.Core.List.{IsPrefix};
 ghost use Rattle.logbook.specs.Pages.{may_write};
 ghost use Rattle.shelf.specs.Racks.{AreLegal, MayBePublished};
 ghost use Rattle.shelf.specs.Rules.{head_of};
-ghost use Rattle.shelf.specs.declared.history.TheConstants.{MOST_RACKS};
+ghost use Rattle.shelf.specs.declared.history.TheConstants.{MAX_RACKS};
 
 use crate::entry::{Addition, Entry};
 use logbook::{Gain, Offer, Pen, Plain, Play, Rule, Seen, Start, Word};
@@ -15,7 +15,7 @@ use phys_proc::Rack;
 use std::marker::{Brand, Model, PhantomData};
 
 /// The maximum length of a history, in racks.
-pub const MOST_RACKS: u64 = 1 << 62;
+pub const MAX_RACKS: u64 = 1 << 62;
 
 type Head = Word<Entry, u64, HistoryRule>;
 
@@ -196,7 +196,7 @@ impl<J: Naming> History<J> {
 
     /// Adds a rack.
     pub fn add(&mut self, rack: &Rack)
-        requires few { length self.old < MOST_RACKS }
+        requires few { length self.old < MAX_RACKS }
         requires may { MayBePublished self.old rack.now }
         ensures value { self.new ≡ self.old ++ rack.now ∷ [] }
     {

@@ -36,5 +36,5 @@ mod version;
 
 pub use history::{History, Naming, NewHistory, PublishedRacks};
 pub use seat::{Seat, Told};
-pub use stocker::{MOST_READERS, Stocker, begin};
+pub use stocker::{MAX_READERS, Stocker, begin};
 pub use version::Version;

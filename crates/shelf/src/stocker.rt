@@ -3,24 +3,24 @@ ghost use Rattle.std.specs.Prelude.{All, ◌≡◌, ◌+◌, ◌<◌, ◌≤◌,
 ghost use Rattle.std.specs.Prelude.{length, map, true, false, List, Some, IfOk, IfSome, IfNone, OnOk, OnErr};
 ghost use Rattle.std.specs.Arc.{arc_value};
 ghost use Rattle.left_right.specs.Handles.{published as shown_version};
-ghost use Rattle.net_model.specs.declared.limits.TheConstants.{MOST_STATIONS};
+ghost use Rattle.net_model.specs.declared.limits.TheConstants.{MAX_STATIONS};
 ghost use Rattle.phys_proc.specs.Racks.{RackView};
 ghost use Rattle.shelf.specs.Racks.{AreShown, HasRack, MayBePublished, MayOpen, with_rack};
-ghost use Rattle.shelf.specs.declared.history.TheConstants.{MOST_RACKS};
-ghost use Rattle.shelf.specs.declared.stocker.TheConstants.{MOST_READERS};
+ghost use Rattle.shelf.specs.declared.history.TheConstants.{MAX_RACKS};
+ghost use Rattle.shelf.specs.declared.stocker.TheConstants.{MAX_READERS};
 
-use crate::history::{History, MOST_RACKS, Naming, NewHistory, PublishedRacks};
+use crate::history::{History, MAX_RACKS, Naming, NewHistory, PublishedRacks};
 use crate::seat::{Seat, Told};
 use crate::version::{NextVersion, ShownVersion, Version};
 use left_right::{Absorb, WriteHandle};
 use phys_proc::Rack;
 use sim_base::NoMemory;
-use sim_base::limits::MOST_ANALYSTS;
+use sim_base::limits::MAX_ANALYSTS;
 use std::alloc::Global;
 use std::sync::{Arc, Wait};
 
 /// The maximum number of readers of a shelf, one for each analyst.
-pub const MOST_READERS: u32 = MOST_ANALYSTS;
+pub const MAX_READERS: u32 = MAX_ANALYSTS;
 
 // `many` handles of one version.
 fn share_version<J: Naming>(
@@ -77,7 +77,7 @@ fn replace_rack(
 fn publish_opening<J: Naming>(history: &mut History<J>, racks: &[Arc<Rack>])
     requires nothing { history.old ≡ [] }
     requires opening { MayOpen (map arc_value racks.now) }
-    requires few { length racks.now ≤ MOST_STATIONS }
+    requires few { length racks.now ≤ MAX_STATIONS }
     ensures opening { history.new ≡ map arc_value racks.now }
 {
     for i in 0..racks.len() {
@@ -116,7 +116,7 @@ fn next_version<J: Naming>(
     rack: &Rack,
     racks: Vec<Arc<Rack>>,
 ) -> Result<Arc<Version<J>>, NoMemory>
-    requires few { length history.old < MOST_RACKS }
+    requires few { length history.old < MAX_RACKS }
     requires may { MayBePublished history.old rack.now }
     requires shown { AreShown (map arc_value racks.items) (history.old ++ rack.now ∷ []) }
     ensures history { history.new ≡ history.old ++ rack.now ∷ [] }
@@ -145,7 +145,7 @@ where
             × (self.new.has_published ≡ self.old.has_published)) }
         ensures shown { OnErr result (shown_version self.new.writer ≡ shown_version self.old.writer) }
     {
-        if self.is_ahead || self.published.len() >= MOST_RACKS {
+        if self.is_ahead || self.published.len() >= MAX_RACKS {
             return Err(NoMemory);
         }
         let rack = Arc::new(alloc, rack)?;
@@ -228,9 +228,9 @@ pub fn begin<J: Naming, R: Wait + Drop>(
 ) -> Result<(Stocker<J, R>, Vec<Seat<J>>), NoMemory>
     requires name { (opened.seen.book ≡ J.book) × (opened.pen.nib.key ≡ J.start) }
     requires opening { MayOpen racks.items }
-    requires few { length racks.items ≤ MOST_STATIONS }
+    requires few { length racks.items ≤ MAX_STATIONS }
     requires some { 1 ≤ readers }
-    requires most { readers ≤ MOST_READERS }
+    requires most { readers ≤ MAX_READERS }
     // what it gives: a stocker that has published these racks, without spares
     ensures published { IfOk result (λ r. r.0.published ≡ racks.items) }
     ensures readers { IfOk result (λ r. r.0.readers ≡ readers) }

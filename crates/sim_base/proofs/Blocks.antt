@@ -8,7 +8,7 @@ use Rattle.std.proofs.lemmas.List.{append-nil, take-append-drop, length-take, le
 use Rattle.sim_base.specs.Pending.{insert_marked, spread_marks}
 use Rattle.sim_base.specs.Marked.{SortedMarked}
 use Rattle.sim_base.specs.Blocks.{of_blocks, block_at, halves_of, AreFilled, AreSized, StartsAfter, IsBlockOf}
-use Rattle.sim_base.specs.declared.pending.blocks.TheConstants.{MOST_IN_BLOCK, HALF}
+use Rattle.sim_base.specs.declared.pending.blocks.TheConstants.{MAX_IN_BLOCK, HALF}
 use Rattle.std.specs.Prelude.{slice_get}
 use Rattle.sim_base.proofs.ListLaws.{all_left}
 use Rattle.sim_base.proofs.Placing.{is_lt-Less, insert_behind, insert_before, all_before, sorted_right}
@@ -51,11 +51,11 @@ module _ {X : Type 0} where
   behind_halves (suc at) (b ∷ bs) l = behind_halves at bs (omega arith)
 
   -- a full block has two halves of one length
-  half_lengths : (b : List X) → length b ≡ MOST_IN_BLOCK → (length (take HALF b) ≡ HALF) × (length (drop HALF b) ≡ HALF)
+  half_lengths : (b : List X) → length b ≡ MAX_IN_BLOCK → (length (take HALF b) ≡ HALF) × (length (drop HALF b) ≡ HALF)
   half_lengths b full = (omega (arith, length-take HALF b), omega (arith, length-drop HALF b))
 
   -- after a full block is split, no block is empty or too large
-  AreFilled-halves : (at : ℕ) (bs : List (List X)) → AreFilled bs → length (get_or bs at []) ≡ MOST_IN_BLOCK
+  AreFilled-halves : (at : ℕ) (bs : List (List X)) → AreFilled bs → length (get_or bs at []) ≡ MAX_IN_BLOCK
       → AreFilled (halves_of at bs)
   AreFilled-halves at [] h full = h
   AreFilled-halves zero (b ∷ bs) h full = let l = half_lengths b full in
@@ -64,7 +64,7 @@ module _ {X : Type 0} where
 
   -- halves are of a right size
   pub AreSized-halves : (at : ℕ) (first : List X) (later : List (List X)) (first' : List X) (later' : List (List X))
-      → AreSized first later → length (block_at first later at) ≡ MOST_IN_BLOCK
+      → AreSized first later → length (block_at first later at) ≡ MAX_IN_BLOCK
       → (first' ∷ later') ≡ halves_of at (first ∷ later) → AreSized first' later'
   AreSized-halves zero first later first' later' h full e =
       let l = half_lengths first full in

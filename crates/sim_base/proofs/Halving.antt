@@ -6,7 +6,7 @@ use Rattle.std.proofs.lemmas.List.{length-take, length-drop, get_or_read}
 use Rattle.sim_base.specs.Blocks.{of_blocks, block_at, halves_of, AreFilled, AreSized, AreBlocks, StartsAfter}
 use Rattle.sim_base.specs.Blocks.{IsBlockOf}
 use Rattle.sim_base.specs.Marked.{SortedMarked}
-use Rattle.sim_base.specs.declared.pending.blocks.TheConstants.{MOST_IN_BLOCK, HALF}
+use Rattle.sim_base.specs.declared.pending.blocks.TheConstants.{MAX_IN_BLOCK, HALF}
 use Rattle.sim_base.proofs.Blocks.{of_blocks-halves, length-halves, first_half, second_half, behind_halves}
 use Rattle.sim_base.proofs.Blocks.{AreSized-halves}
 
@@ -59,33 +59,33 @@ module _ {X : Type 0} where
         ∙ behind_halves at (first ∷ later) (omega arith)
 
     -- if the block was full, there is a free place in the first half
-    pub first_free : length (block_at first later at) ≡ MOST_IN_BLOCK
-        → length (block_at first' later' at) < MOST_IN_BLOCK
+    pub first_free : length (block_at first later at) ≡ MAX_IN_BLOCK
+        → length (block_at first' later' at) < MAX_IN_BLOCK
     first_free full = rw first_half_at (omega (arith, length-take HALF (block_at first later at)))
 
     -- and in the second half
-    pub second_free : (to : ℕ) → to ≡ suc at → length (block_at first later at) ≡ MOST_IN_BLOCK
-        → length (block_at first' later' to) < MOST_IN_BLOCK
+    pub second_free : (to : ℕ) → to ≡ suc at → length (block_at first later at) ≡ MAX_IN_BLOCK
+        → length (block_at first' later' to) < MAX_IN_BLOCK
     second_free to e full = rw (e, second_half_at) (omega (arith, length-drop HALF (block_at first later at)))
 
 -- ---- length of a block
 
 module _ {X : Type 0} where
   -- no later block has too many messages
-  filled_small : (n : ℕ) (bs : List (List X)) → AreFilled bs → length (get_or bs n []) ≤ MOST_IN_BLOCK
+  filled_small : (n : ℕ) (bs : List (List X)) → AreFilled bs → length (get_or bs n []) ≤ MAX_IN_BLOCK
   filled_small n [] h = omega arith
   filled_small zero (b ∷ bs) h = h.0.1
   filled_small (suc n) (b ∷ bs) h = filled_small n bs h.1
 
   -- nor has any block
   small_at : (at : ℕ) (first : List X) (later : List (List X)) → AreSized first later
-      → length (block_at first later at) ≤ MOST_IN_BLOCK
+      → length (block_at first later at) ≤ MAX_IN_BLOCK
   small_at zero first later h = h.first_small
   small_at (suc n) first later h = filled_small n later h.later_filled
 
   -- so one with the most or more is full
   pub full_at : (at : ℕ) (first : List X) (later : List (List X)) (n : ℕ) → AreSized first later
-      → n ≡ length (block_at first later at) → MOST_IN_BLOCK ≤ n → length (block_at first later at) ≡ MOST_IN_BLOCK
+      → n ≡ length (block_at first later at) → MAX_IN_BLOCK ≤ n → length (block_at first later at) ≡ MAX_IN_BLOCK
   full_at at first later n h is full = let small = small_at at first later h in omega arith
 
 -- ---- AreBlocks
@@ -93,7 +93,7 @@ module _ {X : Type 0} where
 -- after a full block is split, they are valid blocks again
 pub AreBlocks-halves : {M K : Type 0} (cmp : M → M → Ordering) (at : ℕ) (first first' : List (M × K))
     (later later' : List (List (M × K))) → (first' ∷ later') ≡ halves_of at (first ∷ later)
-    → length (block_at first later at) ≡ MOST_IN_BLOCK → AreBlocks cmp first later → AreBlocks cmp first' later'
+    → length (block_at first later at) ≡ MAX_IN_BLOCK → AreBlocks cmp first later → AreBlocks cmp first' later'
 AreBlocks-halves cmp at first first' later later' cut full h = record {
   sorted = subst (SortedMarked cmp) (sym (ap of_blocks cut ∙ of_blocks-halves at (first ∷ later))) h.sorted;
   sized = AreSized-halves at first later first' later' h.sized full cut;

@@ -7,7 +7,7 @@ use Rattle.std.proofs.Math.Seq.{drop-append_seam, take-append_seam}
 use Rattle.std.proofs.lemmas.Bool.{and_parts, false≢true}
 use Rattle.std.proofs.lemmas.Bool.Decides.{nat_tests}
 use Rattle.sim_base.specs.Names.{is_name, is_lower, is_name_byte}
-use Rattle.sim_base.specs.declared.name.TheConstants.{LONGEST_NAME}
+use Rattle.sim_base.specs.declared.name.TheConstants.{MAX_NAME_LEN}
 use Rattle.std.specs.Str.{IsAscii, IsUtf8}
 use Rattle.std.proofs.lemmas.Str.{IsUtf8-from_ascii}
 use Rattle.sim_base.specs.Padding.{IsPadded}
@@ -15,27 +15,27 @@ use Rattle.sim_base.specs.Padding.{IsPadded}
 -- ---- is_name
 
 -- a name is not too long
-pub short_name : (text : List ℕ) → is_name text ≡ true → length text ≤ LONGEST_NAME
+pub short_name : (text : List ℕ) → is_name text ≡ true → length text ≤ MAX_NAME_LEN
 short_name [] h = omega arith
 short_name (b ∷ bs) h =
-    let (bytes, short) = and_parts (is_lower b && list_all is_name_byte bs) (nat_lt (length bs) LONGEST_NAME) h in
+    let (bytes, short) = and_parts (is_lower b && list_all is_name_byte bs) (nat_lt (length bs) MAX_NAME_LEN) h in
     grind (arith, nat_tests)
 
 -- ---- IsPadded
 
 -- a name followed by zeros is padded
 pub padded_name : (text : List ℕ) → is_name text ≡ true
-    → IsPadded (text ++ drop (length text) (replicate LONGEST_NAME 0)) (length text)
+    → IsPadded (text ++ drop (length text) (replicate MAX_NAME_LEN 0)) (length text)
 padded_name text h =
     let short = short_name text h in
     record {
       behind = record {
         short = short;
         size = simp (length-append, drop-replicate, length-replicate) (omega arith);
-        zeros = drop-append_seam text (drop (length text) (replicate LONGEST_NAME 0))
-            ∙ drop-replicate (length text) LONGEST_NAME 0;
+        zeros = drop-append_seam text (drop (length text) (replicate MAX_NAME_LEN 0))
+            ∙ drop-replicate (length text) MAX_NAME_LEN 0;
       };
-      named = rw (take-append_seam text (drop (length text) (replicate LONGEST_NAME 0))) h;
+      named = rw (take-append_seam text (drop (length text) (replicate MAX_NAME_LEN 0))) h;
     }
 
 -- ---- is_name_byte
@@ -65,6 +65,6 @@ small_bytes (b ∷ bs) h =
 pub name_is_text : (text : List ℕ) → is_name text ≡ true → IsUtf8 text
 name_is_text [] h = absurd (false≢true h)
 name_is_text (b ∷ bs) h =
-    let (bytes, short) = and_parts (is_lower b && list_all is_name_byte bs) (nat_lt (length bs) LONGEST_NAME) h in
+    let (bytes, short) = and_parts (is_lower b && list_all is_name_byte bs) (nat_lt (length bs) MAX_NAME_LEN) h in
     let (first, rest) = and_parts (is_lower b) (list_all is_name_byte bs) bytes in
     IsUtf8-from_ascii (b ∷ bs) (small_bytes (b ∷ bs) (rw (lower_is_name_byte b first, rest) refl))

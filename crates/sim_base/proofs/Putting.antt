@@ -6,7 +6,7 @@ use Rattle.std.proofs.lemmas.List.{length-set, set-get_or}
 use Rattle.sim_base.specs.Pending.{insert_marked}
 use Rattle.sim_base.specs.Marked.{SortedMarked}
 use Rattle.sim_base.specs.Blocks.{of_blocks, block_at, AreFilled, AreSized, AreBlocks, IsBlockOf}
-use Rattle.sim_base.specs.declared.pending.blocks.TheConstants.{MOST_IN_BLOCK}
+use Rattle.sim_base.specs.declared.pending.blocks.TheConstants.{MAX_IN_BLOCK}
 use Rattle.sim_base.proofs.Placing.{sorted_left, sorted_right, sorted_insert_marked, length_insert}
 use Rattle.sim_base.proofs.Blocks.{insert-of_blocks}
 
@@ -14,7 +14,7 @@ use Rattle.sim_base.proofs.Blocks.{insert-of_blocks}
 
 module _ {X : Type 0} where
   -- another later block in place of one
-  AreFilled-set : (n : ℕ) (bs : List (List X)) (b : List X) → AreFilled bs → 0 < length b → length b ≤ MOST_IN_BLOCK
+  AreFilled-set : (n : ℕ) (bs : List (List X)) (b : List X) → AreFilled bs → 0 < length b → length b ≤ MAX_IN_BLOCK
       → AreFilled (set bs n b)
   AreFilled-set n [] b h some few = h
   AreFilled-set zero (c ∷ bs) b h some few = ((some, few), h.1)
@@ -22,7 +22,7 @@ module _ {X : Type 0} where
 
   -- another block in place of one
   AreSized-set : (at : ℕ) (first : List X) (later : List (List X)) (b first' : List X) (later' : List (List X))
-      → AreSized first later → 0 < length b → length b ≤ MOST_IN_BLOCK → (first' ∷ later') ≡ set (first ∷ later) at b
+      → AreSized first later → 0 < length b → length b ≤ MAX_IN_BLOCK → (first' ∷ later') ≡ set (first ∷ later) at b
       → AreSized first' later'
   AreSized-set zero first later b first' later' h some few e =
       let here : first' ≡ b = cc in
@@ -85,7 +85,7 @@ module _ {M K A E : Type 0} (cmp : M → M → Ordering) (join : K → K → K) 
 module _ {M K A E : Type 0} {cmp : M → M → Ordering} (o : IsTotalOrder cmp) (join : K → K → K) (m : M) (k : K) where
   -- a message that is put into its block is put into all; if that fails, none changes
   pub is_put : (at : ℕ) (first : List (M × K)) (later : List (List (M × K))) → AreBlocks cmp first later
-      → IsBlockOf cmp m later at → length (block_at first later at) < MOST_IN_BLOCK →
+      → IsBlockOf cmp m later at → length (block_at first later at) < MAX_IN_BLOCK →
       (r : Result A E) (b first' : List (M × K)) (later' : List (List (M × K)))
       → (first' ∷ later') ≡ set (first ∷ later) at b
       → OnOk r (b ≡ insert_marked join cmp m k (block_at first later at)) → OnErr r (b ≡ block_at first later at)

@@ -9,7 +9,7 @@ use Rattle.std.proofs.lemmas.List.{append-nil, drop_more, nil_from_length}
 use Rattle.sim_base.specs.Pending.{cut_by}
 use Rattle.sim_base.specs.Blocks.{of_blocks, AreFilled, StartsAt}
 use Rattle.sim_base.specs.declared.message.Msg.{Msg}
-use Rattle.sim_base.specs.declared.pending.blocks.TheConstants.{MOST_IN_BLOCK}
+use Rattle.sim_base.specs.declared.pending.blocks.TheConstants.{MAX_IN_BLOCK}
 use Rattle.sim_base.proofs.Elements.{take_next}
 use Rattle.sim_base.proofs.ListLaws.{all_append, all_at}
 use Rattle.sim_base.proofs.Cutting.{cut-Some, cut-None, cut-append, length-cut}
@@ -82,8 +82,8 @@ module _ {M K : Type 0} (meet : K → K → Option K) (by : K) (old : List (List
     pub HasRotated-filled : AreFilled old → 0 < length (cut_by meet by b)
         → HasRotated (rest ++ cut_by meet by b ∷ []) (i + 1)
     HasRotated-filled filled some =
-        let size = all_at (λ b. (0 < length b) × (length b ≤ MOST_IN_BLOCK)) old i b filled l in
-        let few : length b ≤ MOST_IN_BLOCK = subst (λ c. length c ≤ MOST_IN_BLOCK) (sym next_block.0) size.1 in
+        let size = all_at (λ b. (0 < length b) × (length b ≤ MAX_IN_BLOCK)) old i b filled l in
+        let few : length b ≤ MAX_IN_BLOCK = subst (λ c. length c ≤ MAX_IN_BLOCK) (sym next_block.0) size.1 in
         let short = length-cut meet by b in
         record {
           done = rotated.done ++ cut_by meet by b ∷ [];

@@ -6,7 +6,7 @@ use Rattle.std.specs.Ordering.{is_lt, is_eq, is_gt}
 use Rattle.std.specs.declared.cmp.Ordering.{Ordering}
 use Rattle.sim_base.specs.Marked.{SortedMarked}
 use Rattle.sim_base.specs.declared.message.Msg.{Msg}
-use Rattle.sim_base.specs.declared.pending.blocks.TheConstants.{MOST_IN_BLOCK, HALF}
+use Rattle.sim_base.specs.declared.pending.blocks.TheConstants.{MAX_IN_BLOCK, HALF}
 
 -- the messages of blocks, one block after another
 abbrev pub of_blocks : {X : Type 0} → List (List X) → List X
@@ -25,12 +25,12 @@ module _ {X : Type 0} where
 
   -- no block is empty or too large
   abbrev pub AreFilled : List (List X) → Type 0
-  AreFilled blocks = AllByRecursion (λ b. (0 < length b) × (length b ≤ MOST_IN_BLOCK)) blocks
+  AreFilled blocks = AllByRecursion (λ b. (0 < length b) × (length b ≤ MAX_IN_BLOCK)) blocks
 
   -- the first block may be empty, but only if it is the only one
   pub record AreSized (first : List X) (later : List (List X)) : Type 0 where
     pub first_filled : 0 < length later → 0 < length first
-    pub first_small : length first ≤ MOST_IN_BLOCK
+    pub first_small : length first ≤ MAX_IN_BLOCK
     pub later_filled : AreFilled later
 
 -- the time of the first message, if there is one

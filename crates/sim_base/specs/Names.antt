@@ -2,7 +2,7 @@
 use Rattle.std.specs.Prelude.{◌≡◌, ◌&&◌, ◌||◌, ◌==◌, ℕ, Bool, false, nat_le, nat_lt, List, [], ◌∷◌, length}
 use Rattle.std.specs.List.{list_all, AllPairs}
 use Rattle.std.specs.Str.{bytes_eq}
-use Rattle.sim_base.specs.declared.name.TheConstants.{LONGEST_NAME}
+use Rattle.sim_base.specs.declared.name.TheConstants.{MAX_NAME_LEN}
 
 -- whether a byte is one of a to z
 abbrev pub is_lower : ℕ → Bool
@@ -20,10 +20,10 @@ is_leading b = nat_le 49 b && nat_le b 57
 abbrev pub is_name_byte : ℕ → Bool
 is_name_byte b = (is_lower b || is_digit b) || (b == 95)
 
--- 1 to LONGEST_NAME bytes of a to z, digits and _, the first of a to z
+-- 1 to MAX_NAME_LEN bytes of a to z, digits and _, the first of a to z
 abbrev pub is_name : List ℕ → Bool
 is_name [] = false
-is_name (b ∷ bs) = (is_lower b && list_all is_name_byte bs) && nat_lt (length bs) LONGEST_NAME
+is_name (b ∷ bs) = (is_lower b && list_all is_name_byte bs) && nat_lt (length bs) MAX_NAME_LEN
 
 -- no two of the names are equal
 abbrev pub AreDistinct : List (List ℕ) → Type 0

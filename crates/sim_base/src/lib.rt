@@ -17,14 +17,14 @@
 //! An example:
 //!
 //! ```text
-//! let mut lists = Lists::with_room(alloc, MOST_CLONES, MOST_DECISIONS)?;
+//! let mut lists = Lists::with_room(alloc, MAX_CLONES, MAX_DECISIONS)?;
 //! lists.fork_in_reserved(name, 0);          // a second clone, with base's decisions so far
 //! lists.add(1, plan)?;                      // a decision of the second clone alone
 //! ```
 //!
 //! Memory is reserved once, so a decision in the middle of a run allocates nothing. A fork copies the old clone's list
 //! into a spare one, and a decision is a push. Finding a clone by its name is a walk over the clones, at most
-//! `MOST_CLONES`.
+//! `MAX_CLONES`.
 //!
 //! The promises of exact sharing rest on the laws in `laws`. The order of messages is total, and messages that tie in
 //! it are equal. Two entries are the same exactly when they are equal, every count included.
@@ -48,8 +48,8 @@ pub mod steps;
 pub use decision::{Decision, Planned, same_plan};
 pub use entry::{Entry, Line};
 pub use figures::Figures;
-pub use limits::MOST_FILE_BYTES;
-pub use lists::{Lists, MOST_CLONES, MOST_DECISIONS};
+pub use limits::MAX_FILE_BYTES;
+pub use lists::{Lists, MAX_CLONES, MAX_DECISIONS};
 pub use marks::Marks;
 pub use memory::NoMemory;
 pub use message::{Change, Job, Key, Msg, Param, Payload};

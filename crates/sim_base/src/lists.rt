@@ -14,9 +14,9 @@ use std::alloc::Global;
 use std::marker::Model;
 
 /// The most clones of a study.
-pub const MOST_CLONES: u32 = 256;
+pub const MAX_CLONES: u32 = 256;
 /// The most decisions of a clone.
-pub const MOST_DECISIONS: u32 = 256;
+pub const MAX_DECISIONS: u32 = 256;
 
 // A clone as it is stored: its list has memory reserved.
 #[derive(Drop)]
@@ -83,8 +83,8 @@ impl Lists {
     /// The base clone alone, with memory reserved for `clones` clones of `plans` decisions each.
     pub fn with_room(alloc: Global, clones: u32, plans: u32) -> Result<Lists, NoMemory>
         requires one { 1 ≤ clones }
-        requires few { clones ≤ MOST_CLONES }
-        requires short { plans ≤ MOST_DECISIONS }
+        requires few { clones ≤ MAX_CLONES }
+        requires short { plans ≤ MAX_DECISIONS }
         ensures value { IfOk result (λ l.
             l ≡ record { clones = base ∷ []; reserved_clones = clones; reserved_plans = plans }) }
     {

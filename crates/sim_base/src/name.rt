@@ -1,28 +1,28 @@
-//! Names of clones and stations: at most `LONGEST_NAME` bytes, padded with zeros.
+//! Names of clones and stations: at most `MAX_NAME_LEN` bytes, padded with zeros.
 ghost use Rattle.std.specs.Prelude.{◌≡◌, ◌≤◌, length, take};
 ghost use Rattle.std.specs.Prelude.{MatchOption, true, false, position};
 ghost use Rattle.std.specs.List.{list_all};
 ghost use Rattle.std.specs.Str.{bytes_eq};
 ghost use Rattle.sim_base.specs.Names.{is_name, is_lower, is_name_byte as is_name_byte'};
-ghost use Rattle.sim_base.specs.declared.name.TheConstants.{LONGEST_NAME};
+ghost use Rattle.sim_base.specs.declared.name.TheConstants.{MAX_NAME_LEN};
 
 use std::marker::Model;
 use std::str;
 
 /// The maximal length of a name, in bytes.
-pub const LONGEST_NAME: usize = 16;
+pub const MAX_NAME_LEN: usize = 16;
 
-/// A name: 1 to `LONGEST_NAME` bytes of `a-z`, `0-9` and `_`, the first of `a-z`.
+/// A name: 1 to `MAX_NAME_LEN` bytes of `a-z`, `0-9` and `_`, the first of `a-z`.
 #[derive(Clone, Copy, Debug, PartialEq, Eq)]
 pub struct Name {
-    bytes: [u8; LONGEST_NAME],
+    bytes: [u8; MAX_NAME_LEN],
     len: usize,
 }
 
 impl Model for Name {
     ghost use Rattle.std.specs.Prelude.{◌≡◌, ℕ, ◌-◌, ◌++◌, List, length, take, replicate};
     ghost use Rattle.sim_base.specs.Padding.{IsPadded, padded_back};
-    ghost use Rattle.sim_base.specs.declared.name.TheConstants.{LONGEST_NAME};
+    ghost use Rattle.sim_base.specs.declared.name.TheConstants.{MAX_NAME_LEN};
 
     ghost Value = { List ℕ };
 
@@ -30,7 +30,7 @@ impl Model for Name {
 
     ghost invariant = { λ n. IsPadded n.bytes n.len };
 
-    ghost inverse = { λ xs. record { bytes = xs ++ replicate (LONGEST_NAME - length xs) 0; len = length xs } };
+    ghost inverse = { λ xs. record { bytes = xs ++ replicate (MAX_NAME_LEN - length xs) 0; len = length xs } };
 
     ghost inverse_ok = { λ n h i. record {
       bytes = (padded_back n.bytes n.len h).0 i;
@@ -60,7 +60,7 @@ fn are_name(text: &[u8]) -> bool
         [] => false,
         [first, rest @ ..] => is_lower_byte(*first)
             && are_name_bytes(rest)
-            && rest.len() < LONGEST_NAME,
+            && rest.len() < MAX_NAME_LEN,
     }
 }
 
@@ -80,7 +80,7 @@ impl Name {
         if !are_name(text) {
             return None;
         }
-        let mut bytes = [0u8; LONGEST_NAME];
+        let mut bytes = [0u8; MAX_NAME_LEN];
         bytes[..text.len()].copy_from_slice(text);
         Some(Name {
             bytes,
@@ -107,7 +107,7 @@ impl Name {
 
     /// Its bytes, padded to the full length.
     #[inline(always)]
-    pub fn padded_bytes(&self) -> &[u8; LONGEST_NAME]
+    pub fn padded_bytes(&self) -> &[u8; MAX_NAME_LEN]
         ensures { take (length self.now) result.now ≡ self.now }
     {
         &self.bytes
@@ -117,7 +117,7 @@ impl Name {
     #[inline(always)]
     pub fn len(&self) -> usize
         ensures value { result ≡ length self.now }
-        ensures short { result ≤ LONGEST_NAME }
+        ensures short { result ≤ MAX_NAME_LEN }
     {
         self.len
     }

@@ -5,7 +5,7 @@ ghost use Rattle.std.specs.Str.Parse.{digits_value};
 ghost use Rattle.sim_base.specs.Names.{is_digit, is_leading};
 
 /// The most digits that `value` accepts.
-pub const MOST_DIGITS: usize = 10;
+pub const MAX_DIGITS: usize = 10;
 
 /// Whether the byte is a digit.
 pub fn is_digit_byte(byte: u8) -> bool
@@ -31,7 +31,7 @@ pub fn may_lead(byte: u8) -> bool
 /// The number that the digits represent.
 pub fn value(digits: &[u8]) -> u64
     requires all { list_all is_digit digits.now ≡ true }
-    requires few { length digits.now ≤ MOST_DIGITS }
+    requires few { length digits.now ≤ MAX_DIGITS }
     ensures value { result ≡ digits_value 10 digits.now }
 {
     let mut value: u64 = 0;

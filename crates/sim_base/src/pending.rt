@@ -1,6 +1,6 @@
 //! Pending messages: the future event list.
 //!
-//! They are kept in blocks of at most `MOST_IN_BLOCK`. Each block is in order, and before the next one. Most lists have
+//! They are kept in blocks of at most `MAX_IN_BLOCK`. Each block is in order, and before the next one. Most lists have
 //! one block and need no search. In a long list an insert does a binary search over the blocks and then within one. It
 //! moves at most the messages of that block:
 //!

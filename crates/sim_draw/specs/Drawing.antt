@@ -5,7 +5,7 @@ use Rattle.sim_base.specs.Weights.{IsWeight}
 use Rattle.rand_pcg.specs.Lcg.{Lcg, started, advance, increment_of}
 unfoldable pub use Rattle.rand_pcg.specs.Lcg.{state_after}
 use Rattle.rand_pcg.specs.Pcg.{multiplier_64, pcg32}
-use Rattle.sim_draw.specs.declared.draws.TheConstants.{MOST_WEIGHTS}
+use Rattle.sim_draw.specs.declared.draws.TheConstants.{MAX_WEIGHTS}
 
 -- one stream of a seed, and the number of words drawn from it
 pub record DrawsView : Type 0 where
@@ -36,7 +36,7 @@ range_of lo hi d = lo + next_of d % (hi - lo + 1)
 -- weights by which an index may be picked
 pub record AreWeights (weights : List ℕ) : Type 0 where
   pub some : 1 ≤ length weights
-  pub few : length weights ≤ MOST_WEIGHTS
+  pub few : length weights ≤ MAX_WEIGHTS
   pub all : AllByRecursion IsWeight weights
 
 -- the first index whose running sum of weights exceeds x

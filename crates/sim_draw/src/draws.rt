@@ -2,18 +2,18 @@
 ghost use Rattle.std.specs.Prelude.{◌≡◌, ◌+◌, ◌-◌, ◌%◌, ◌<◌, ◌≤◌, length, sum};
 ghost use Rattle.sim_draw.specs.Drawing.{DrawsView, after_draw, range_of, next_of};
 ghost use Rattle.sim_draw.specs.Drawing.{AreWeights, pick_of, index_of, after_pick_by, IsFirstAbove};
-ghost use Rattle.sim_draw.specs.declared.draws.TheConstants.{MOST_DRAWS};
-ghost use Rattle.sim_base.specs.declared.limits.TheConstants.{MOST_TIME};
+ghost use Rattle.sim_draw.specs.declared.draws.TheConstants.{MAX_DRAWS};
+ghost use Rattle.sim_base.specs.declared.limits.TheConstants.{MAX_TIME};
 
 use rand_core::utils::NextWord;
 use rand_pcg::Lcg64Xsh32;
-use sim_base::limits::MOST_LINKS;
+use sim_base::limits::MAX_LINKS;
 use std::marker::Model;
 
 /// The most words that may be drawn from a stream: 32 bits.
-pub const MOST_DRAWS: u64 = 4_294_967_296;
+pub const MAX_DRAWS: u64 = 4_294_967_296;
 /// The most weights of a pick.
-pub const MOST_WEIGHTS: usize = MOST_LINKS;
+pub const MAX_WEIGHTS: usize = MAX_LINKS;
 
 /// Draws from one stream of a seed.
 ///
@@ -81,8 +81,8 @@ impl Draws {
     /// A number from `lo` to `hi`, from one word: `lo` plus the word modulo the size of the range.
     pub fn range(&mut self, lo: u64, hi: u64) -> u64
         requires ordered { lo ≤ hi }
-        requires small { hi ≤ MOST_TIME }
-        requires few_drawn { self.old.count < MOST_DRAWS }
+        requires small { hi ≤ MAX_TIME }
+        requires few_drawn { self.old.count < MAX_DRAWS }
         ensures value { result ≡ range_of lo hi self.old }
         ensures drawn { self.new ≡ after_draw self.old }
         ensures least { lo ≤ result }
@@ -97,7 +97,7 @@ impl Draws {
     /// With one weight it returns 0 and draws nothing.
     pub fn pick(&mut self, weights: &[u32]) -> usize
         requires valid { AreWeights weights.now }
-        requires few_drawn { self.old.count < MOST_DRAWS }
+        requires few_drawn { self.old.count < MAX_DRAWS }
         ensures value { result ≡ pick_of weights.now self.old }
         ensures drawn { self.new ≡ after_pick_by weights.now self.old }
         ensures within { result < length weights.now }
@@ -112,7 +112,7 @@ impl Draws {
 
     // The next word.
     fn word(&mut self) -> u32
-        requires { self.old.count < MOST_DRAWS }
+        requires { self.old.count < MAX_DRAWS }
         ensures value { result ≡ next_of self.old }
         ensures drawn { self.new ≡ after_draw self.old }
     {

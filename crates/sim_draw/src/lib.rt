@@ -26,4 +26,4 @@ pub mod examples;
 #[cfg(test)]
 mod tests;
 
-pub use draws::{Draws, MOST_DRAWS, MOST_WEIGHTS};
+pub use draws::{Draws, MAX_DRAWS, MAX_WEIGHTS};

@@ -4,11 +4,11 @@ ghost use Rattle.sim_outer.specs.Counts.{IsCounted, HasRisen};
 ghost use Rattle.sim_outer.specs.Views.{InputsView};
 ghost use Rattle.sim_outer.specs.Files.{IsFetched, Lacks};
 
-use sim_base::MOST_FILE_BYTES;
+use sim_base::MAX_FILE_BYTES;
 use std::alloc::{AllocError, Global};
 
 /// The most bytes of a file that a fetch returns: one more than a file may have, so that a longer file is noticed.
-pub const MOST_FETCHED: usize = MOST_FILE_BYTES + 1;
+pub const MAX_FETCHED: usize = MAX_FILE_BYTES + 1;
 
 /// Why a fetch fails.
 #[derive(Clone, Copy, Debug, PartialEq, Eq)]
@@ -35,7 +35,7 @@ pub trait Inputs {
     // the files by their names and the number of calls, if the contract knows them, and the faults
     ghost view: { Self → InputsView };
 
-    /// The first [`MOST_FETCHED`] bytes of the file of this name, or the whole file if it is shorter.
+    /// The first [`MAX_FETCHED`] bytes of the file of this name, or the whole file if it is shorter.
     ///
     /// It fails only if the count of faults rises in this call, or if the contract knows the files and none has this
     /// name.

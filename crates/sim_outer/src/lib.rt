@@ -23,7 +23,7 @@
 //! let written = out.bytes();
 //! ```
 //!
-//! A fetch copies the file once, at most `MOST_FETCHED` bytes: one more than a file may have, so that a longer file is
+//! A fetch copies the file once, at most `MAX_FETCHED` bytes: one more than a file may have, so that a longer file is
 //! noticed. A put allocates nothing. `MemInputs` searches its files one by one.
 //!
 //! The types over real files and streams are the trusted edge, a few lines each. It is proved that they raise the count
@@ -40,7 +40,7 @@ pub mod real;
 pub mod sink;
 pub mod word;
 
-pub use inputs::{FetchFault, Inputs, MOST_FETCHED};
+pub use inputs::{FetchFault, Inputs, MAX_FETCHED};
 pub use mem_inputs::MemInputs;
 pub use mem_sink::MemSink;
 pub use null::NullSink;

@@ -7,7 +7,7 @@ ghost use Rattle.sim_outer.specs.Counts.{IsCounted, HasRisen};
 ghost use Rattle.sim_outer.specs.Files.{IsFetched, Lacks, prefix_of};
 ghost use Rattle.sim_outer.specs.MemInputsView.{named_bytes, files_by_name, prefix_by_name, next_prefix, after_fetch};
 
-use crate::inputs::{FetchFault, Inputs, MOST_FETCHED};
+use crate::inputs::{FetchFault, Inputs, MAX_FETCHED};
 use crate::word::Word;
 use sim_base::NoMemory;
 use std::alloc::Global;
@@ -122,5 +122,5 @@ fn look_up<'a>(files: &'a [(Word, Vec<u8>)], name: &str) -> Option<&'a [u8]>
 fn prefix(file: &[u8]) -> &[u8]
     ensures value { result.now ≡ prefix_of file.now }
 {
-    &file[..file.len().min(MOST_FETCHED)]
+    &file[..file.len().min(MAX_FETCHED)]
 }

@@ -3,7 +3,7 @@ ghost use Rattle.std.specs.Prelude.{◌≡◌, ℕ, None, take, IfOk, IfSome, On
 ghost use Rattle.std.specs.Io.KnownBytes.{Appends};
 ghost use Rattle.sim_outer.specs.Files.{prefix_of};
 
-use crate::inputs::{FetchFault, Inputs, MOST_FETCHED};
+use crate::inputs::{FetchFault, Inputs, MAX_FETCHED};
 use crate::sink::{PutFailed, Sink};
 use std::alloc::Global;
 use std::io::{self, Printer, Read, Write};
@@ -137,8 +137,8 @@ fn read_prefix<F: Read>(alloc: Global, file: &mut F) -> Result<Vec<u8>, FetchFau
 {
     let mut bytes = Vec::new(alloc);
     let mut buffer = [0u8; 16_384];
-    while bytes.len() < MOST_FETCHED {
-        let most = buffer.len().min(MOST_FETCHED - bytes.len());
+    while bytes.len() < MAX_FETCHED {
+        let most = buffer.len().min(MAX_FETCHED - bytes.len());
         match file.read(&mut buffer[..most]) {
             Ok(0) => return Ok(bytes),
             Ok(count) => bytes.extend_from_slice(&buffer[..count])?,

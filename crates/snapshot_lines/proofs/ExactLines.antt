@@ -30,8 +30,8 @@ use Rattle.exact_words.proofs.Written.{and_then-only, as_value-only, digit_numer
 use Rattle.exact_words.proofs.Written.{led-only}
 use Rattle.exact_words.proofs.Written.{led_or-only, list_all-weaker, many-only, nothing-only, number-only}
 use Rattle.exact_words.proofs.Written.{silent-only, spelled-only, such-only}
-use Rattle.decision_script.specs.declared.number.TheConstants.{MOST_NUMBER}
-use Rattle.snapshot_lines.specs.declared.numbers.TheConstants.{MOST_STAY}
+use Rattle.decision_script.specs.declared.number.TheConstants.{MAX_NUMBER}
+use Rattle.snapshot_lines.specs.declared.numbers.TheConstants.{MAX_STAY}
 use Rattle.snapshot_lines.specs.Grammar.{number_word, stay_word, two_numbers, three_numbers, job_of, parts_of_job}
 use Rattle.snapshot_lines.specs.Grammar.{job_parts, job_word, line_words, server_words, router_words, sink_words}
 use Rattle.snapshot_lines.specs.Grammar.{ShapeWords, ServerWords, shape_words, to_shape, from_shape}
@@ -113,10 +113,10 @@ plain-value {A} {B} {f} t u is ut tu = record {
 -- ---- numbers and jobs
 
 plain-word : IsPlain number_word
-plain-word = plain-number MOST_NUMBER (omega arith)
+plain-word = plain-number MAX_NUMBER (omega arith)
 
 plain-stay : IsPlain stay_word
-plain-stay = plain-number MOST_STAY (omega arith)
+plain-stay = plain-number MAX_STAY (omega arith)
 
 plain-two : IsPlain two_numbers
 plain-two = plain-pair plain-word plain-word
@@ -134,7 +134,7 @@ job_parts-only =
     (and_then-only is_after_dot number_word number_word after_dot after_dot))
   where
     after_dot : WritesOnly is_after_dot number_word
-    after_dot = number-only is_after_dot MOST_NUMBER (omega arith) digit_is_after_dot
+    after_dot = number-only is_after_dot MAX_NUMBER (omega arith) digit_is_after_dot
 
 job_parts-some : WritesSome job_parts
 job_parts-some j e = omega arith
@@ -213,14 +213,14 @@ module _ (links : ℕ) where
   words_of_shape : (w : ShapeWords) → (shape_words links).has w ≡ true → from_shape (to_shape w) ≡ w
   words_of_shape (inl (lo, (hi, sent))) e = refl
   words_of_shape (inr (inl (servers, (room, (lo, (hi, (busy, (done, (lost, (count, line)))))))))) e =
-      let one = (and_parts (nat_le servers MOST_NUMBER) _ e).1 in
-      let two = (and_parts (nat_le room MOST_NUMBER) _ one).1 in
-      let three = (and_parts (nat_le lo MOST_NUMBER) _ two).1 in
-      let four = (and_parts (nat_le hi MOST_NUMBER) _ three).1 in
-      let five = (and_parts (nat_le busy MOST_NUMBER) _ four).1 in
-      let six = (and_parts (nat_le done MOST_NUMBER) _ five).1 in
-      let seven = (and_parts (nat_le lost MOST_NUMBER) _ six).1 in
-      let jobs = (and_parts (nat_le count MOST_NUMBER) _ seven).1 in
+      let one = (and_parts (nat_le servers MAX_NUMBER) _ e).1 in
+      let two = (and_parts (nat_le room MAX_NUMBER) _ one).1 in
+      let three = (and_parts (nat_le lo MAX_NUMBER) _ two).1 in
+      let four = (and_parts (nat_le hi MAX_NUMBER) _ three).1 in
+      let five = (and_parts (nat_le busy MAX_NUMBER) _ four).1 in
+      let six = (and_parts (nat_le done MAX_NUMBER) _ five).1 in
+      let seven = (and_parts (nat_le lost MAX_NUMBER) _ six).1 in
+      let jobs = (and_parts (nat_le count MAX_NUMBER) _ seven).1 in
       let same : length line ≡ count = eqb-true (length line) count
       (and_parts (length line == count) _ jobs).0 in
       ap (λ (n : ℕ). let w : ShapeWords =
@@ -339,7 +339,7 @@ number-no_hyphen n e = (decimal n, [], refl, by (bytes_eq (decimal n) (codes "-"
     by false is = refl
     by true is =
         let same = (bytes_eq-Decides (decimal n) (codes "-")).0 is in
-        let less = leb-true n MOST_NUMBER e in
+        let less = leb-true n MAX_NUMBER e in
         let digits = digits_decimal digit_numerals n (omega (arith, less)) in
         let hyphen : false ≡ true = subst (λ (w : List ℕ). list_all is_digit w ≡ true) same digits in
         absurd (cc)

@@ -12,7 +12,7 @@ use Rattle.sim_base.specs.Names.{is_digit, is_leading}
 use Rattle.decision_script.specs.Lines.{has_number_form}
 use Rattle.exact_words.specs.Forms.{is_number}
 use Rattle.exact_words.proofs.Written.{digit_numerals}
-use Rattle.snapshot_lines.specs.declared.numbers.TheConstants.{LONGEST_NUMBER}
+use Rattle.snapshot_lines.specs.declared.numbers.TheConstants.{MAX_NUMBER_LEN}
 
 -- ---- has_number_form
 
@@ -58,7 +58,7 @@ has_number_form-decimal (suc n) h =
 
 -- a number of 64 bits has the form and at most 20 digits
 number_is : (most : ℕ) (w : List ℕ) → most < 2 ^ 64 → is_number most w ≡ true
-    → (has_number_form w ≡ true) × (length w ≤ LONGEST_NUMBER) × (digits_value 10 w ≤ most)
+    → (has_number_form w ≡ true) × (length w ≤ MAX_NUMBER_LEN) × (digits_value 10 w ≤ most)
 number_is most w small e =
     let parts = and_parts (nat_le (digits_value 10 w) most) _ e in
     let less = leb-true (digits_value 10 w) most parts.0 in
@@ -67,7 +67,7 @@ number_is most w small e =
     let short : length (decimal (digits_value 10 w)) ≤ 20 =
     length-decimal-le 20 (digits_value 10 w) (omega arith) (omega (arith, fits)) fits in (
       subst (λ (v : List ℕ). has_number_form v ≡ true) (sym same) (has_number_form-decimal (digits_value 10 w) fits),
-      subst (λ (v : List ℕ). length v ≤ LONGEST_NUMBER) (sym same) short,
+      subst (λ (v : List ℕ). length v ≤ MAX_NUMBER_LEN) (sym same) short,
       less,
     )
 
@@ -89,7 +89,7 @@ pub no_number_by_form : (most : ℕ) (w : List ℕ) → most < 2 ^ 64 → has_nu
 no_number_by_form most w small none =
     not_true (is_number most w) (λ e. let form = (number_is most w small e).0 in absurd (cc))
 
-pub no_number_by_length : (most : ℕ) (w : List ℕ) → most < 2 ^ 64 → LONGEST_NUMBER < length w → is_number most w ≡ false
+pub no_number_by_length : (most : ℕ) (w : List ℕ) → most < 2 ^ 64 → MAX_NUMBER_LEN < length w → is_number most w ≡ false
 no_number_by_length most w small long =
     not_true (is_number most w) (λ e. let short = (number_is most w small e).1 in absurd (omega (arith, short, long)))
 

@@ -9,7 +9,7 @@ use Rattle.sim_base.specs.declared.message.Msg.{Msg}
 use Rattle.sim_base.specs.declared.message.Param.{Param}
 use Rattle.sim_base.specs.declared.message.Payload.{Payload}
 use Rattle.sim_base.specs.declared.message.Payload.TheVariants.{Tick, Job, Done, Set}
-use Rattle.decision_script.specs.declared.number.TheConstants.{MOST_NUMBER}
+use Rattle.decision_script.specs.declared.number.TheConstants.{MAX_NUMBER}
 use Rattle.stations.specs.declared.saved.Saved.{Saved}
 use Rattle.stations.specs.declared.saved.Shape.{Shape}
 use Rattle.stations.specs.declared.saved.Shape.TheVariants as shape
@@ -17,16 +17,16 @@ use Rattle.exact_words.specs.Forms.{Form, and_then, and_what_follows, as_value, 
 use Rattle.exact_words.specs.Forms.{number}
 use Rattle.exact_words.specs.Forms.{silent, spelled, such}
 use Rattle.snapshot_lines.specs.declared.read_lines.Head.{Head}
-use Rattle.snapshot_lines.specs.declared.numbers.TheConstants.{MOST_STAY}
+use Rattle.snapshot_lines.specs.declared.numbers.TheConstants.{MAX_STAY}
 
 -- ---- numbers and jobs
 
 abbrev pub number_word : Form ℕ
-number_word = number MOST_NUMBER
+number_word = number MAX_NUMBER
 
 -- the sum of a sink's stays has up to 64 bits
 abbrev pub stay_word : Form ℕ
-stay_word = number MOST_STAY
+stay_word = number MAX_STAY
 
 abbrev pub two_numbers : Form (ℕ × ℕ)
 two_numbers = and_then number_word number_word

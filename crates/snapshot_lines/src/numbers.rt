@@ -5,15 +5,15 @@ ghost use Rattle.std.specs.Str.Parse.{digits_value};
 ghost use Rattle.sim_base.specs.Names.{is_digit};
 ghost use Rattle.decision_script.specs.Lines.{has_number_form as has_number_form'};
 ghost use Rattle.exact_words.specs.Forms.{is_number};
-ghost use Rattle.snapshot_lines.specs.declared.numbers.TheConstants.{LONGEST_NUMBER};
+ghost use Rattle.snapshot_lines.specs.declared.numbers.TheConstants.{MAX_NUMBER_LEN};
 
 use sim_base::number::{are_digits, is_digit_byte, may_lead};
 
 /// The greatest sum of a sink's stays: the greatest number of 64 bits.
-pub const MOST_STAY: u64 = 18_446_744_073_709_551_615;
+pub const MAX_STAY: u64 = 18_446_744_073_709_551_615;
 
 /// The greatest number of digits of a number of 64 bits.
-pub const LONGEST_NUMBER: usize = 20;
+pub const MAX_NUMBER_LEN: usize = 20;
 
 // One digit, or several of which the first is not 0.
 fn has_number_form(word: &[u8]) -> bool
@@ -29,7 +29,7 @@ fn has_number_form(word: &[u8]) -> bool
 // The number that the digits write.
 fn value_of(digits: &[u8]) -> u128
     requires all { list_all is_digit digits.now ≡ true }
-    requires at_most { length digits.now ≤ LONGEST_NUMBER }
+    requires at_most { length digits.now ≤ MAX_NUMBER_LEN }
     ensures value { result ≡ digits_value 10 digits.now }
 {
     let mut value: u128 = 0;
@@ -44,7 +44,7 @@ fn value_of(digits: &[u8]) -> u128
 pub fn number_of(word: &[u8], most: u64) -> Option<u64>
     ensures value { result ≡ (if is_number most word.now then Some (digits_value 10 word.now) else None) }
 {
-    if !has_number_form(word) || word.len() > LONGEST_NUMBER {
+    if !has_number_form(word) || word.len() > MAX_NUMBER_LEN {
         return None;
     }
     let number = value_of(word);

@@ -1,7 +1,7 @@
 //! Reads the lines of a snapshot.
 ghost use Rattle.std.specs.Prelude.{◌≡◌, ℕ, ◌≤◌, IfOk};
 ghost use Rattle.exact_words.specs.Forms.{line_says, read_as, read_then};
-ghost use Rattle.net_model.specs.declared.limits.TheConstants.{MOST_LINKS};
+ghost use Rattle.net_model.specs.declared.limits.TheConstants.{MAX_LINKS};
 ghost use Rattle.snapshot_lines.specs.Grammar.{param_form, values_form, change_form, payload_form, end_form, head_line};
 ghost use Rattle.snapshot_lines.specs.Grammar.{saved_with, shape_form, station_line, pending_line, message_line};
 ghost use Rattle.snapshot_lines.specs.Grammar.{trace_line};
@@ -9,7 +9,7 @@ ghost use Rattle.snapshot_lines.specs.Grammar.{trace_line};
 use crate::read_words::{Read, read_job, read_number, read_shape, read_small};
 use crate::words::{Words, whole};
 use itoa::Buffer;
-use net_model::limits::MOST_LINKS;
+use net_model::limits::MAX_LINKS;
 use sim_base::{Change, Job, Key, Msg, Name, NoMemory, Param, Payload};
 use stations::Saved;
 use std::alloc::Global;
@@ -77,7 +77,7 @@ fn read_station_words<'a>(
     station: u32,
     links: usize,
 ) -> Result<Read<'a, Saved>, NoMemory>
-    requires at_most { links ≤ MOST_LINKS }
+    requires at_most { links ≤ MAX_LINKS }
     ensures value { IfOk result (λ read. read ≡ (station_line station links).read words.now) }
 {
     let Some((numbers, rest)) = read_station_numbers(words, station) else {
@@ -105,7 +105,7 @@ pub fn read_station(
     station: u32,
     links: usize,
 ) -> Result<Option<Saved>, NoMemory>
-    requires at_most { links ≤ MOST_LINKS }
+    requires at_most { links ≤ MAX_LINKS }
     ensures value { IfOk result (λ saved. saved ≡ line_says (station_line station links) line.now) }
 {
     let words = Words::of(line, b' ');

@@ -2,17 +2,17 @@
 ghost use Rattle.std.specs.Prelude.{◌≡◌, ◌≤◌, ◌++◌, ◌∷◌, [], length, option_map, IfOk, IfSome, OnOk};
 ghost use Rattle.std.proofs.Common.{inl, inr};
 ghost use Rattle.exact_words.specs.Forms.{many, read_as, read_then};
-ghost use Rattle.decision_script.specs.declared.number.TheConstants.{MOST_NUMBER};
-ghost use Rattle.net_model.specs.declared.limits.TheConstants.{MOST_LINKS};
+ghost use Rattle.decision_script.specs.declared.number.TheConstants.{MAX_NUMBER};
+ghost use Rattle.net_model.specs.declared.limits.TheConstants.{MAX_LINKS};
 ghost use Rattle.snapshot_lines.specs.Grammar.{number_word, stay_word, three_numbers, job_parts, job_word, line_words};
 ghost use Rattle.snapshot_lines.specs.Grammar.{server_words, server_of, router_words, sink_words, to_shape, shape_form};
 ghost use Rattle.snapshot_lines.specs.ServerWords.{server_with};
 
-use crate::numbers::{MOST_STAY, number_of};
+use crate::numbers::{MAX_STAY, number_of};
 use crate::words::{Words, whole};
 use arrayvec::ArrayVec;
-use decision_script::words::MOST_NUMBER;
-use net_model::limits::MOST_LINKS;
+use decision_script::words::MAX_NUMBER;
+use net_model::limits::MAX_LINKS;
 use sim_base::{Job, NoMemory};
 use stations::{JobLine, Shape};
 use std::alloc::Global;
@@ -23,10 +23,10 @@ pub type Read<'a, A> = Option<(A, Words<'a>)>;
 /// A number.
 pub fn read_number<'a>(words: &Words<'a>) -> Read<'a, u64>
     ensures value { result ≡ number_word.read words.now }
-    ensures at_most { IfSome result (λ p. p.0 ≤ MOST_NUMBER) }
+    ensures at_most { IfSome result (λ p. p.0 ≤ MAX_NUMBER) }
 {
     let (word, rest) = words.take()?;
-    let number = number_of(word, MOST_NUMBER)?;
+    let number = number_of(word, MAX_NUMBER)?;
     Some((number, rest))
 }
 
@@ -43,7 +43,7 @@ fn read_stay<'a>(words: &Words<'a>) -> Read<'a, u64>
     ensures value { result ≡ stay_word.read words.now }
 {
     let (word, rest) = words.take()?;
-    let number = number_of(word, MOST_STAY)?;
+    let number = number_of(word, MAX_STAY)?;
     Some((number, rest))
 }
 
@@ -109,8 +109,8 @@ fn read_line<'a>(alloc: Global, words: &Words<'a>) -> Result<Read<'a, JobLine>, 
 }
 
 // The weights of this number of links.
-fn read_weights<'a>(words: Words<'a>, links: usize) -> Read<'a, ArrayVec<u32, MOST_LINKS>>
-    requires at_most { links ≤ MOST_LINKS }
+fn read_weights<'a>(words: Words<'a>, links: usize) -> Read<'a, ArrayVec<u32, MAX_LINKS>>
+    requires at_most { links ≤ MAX_LINKS }
     ensures value { option_map (λ p. (p.0.items, p.1)) result ≡ (many number_word links).read words.entry }
 {
     let mut weights = ArrayVec::new();
@@ -144,7 +144,7 @@ fn read_delay<'a>(words: &Words<'a>) -> Read<'a, Shape>
 }
 
 fn read_router<'a>(words: &Words<'a>, links: usize) -> Read<'a, Shape>
-    requires at_most { links ≤ MOST_LINKS }
+    requires at_most { links ≤ MAX_LINKS }
     ensures value { result ≡ read_as to_shape (read_as inr (read_as inr (read_as inr (read_as inl
         ((router_words links).read words.now))))) }
 {
@@ -238,7 +238,7 @@ pub fn read_shape<'a>(
     words: &Words<'a>,
     links: usize,
 ) -> Result<Read<'a, Shape>, NoMemory>
-    requires at_most { links ≤ MOST_LINKS }
+    requires at_most { links ≤ MAX_LINKS }
     ensures value { IfOk result (λ read. read ≡ (shape_form links).read words.now) }
 {
     if let Some(rest) = words.after(b"source") {

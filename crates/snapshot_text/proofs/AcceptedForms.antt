@@ -8,14 +8,14 @@ use Rattle.std.specs.List.{flat_map, list_all}
 use Rattle.std.proofs.lemmas.Bool.{and_parts, and_from as and, leb-true, le-leb}
 use Rattle.std.proofs.lemmas.List.{length-append, length-map}
 use Rattle.std.proofs.lemmas.Option.{slice_get_within}
-use Rattle.sim_base.specs.declared.limits.TheConstants.{MOST_FILE_BYTES}
+use Rattle.sim_base.specs.declared.limits.TheConstants.{MAX_FILE_BYTES}
 use Rattle.sim_base.specs.declared.message.Job.{Job as JobOf}
 use Rattle.sim_base.specs.declared.message.Msg.{Msg}
 use Rattle.sim_base.specs.declared.message.Payload.{Payload}
 use Rattle.sim_base.specs.declared.message.Payload.TheVariants.{Tick, Job, Done, Set}
-use Rattle.decision_script.specs.declared.number.TheConstants.{MOST_NUMBER}
-use Rattle.net_model.specs.declared.limits.TheConstants.{MOST_JOBS, MOST_LIMIT, MOST_ROOM, MOST_SERVERS, MOST_TIME}
-use Rattle.net_model.specs.declared.limits.TheConstants.{MOST_WEIGHT}
+use Rattle.decision_script.specs.declared.number.TheConstants.{MAX_NUMBER}
+use Rattle.net_model.specs.declared.limits.TheConstants.{MAX_JOBS, MAX_LIMIT, MAX_ROOM, MAX_SERVERS, MAX_TIME}
+use Rattle.net_model.specs.declared.limits.TheConstants.{MAX_WEIGHT}
 use Rattle.net_model.specs.declared.station.Kind.{Kind}
 use Rattle.net_model.specs.declared.station.Kind.TheVariants as kind
 use Rattle.net_model.specs.Net.{Net, Site, is_source, no_site, site_at, site_of}
@@ -24,12 +24,12 @@ use Rattle.stations.specs.Fitting.{fits_saved, fits_shape, is_job_of}
 use Rattle.stations.specs.declared.saved.Saved.{Saved}
 use Rattle.stations.specs.declared.saved.Shape.{Shape}
 use Rattle.stations.specs.declared.saved.Shape.TheVariants as shape
-use Rattle.stations.specs.declared.sender.TheConstants.{ALL_STAYS, ALL_TIMES, MOST_SENDS}
+use Rattle.stations.specs.declared.sender.TheConstants.{MAX_STAY_SUM, MAX_EVENT_TIMES, MAX_SENDS}
 use Rattle.stations.proofs.Lawful.{site_valid}
 use Rattle.exact_words.specs.Forms.{line_of}
 use Rattle.exact_words.specs.Texts.{ended}
 use Rattle.exact_words.proofs.Written.{list_all-weaker}
-use Rattle.snapshot_lines.specs.declared.numbers.TheConstants.{MOST_STAY}
+use Rattle.snapshot_lines.specs.declared.numbers.TheConstants.{MAX_STAY}
 use Rattle.snapshot_lines.specs.Grammar.{end_form, job_word, message_line, number_word, payload_form}
 use Rattle.snapshot_lines.specs.Grammar.{pending_line, shape_form, station_line, trace_line}
 use Rattle.resume_laws.specs.RunKeeps.{completions_to}
@@ -42,23 +42,23 @@ use Rattle.snapshot_text.specs.SnapshotTexts.{HaveForm, IsSayable, links_of, lin
 use Rattle.snapshot_text.proofs.Sayable.{change-sayable}
 
 -- a number below a bound that numbers have
-fits : (n k : ℕ) → nat_le n k ≡ true → k ≤ MOST_NUMBER → nat_le n MOST_NUMBER ≡ true
-fits n k e less = let h = leb-true n k e in le-leb n MOST_NUMBER (omega (arith, h, less))
+fits : (n k : ℕ) → nat_le n k ≡ true → k ≤ MAX_NUMBER → nat_le n MAX_NUMBER ≡ true
+fits n k e less = let h = leb-true n k e in le-leb n MAX_NUMBER (omega (arith, h, less))
 
-fits_below : (n k : ℕ) → nat_lt n k ≡ true → k ≤ MOST_NUMBER → nat_le n MOST_NUMBER ≡ true
-fits_below n k e less = let h = ltb-true n k e in le-leb n MOST_NUMBER (omega (arith, h, less))
+fits_below : (n k : ℕ) → nat_lt n k ≡ true → k ≤ MAX_NUMBER → nat_le n MAX_NUMBER ≡ true
+fits_below n k e less = let h = ltb-true n k e in le-leb n MAX_NUMBER (omega (arith, h, less))
 
 -- both ends of a range
 range-form : (low lo hi : ℕ) → is_range low lo hi ≡ true
-    → (nat_le lo MOST_NUMBER ≡ true) × (nat_le hi MOST_NUMBER ≡ true)
+    → (nat_le lo MAX_NUMBER ≡ true) × (nat_le hi MAX_NUMBER ≡ true)
 range-form low lo hi e =
-    let both = and_parts (nat_le low lo && nat_le lo hi) (nat_le hi MOST_TIME) e in
+    let both = and_parts (nat_le low lo && nat_le lo hi) (nat_le hi MAX_TIME) e in
     let order = and_parts (nat_le low lo) (nat_le lo hi) both.0 in
     let less = leb-true lo hi order.1 in
-    let most = leb-true hi MOST_TIME both.1 in
-    (le-leb lo MOST_NUMBER (omega (arith, less, most)), le-leb hi MOST_NUMBER (omega (arith, most)))
+    let most = leb-true hi MAX_TIME both.1 in
+    (le-leb lo MAX_NUMBER (omega (arith, less, most)), le-leb hi MAX_NUMBER (omega (arith, most)))
 
-within-form : (low high n : ℕ) → is_within low high n ≡ true → high ≤ MOST_NUMBER → nat_le n MOST_NUMBER ≡ true
+within-form : (low high n : ℕ) → is_within low high n ≡ true → high ≤ MAX_NUMBER → nat_le n MAX_NUMBER ≡ true
 within-form low high n e less = fits n high (and_parts (nat_le low n) (nat_le n high) e).1 less
 
 -- a text has a byte or more for each line
@@ -85,17 +85,17 @@ module _ (net : Net) (valid : IsNet net) where
   job-form : (j : JobOf) → is_job_of net j ≡ true → job_word.has j ≡ true
   job-form j e =
       let source = and_parts (is_source (site_of net j.source).kind) _ e in
-      let counts = and_parts (nat_lt j.count MOST_JOBS) (nat_lt j.born net.horizon) source.1 in
+      let counts = and_parts (nat_lt j.count MAX_JOBS) (nat_lt j.born net.horizon) source.1 in
       let station = source-station j.source source.0 in
       let few = valid.few in
       let soon = valid.soon in
-      and _ _ (le-leb j.source MOST_NUMBER (omega (arith, station, few)))
-      (and _ _ (fits_below j.count MOST_JOBS counts.0 (omega arith))
+      and _ _ (le-leb j.source MAX_NUMBER (omega (arith, station, few)))
+      (and _ _ (fits_below j.count MAX_JOBS counts.0 (omega arith))
       (fits_below j.born net.horizon counts.1 (omega (arith, soon))))
 
   -- ---- stations
 
-  shape-form : (site : Site) (handled : ℕ) (k : Kind) (h : Shape) → IsKind k → handled ≤ MOST_LIMIT
+  shape-form : (site : Site) (handled : ℕ) (k : Kind) (h : Shape) → IsKind k → handled ≤ MAX_LIMIT
       → fits_shape net site handled k h ≡ true → (shape_form (length site.links)).has h ≡ true
   shape-form site handled (kind.Source lo hi jobs class) (shape.Source low high sent) rules few e =
       let parts = and_parts (is_range 1 low high) (nat_le sent jobs) e in
@@ -104,26 +104,26 @@ module _ (net : Net) (valid : IsNet net) where
       and _ _ range.0 (and _ _ range.1 (fits sent jobs parts.1 (omega (arith, most))))
   shape-form site handled (kind.Server servers room lo hi by_class)
       (shape.Server number space low high busy done lost line) rules few e =
-      let parts = and_parts (is_within 1 MOST_SERVERS number && (nat_le space MOST_ROOM && is_range 1 low high)) _ e in
-      let parameters = and_parts (is_within 1 MOST_SERVERS number) (nat_le space MOST_ROOM && is_range 1 low high)
+      let parts = and_parts (is_within 1 MAX_SERVERS number && (nat_le space MAX_ROOM && is_range 1 low high)) _ e in
+      let parameters = and_parts (is_within 1 MAX_SERVERS number) (nat_le space MAX_ROOM && is_range 1 low high)
       parts.0 in
-      let sizes = and_parts (nat_le space MOST_ROOM) (is_range 1 low high) parameters.1 in
+      let sizes = and_parts (nat_le space MAX_ROOM) (is_range 1 low high) parameters.1 in
       let range = range-form 1 low high sizes.1 in
-      let rest = and_parts ((nat_le busy MOST_SERVERS && nat_le (length line) MOST_ROOM)
+      let rest = and_parts ((nat_le busy MAX_SERVERS && nat_le (length line) MAX_ROOM)
       && ((length line == 0) || nat_le number busy)) _ parts.1 in
-      let service = and_parts (nat_le busy MOST_SERVERS && nat_le (length line) MOST_ROOM)
+      let service = and_parts (nat_le busy MAX_SERVERS && nat_le (length line) MAX_ROOM)
       ((length line == 0) || nat_le number busy) rest.0 in
-      let waiting = and_parts (nat_le busy MOST_SERVERS) (nat_le (length line) MOST_ROOM) service.0 in
+      let waiting = and_parts (nat_le busy MAX_SERVERS) (nat_le (length line) MAX_ROOM) service.0 in
       let counts = and_parts (nat_le done handled && nat_le lost handled) (list_all (is_job_of net) line) rest.1 in
       let both = and_parts (nat_le done handled) (nat_le lost handled) counts.0 in
-      and _ _ (within-form 1 MOST_SERVERS number parameters.0 (omega arith))
-      (and _ _ (fits space MOST_ROOM sizes.0 (omega arith))
+      and _ _ (within-form 1 MAX_SERVERS number parameters.0 (omega arith))
+      (and _ _ (fits space MAX_ROOM sizes.0 (omega arith))
       (and _ _ range.0
       (and _ _ range.1
-      (and _ _ (fits busy MOST_SERVERS waiting.0 (omega arith))
+      (and _ _ (fits busy MAX_SERVERS waiting.0 (omega arith))
       (and _ _ (fits done handled both.0 (omega (arith, few)))
       (and _ _ (fits lost handled both.1 (omega (arith, few)))
-      (and _ _ (fits (length line) MOST_ROOM waiting.1 (omega arith))
+      (and _ _ (fits (length line) MAX_ROOM waiting.1 (omega arith))
       (and _ _ (eq-eqb (length line) (length line) refl)
       (list_all-weaker (is_job_of net) job_word.has job-form line counts.1)))))))))
   shape-form site handled (kind.Delay lo hi) (shape.Delay low high passed) rules few e =
@@ -132,18 +132,18 @@ module _ (net : Net) (valid : IsNet net) where
       and _ _ range.0 (and _ _ range.1 (fits passed handled parts.1 (omega (arith, few))))
   shape-form site handled (kind.Router turn) (shape.Router passed weights) rules few e =
       let parts = and_parts ((length weights.items == length site.links)
-      && list_all (is_within 1 MOST_WEIGHT) weights.items)
+      && list_all (is_within 1 MAX_WEIGHT) weights.items)
       (nat_le passed handled) e in
       let links = and_parts (length weights.items == length site.links)
-      (list_all (is_within 1 MOST_WEIGHT) weights.items)
+      (list_all (is_within 1 MAX_WEIGHT) weights.items)
       parts.0 in
       and _ _ (fits passed handled parts.1 (omega (arith, few)))
-      (and _ _ links.0 (list_all-weaker (is_within 1 MOST_WEIGHT) number_word.has
-      (λ w h. within-form 1 MOST_WEIGHT w h (omega arith)) weights.items links.1))
+      (and _ _ links.0 (list_all-weaker (is_within 1 MAX_WEIGHT) number_word.has
+      (λ w h. within-form 1 MAX_WEIGHT w h (omega arith)) weights.items links.1))
   shape-form site handled kind.Sink (shape.Sink got stay) rules few e =
-      let parts = and_parts (nat_le got handled) (nat_lt stay ALL_STAYS) e in
-      let less = ltb-true stay ALL_STAYS parts.1 in
-      and _ _ (fits got handled parts.0 (omega (arith, few))) (le-leb stay MOST_STAY (omega (arith, less)))
+      let parts = and_parts (nat_le got handled) (nat_lt stay MAX_STAY_SUM) e in
+      let less = ltb-true stay MAX_STAY_SUM parts.1 in
+      and _ _ (fits got handled parts.0 (omega (arith, few))) (le-leb stay MAX_STAY (omega (arith, less)))
   shape-form site handled k h rules few e = absurd (cc)
 
   -- a station, or a number that no station has, keeps to the rules of its kind
@@ -156,21 +156,21 @@ module _ (net : Net) (valid : IsNet net) where
 
   -- the counts of saved data that fits
   record HasFewSends (x : Saved) : Type 0 where
-    pub next : x.next ≤ MOST_SENDS * (MOST_LIMIT + 1)
-    pub drawn : x.drawn ≤ MOST_SENDS * (MOST_LIMIT + 1)
-    pub handled : x.handled ≤ MOST_LIMIT
+    pub next : x.next ≤ MAX_SENDS * (MAX_LIMIT + 1)
+    pub drawn : x.drawn ≤ MAX_SENDS * (MAX_LIMIT + 1)
+    pub handled : x.handled ≤ MAX_LIMIT
 
   few-sends : (s : ℕ) (x : Saved) → fits_saved net s x ≡ true → HasFewSends x
   few-sends s x e =
-      let parts = and_parts (nat_le x.handled net.limit && (nat_le x.next (MOST_SENDS * (x.handled + 1))
-      && nat_le x.drawn (MOST_SENDS * (x.handled + 1)))) _ e in
-      let counts = and_parts (nat_le x.handled net.limit) (nat_le x.next (MOST_SENDS * (x.handled + 1))
-      && nat_le x.drawn (MOST_SENDS * (x.handled + 1))) parts.0 in
-      let sends = and_parts (nat_le x.next (MOST_SENDS * (x.handled + 1)))
-      (nat_le x.drawn (MOST_SENDS * (x.handled + 1))) counts.1 in
+      let parts = and_parts (nat_le x.handled net.limit && (nat_le x.next (MAX_SENDS * (x.handled + 1))
+      && nat_le x.drawn (MAX_SENDS * (x.handled + 1)))) _ e in
+      let counts = and_parts (nat_le x.handled net.limit) (nat_le x.next (MAX_SENDS * (x.handled + 1))
+      && nat_le x.drawn (MAX_SENDS * (x.handled + 1))) parts.0 in
+      let sends = and_parts (nat_le x.next (MAX_SENDS * (x.handled + 1)))
+      (nat_le x.drawn (MAX_SENDS * (x.handled + 1))) counts.1 in
       let handled = leb-true x.handled net.limit counts.0 in
-      let next = leb-true x.next (MOST_SENDS * (x.handled + 1)) sends.0 in
-      let drawn = leb-true x.drawn (MOST_SENDS * (x.handled + 1)) sends.1 in
+      let next = leb-true x.next (MAX_SENDS * (x.handled + 1)) sends.0 in
+      let drawn = leb-true x.drawn (MAX_SENDS * (x.handled + 1)) sends.1 in
       let short = valid.short in
       record {
         next = omega (arith, handled, next, short);
@@ -184,11 +184,11 @@ module _ (net : Net) (valid : IsNet net) where
       let next = few.next in
       let drawn = few.drawn in
       let handled = few.handled in
-      let parts = and_parts (nat_le x.handled net.limit && (nat_le x.next (MOST_SENDS * (x.handled + 1))
-      && nat_le x.drawn (MOST_SENDS * (x.handled + 1)))) _ e in
-      and _ _ (le-leb x.next MOST_NUMBER (omega (arith, next)))
-      (and _ _ (le-leb x.drawn MOST_NUMBER (omega (arith, drawn)))
-      (and _ _ (le-leb x.handled MOST_NUMBER (omega (arith, handled)))
+      let parts = and_parts (nat_le x.handled net.limit && (nat_le x.next (MAX_SENDS * (x.handled + 1))
+      && nat_le x.drawn (MAX_SENDS * (x.handled + 1)))) _ e in
+      and _ _ (le-leb x.next MAX_NUMBER (omega (arith, next)))
+      (and _ _ (le-leb x.drawn MAX_NUMBER (omega (arith, drawn)))
+      (and _ _ (le-leb x.handled MAX_NUMBER (omega (arith, handled)))
       (shape-form (site_of net s) x.handled (site_of net s).kind x.shape (kind-rules s) handled parts.1)))
 
   stations-form : (s : ℕ) (xs : List Saved) → first_unfit net s xs ≡ None → HaveForm net s xs
@@ -199,12 +199,12 @@ module _ (net : Net) (valid : IsNet net) where
 
   -- the number of a sender's next message is small
   next-small : (s : ℕ) (xs : List Saved) → first_unfit net s xs ≡ None → (i : ℕ)
-      → next_in (slice_get xs i) ≤ MOST_SENDS * (MOST_LIMIT + 1)
+      → next_in (slice_get xs i) ≤ MAX_SENDS * (MAX_LIMIT + 1)
   next-small s [] e i = omega arith
   next-small s (x ∷ xs) e zero = (few-sends s x (first_unfit-cons net s x xs e).0).next
   next-small s (x ∷ xs) e (suc i) = next-small (suc s) xs (first_unfit-cons net s x xs e).1 i
 
-  next_of-small : (xs : List Saved) → first_unfit net 1 xs ≡ None → (sender : ℕ) → next_of xs sender ≤ MOST_NUMBER
+  next_of-small : (xs : List Saved) → first_unfit net 1 xs ≡ None → (sender : ℕ) → next_of xs sender ≤ MAX_NUMBER
   next_of-small xs e zero = omega arith
   next_of-small xs e (suc i) = let h = next-small 1 xs e i in omega (arith, h)
 
@@ -221,9 +221,11 @@ module _ (net : Net) (valid : IsNet net) where
     message-form : (n : ℕ) (last : Option Msg) (m : Msg) → may_be_due net front saved n last m ≡ true
         → is_sayable_payload m.payload ≡ true → message_line.has m ≡ true
     message-form n last m e say =
-        let parts = and_parts (comes_after last m && (nat_le front m.key.time && nat_lt m.key.time ALL_TIMES)) _ e in
-        let times = and_parts (comes_after last m) (nat_le front m.key.time && nat_lt m.key.time ALL_TIMES) parts.0 in
-        let time = and_parts (nat_le front m.key.time) (nat_lt m.key.time ALL_TIMES) times.1 in
+        let parts = and_parts (comes_after last m && (nat_le front m.key.time && nat_lt m.key.time MAX_EVENT_TIMES)) _ e
+        in
+        let times = and_parts (comes_after last m) (nat_le front m.key.time && nat_lt m.key.time MAX_EVENT_TIMES)
+        parts.0 in
+        let time = and_parts (nat_le front m.key.time) (nat_lt m.key.time MAX_EVENT_TIMES) times.1 in
         let rest = and_parts ((nat_lt 0 m.to && nat_le m.to (length net.sites))
         && nat_le m.key.sender (length net.sites)) _
         parts.1 in
@@ -233,7 +235,7 @@ module _ (net : Net) (valid : IsNet net) where
         let number = and_parts (nat_lt m.key.number (next_of saved m.key.sender)) (may_carry net saved n m.to m.payload)
         rest.1 in
         let few = valid.few in
-        and _ _ (fits_below m.key.time ALL_TIMES time.1 (omega arith))
+        and _ _ (fits_below m.key.time MAX_EVENT_TIMES time.1 (omega arith))
         (and _ _ (fits m.key.sender (length net.sites) who.1 (omega (arith, few)))
         (and _ _ (fits_below m.key.number (next_of saved m.key.sender) number.0 (next_of-small saved fit m.key.sender))
         (and _ _ (fits m.to (length net.sites) to.1 (omega (arith, few)))
@@ -278,7 +280,7 @@ module _ (net : Net) (valid : IsNet net) where
       let count = length-map x.due (line_of message_line) in
       omega (arith, all, stations, both, count)
 
-  pub accepted-sayable : (x : SnapshotView) → IsAccepted net x → length (text_of net x) ≤ MOST_FILE_BYTES
+  pub accepted-sayable : (x : SnapshotView) → IsAccepted net x → length (text_of net x) ≤ MAX_FILE_BYTES
       → IsSayable net x
   accepted-sayable x ok short =
       let front = and_parts (nat_le x.front net.horizon) (fits_end net x.front x.end) ok.front in

@@ -10,7 +10,7 @@ use Rattle.std.proofs.lemmas.List.{drop_more, take_more, length-take-le}
 use Rattle.sim_base.specs.declared.message.Msg.{Msg}
 use Rattle.sim_base.specs.declared.message.Payload.{Payload}
 use Rattle.sim_base.specs.declared.message.Payload.TheVariants.{Tick, Job, Done, Set}
-use Rattle.net_model.specs.declared.limits.TheConstants.{MOST_STATIONS}
+use Rattle.net_model.specs.declared.limits.TheConstants.{MAX_STATIONS}
 use Rattle.net_model.specs.Net.{Net}
 use Rattle.stations.specs.Fitting.{fits_saved}
 use Rattle.stations.specs.declared.saved.Saved.{Saved}
@@ -67,7 +67,7 @@ tally_length s (m ∷ ms) =
     let one = at_most_one (m.to == s) m.payload in
     omega (arith, rest, one)
 
-module _ (net : Net) (front : ℕ) (saved : List Saved) (few : length net.sites ≤ MOST_STATIONS) where
+module _ (net : Net) (front : ℕ) (saved : List Saved) (few : length net.sites ≤ MAX_STATIONS) where
   module _ (counts : List ℕ) (before : List Msg) (has : HasCounts counts before) (last : Option Msg) (m : Msg) where
     abbrev test : Bool → ℕ → Bool
     test b n = is_in_time front last m
@@ -113,8 +113,8 @@ module _ (net : Net) (front : ℕ) (saved : List Saved) (few : length net.sites 
         (ap (λ (n : ℕ). let o : Option ℕ = Some n in o) (length-take-le i due (omega (arith, less))))
 
     -- the counts after the message
-    pub counts_next : (new : List ℕ) → length new ≡ MOST_STATIONS
-        → ((s : ℕ) → s < MOST_STATIONS → get_or new s 0 ≡ get_or counts s 0 + completions_to (s + 1) (get_or due i d))
+    pub counts_next : (new : List ℕ) → length new ≡ MAX_STATIONS
+        → ((s : ℕ) → s < MAX_STATIONS → get_or new s 0 ≡ get_or counts s 0 + completions_to (s + 1) (get_or due i d))
         → HasCounts new (take (i + 1) due)
     counts_next new stations counted = record {
       stations = stations;
@@ -127,7 +127,7 @@ module _ (net : Net) (front : ℕ) (saved : List Saved) (few : length net.sites 
     }
 
     -- there is room for one completion more
-    pub count_room : (k : ℕ) → 1 ≤ k → k ≤ MOST_STATIONS → length due < 2 ^ 64 → get_or counts (k - 1) 0 < 2 ^ 64 - 1
+    pub count_room : (k : ℕ) → 1 ≤ k → k ≤ MAX_STATIONS → length due < 2 ^ 64 → get_or counts (k - 1) 0 < 2 ^ 64 - 1
     count_room k low high small =
         let old = has.each (k - 1) (omega (arith, low, high)) in
         let most = tally_length (k - 1 + 1) (take i due) in

@@ -8,7 +8,7 @@ use Rattle.std.specs.List.{list_all}
 use Rattle.std.proofs.lemmas.Bool.{and_parts, le-leb, lt-ltb, ne_eqb}
 use Rattle.std.proofs.lemmas.List.{length_push}
 use Rattle.sim_base.specs.declared.message.Msg.{Msg}
-use Rattle.decision_script.specs.declared.number.TheConstants.{MOST_NUMBER}
+use Rattle.decision_script.specs.declared.number.TheConstants.{MAX_NUMBER}
 use Rattle.net_model.specs.Net.{Net}
 use Rattle.stations.specs.declared.saved.Saved.{Saved}
 use Rattle.exact_words.specs.Forms.{line_of, line_says}
@@ -163,9 +163,9 @@ module _ (net : Net) (small : length net.sites < 2 ^ 32) where
       let stated : SnapshotView = record x { due = []; lines = [] } in
       let waiting : SnapshotView = record x { lines = [] } in
       let all = say.count in
-      let trace_says = line-trace.joined.back (length x.lines) (le-leb (length x.lines) MOST_NUMBER say.line_count) in
+      let trace_says = line-trace.joined.back (length x.lines) (le-leb (length x.lines) MAX_NUMBER say.line_count) in
       let pending_says = line-pending.joined.back (length x.due)
-      (le-leb (length x.due) MOST_NUMBER say.message_count) in
+      (le-leb (length x.due) MAX_NUMBER say.message_count) in
       let from_trace : Leads (step net) ends (at (Messages 0) waiting) (trace_lines x) (at (Lines 0) x) = (
         at (Lines (length x.lines)) waiting,
         step-trace waiting (line_of trace_line (length x.lines)) (length x.lines) trace_says,

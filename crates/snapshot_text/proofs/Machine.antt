@@ -9,7 +9,7 @@ use Rattle.std.proofs.lemmas.Bool.{and_from, leb-true, ltb-false}
 use Rattle.std.proofs.lemmas.List.Folds.{list_all-append}
 use Rattle.std.proofs.lemmas.List.{length_push}
 use Rattle.std.proofs.lemmas.Option.{same_Some}
-use Rattle.decision_script.specs.declared.number.TheConstants.{MOST_NUMBER}
+use Rattle.decision_script.specs.declared.number.TheConstants.{MAX_NUMBER}
 use Rattle.net_model.specs.Net.{Net}
 use Rattle.stations.specs.declared.saved.Saved.{Saved}
 use Rattle.exact_words.specs.Forms.{line_of, line_says}
@@ -72,10 +72,10 @@ module _ (net : Net) where
   abbrev pub AtPlace : Place → SnapshotView → Type 0
   AtPlace Stations x = (length x.saved ≤ length net.sites) × ((x.due ≡ []) × (x.lines ≡ []))
   AtPlace (Messages left) x =
-      (length x.saved ≡ length net.sites) × ((length x.due + left ≤ MOST_NUMBER) × (x.lines ≡ []))
+      (length x.saved ≡ length net.sites) × ((length x.due + left ≤ MAX_NUMBER) × (x.lines ≡ []))
   AtPlace (Lines left) x =
       (length x.saved ≡ length net.sites)
-      × ((length x.due ≤ MOST_NUMBER) × (length x.lines + left ≤ MOST_NUMBER))
+      × ((length x.due ≤ MAX_NUMBER) × (length x.lines + left ≤ MAX_NUMBER))
 
   pub record HasRead (place : Place) (x : SnapshotView) (lines : List (List ℕ)) : Type 0 where
     pub lines_are : lines ≡ so_far place x
@@ -146,7 +146,7 @@ module _ (net : Net) where
     pending-more x lines l r h all e =
         let said = option_map-Some (at_messages x) (line_says pending_line l) r e in
         let read = line-pending.joined.exact l said.0 said.1 in
-        let most = leb-true said.0 MOST_NUMBER read.0 in
+        let most = leb-true said.0 MAX_NUMBER read.0 in
         let none = h.at_place.1.0 in
         let within = h.at_place.0 in
         let empty : length x.due ≡ 0 = ap length none in
@@ -172,7 +172,7 @@ module _ (net : Net) where
     trace-more x left lines l r h none_left e =
         let said = option_map-Some (at_lines x) (line_says trace_line l) r e in
         let read = line-trace.joined.exact l said.0 said.1 in
-        let most = leb-true said.0 MOST_NUMBER read.0 in
+        let most = leb-true said.0 MAX_NUMBER read.0 in
         let none = h.at_place.1.1 in
         let bound = h.at_place.1.0 in
         let empty : length x.lines ≡ 0 = ap length none in

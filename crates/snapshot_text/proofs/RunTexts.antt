@@ -2,7 +2,7 @@
 use Rattle.std.proofs.Common.{ℕ, ◌≤◌, length, ap, arith}
 use Rattle.std.specs.List.{flat_map}
 use Rattle.sim_base.specs.Clones.{Clone}
-use Rattle.sim_base.specs.declared.limits.TheConstants.{MOST_FILE_BYTES}
+use Rattle.sim_base.specs.declared.limits.TheConstants.{MAX_FILE_BYTES}
 use Rattle.run_laws.specs.Runs.{run}
 use Rattle.net_model.specs.Net.{Net}
 use Rattle.net_model.specs.Rules.{IsNet}
@@ -26,7 +26,7 @@ trace-of_text net valid c front =
     omega (arith, same, part)
 
 pub resumed_run : (net : Net) → IsNet net → (c : Clone) (front : ℕ) → HasSnapshot net c front
-    → length (text_of net (snapshot_of net c front)) ≤ MOST_FILE_BYTES
+    → length (text_of net (snapshot_of net c front)) ≤ MAX_FILE_BYTES
     → IsReadFrom net c front (text_of net (snapshot_of net c front))
 resumed_run net valid c front has at_most = record {
   read = read_back net valid (snapshot_of net c front) (run_is_accepted net valid c front has) at_most;

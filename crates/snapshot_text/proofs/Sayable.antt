@@ -8,7 +8,7 @@ use Rattle.sim_base.specs.declared.message.Param.{Param}
 use Rattle.sim_base.specs.declared.message.Param.TheVariants.{Every, Service, Hold, Servers, Room, Weight}
 use Rattle.sim_base.specs.declared.message.Payload.{Payload}
 use Rattle.sim_base.specs.declared.message.Payload.TheVariants.{Tick, Job, Done, Set}
-use Rattle.decision_script.specs.declared.number.TheConstants.{MOST_NUMBER}
+use Rattle.decision_script.specs.declared.number.TheConstants.{MAX_NUMBER}
 use Rattle.net_model.specs.Net.{Net}
 use Rattle.exact_words.proofs.Written.{list_all-weaker}
 use Rattle.snapshot_lines.specs.Grammar.{message_line, payload_form, values_form}
@@ -37,10 +37,10 @@ payload-sayable (Set c) e = change-sayable c.param c.a c.b ∙ e
 
 message-sayable : (m : Msg) → message_line.has m ≡ true → is_sayable_payload m.payload ≡ true
 message-sayable m e =
-    let time = and_parts (nat_le m.key.time MOST_NUMBER) _ e in
-    let sender = and_parts (nat_le m.key.sender MOST_NUMBER) _ time.1 in
-    let number = and_parts (nat_le m.key.number MOST_NUMBER) _ sender.1 in
-    let to = and_parts (nat_le m.to MOST_NUMBER) (payload_form.has m.payload) number.1 in
+    let time = and_parts (nat_le m.key.time MAX_NUMBER) _ e in
+    let sender = and_parts (nat_le m.key.sender MAX_NUMBER) _ time.1 in
+    let number = and_parts (nat_le m.key.number MAX_NUMBER) _ sender.1 in
+    let to = and_parts (nat_le m.to MAX_NUMBER) (payload_form.has m.payload) number.1 in
     payload-sayable m.payload to.1
 
 module _ (net : Net) (x : SnapshotView) where

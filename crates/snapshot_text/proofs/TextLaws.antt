@@ -5,9 +5,9 @@ use Rattle.std.specs.Prelude.{◌&&◌, if◌then◌else◌, map, not}
 use Rattle.std.specs.List.{AllByRecursion, flat_map, list_all}
 use Rattle.std.proofs.lemmas.Bool.{and_parts, le-leb, lt-ltb, ltb-false}
 use Rattle.std.proofs.lemmas.Bool.Decides.{nat_tests}
-use Rattle.sim_base.specs.declared.limits.TheConstants.{MOST_FILE_BYTES}
+use Rattle.sim_base.specs.declared.limits.TheConstants.{MAX_FILE_BYTES}
 use Rattle.sim_base.specs.declared.message.Msg.{Msg}
-use Rattle.decision_script.specs.declared.number.TheConstants.{MOST_NUMBER}
+use Rattle.decision_script.specs.declared.number.TheConstants.{MAX_NUMBER}
 use Rattle.net_model.specs.Net.{Net}
 use Rattle.net_model.specs.Rules.{IsNet}
 use Rattle.stations.specs.declared.saved.Saved.{Saved}
@@ -104,9 +104,9 @@ module _ (net : Net) where
   lines-one_line x small say =
       let count = say.count in
       let trace = line_of-one_line trace_line line-trace.visible (length x.lines)
-      (le-leb (length x.lines) MOST_NUMBER say.line_count) in
+      (le-leb (length x.lines) MAX_NUMBER say.line_count) in
       let pending = line_of-one_line pending_line line-pending.visible (length x.due)
-      (le-leb (length x.due) MOST_NUMBER say.message_count) in
+      (le-leb (length x.due) MAX_NUMBER say.message_count) in
       let traces : List (List ℕ) = line_of trace_line (length x.lines) ∷ x.lines in
       let messages : List (List ℕ) =
       line_of pending_line (length x.due) ∷ (map (line_of message_line) x.due ++ traces) in (
@@ -117,7 +117,7 @@ module _ (net : Net) where
 
   -- ---- read back
 
-  pub read_back : IsNet net → (x : SnapshotView) → IsAccepted net x → length (text_of net x) ≤ MOST_FILE_BYTES
+  pub read_back : IsNet net → (x : SnapshotView) → IsAccepted net x → length (text_of net x) ≤ MAX_FILE_BYTES
       → snapshot net (text_of net x) ≡ Ok x
   read_back valid x ok at_most =
       let few = valid.few in
@@ -126,8 +126,8 @@ module _ (net : Net) where
       let leads = lines-lead_to net small x say in
       let read = lines-are_read (step net) ends (lines_of net x) None (Some (record { place = Lines 0; snapshot = x }))
       (lines-one_line x small say) leads refl in
-      let short : nat_lt MOST_FILE_BYTES (length (text_of net x)) ≡ false =
-      not_less MOST_FILE_BYTES (length (text_of net x)) at_most in
+      let short : nat_lt MAX_FILE_BYTES (length (text_of net x)) ≡ false =
+      not_less MAX_FILE_BYTES (length (text_of net x)) at_most in
       ap (λ (b : Bool). let r : Result SnapshotView SnapshotFault =
       if b then Err TooLong else of_lines net (read_text (step net) ends None (text_of net x)) in r) short
       ∙ (ap (of_lines net) read ∙ good_accepted net x ok.front ok.fit ok.due)
@@ -170,7 +170,7 @@ module _ (net : Net) where
       let lines = ended-lines net small whole.lines v whole.leads whole.ends_there in
       (whole.text_is ∙ ap (flat_map ended) lines.0, lines.1)
 
-  read-only : IsNet net → (x : SnapshotView) (text : List ℕ) → length text ≤ MOST_FILE_BYTES
+  read-only : IsNet net → (x : SnapshotView) (text : List ℕ) → length text ≤ MAX_FILE_BYTES
       → of_lines net (read_text (step net) ends None text) ≡ Ok x → IsTextOf net x text
   read-only valid x text at_most e =
       let r = of_lines-Ok (read_text (step net) ends None text) x e in
@@ -184,28 +184,28 @@ module _ (net : Net) where
       }
 
   pub only_texts : IsNet net → (x : SnapshotView) (text : List ℕ) → snapshot net text ≡ Ok x → IsTextOf net x text
-  only_texts valid x text e = by (nat_lt MOST_FILE_BYTES (length text)) refl e
+  only_texts valid x text e = by (nat_lt MAX_FILE_BYTES (length text)) refl e
     where
-      by : (b : Bool) → nat_lt MOST_FILE_BYTES (length text) ≡ b
+      by : (b : Bool) → nat_lt MAX_FILE_BYTES (length text) ≡ b
           → ◌≡◌ {A = Result SnapshotView SnapshotFault}
           (if b then Err TooLong else of_lines net (read_text (step net) ends None text)) (Ok x) → IsTextOf net x text
       by true is h = absurd (cc)
-      by false is h = read-only valid x text (ltb-false MOST_FILE_BYTES (length text) is) h
+      by false is h = read-only valid x text (ltb-false MAX_FILE_BYTES (length text) is) h
 
   -- ---- what a reader returns
 
-  pub too_long : (text : List ℕ) → MOST_FILE_BYTES < length text → snapshot net text ≡ Err TooLong
-  too_long text long = rw (lt-ltb MOST_FILE_BYTES (length text) long) refl
+  pub too_long : (text : List ℕ) → MAX_FILE_BYTES < length text → snapshot net text ≡ Err TooLong
+  too_long text long = rw (lt-ltb MAX_FILE_BYTES (length text) long) refl
 
-  pub of_text : (text : List ℕ) (r : Result SnapshotView SnapshotFault) → length text ≤ MOST_FILE_BYTES
+  pub of_text : (text : List ℕ) (r : Result SnapshotView SnapshotFault) → length text ≤ MAX_FILE_BYTES
       → of_lines net (read_text (step net) ends None text) ≡ r → snapshot net text ≡ r
   of_text text r at_most e =
       ap (λ (b : Bool). let s : Result SnapshotView SnapshotFault =
       if b then Err TooLong else of_lines net (read_text (step net) ends None text) in s)
-      (not_less MOST_FILE_BYTES (length text) at_most) ∙ e
+      (not_less MAX_FILE_BYTES (length text) at_most) ∙ e
 
   -- the reader at the end of a text, and what its snapshot comes to
   pub of_reader : (text : List ℕ) (v : ReaderView) (r : Result SnapshotView SnapshotFault)
-      → length text ≤ MOST_FILE_BYTES → read_text (step net) ends None text ≡ Ok (Some v)
+      → length text ≤ MAX_FILE_BYTES → read_text (step net) ends None text ≡ Ok (Some v)
       → if_accepted net v.snapshot ≡ r → snapshot net text ≡ r
   of_reader text v r at_most read e = of_text text r at_most (ap (of_lines net) read ∙ e)

@@ -2,7 +2,7 @@
 use Rattle.std.specs.Prelude.{◌≡◌, ℕ, ◌≤◌, List, length, Ok}
 use Rattle.std.specs.List.{flat_map}
 use Rattle.sim_base.specs.Clones.{Clone}
-use Rattle.sim_base.specs.declared.limits.TheConstants.{MOST_FILE_BYTES}
+use Rattle.sim_base.specs.declared.limits.TheConstants.{MAX_FILE_BYTES}
 use Rattle.run_laws.specs.Runs.{run}
 use Rattle.net_model.specs.Net.{Net}
 use Rattle.stations.specs.Runs.{simulation}
@@ -17,14 +17,14 @@ use Rattle.snapshot_text.specs.Reading.{snapshot}
 module _ (net : Net) where
   -- the text of a snapshot from which a run may go on is read as that snapshot, if it is not too long
   abbrev pub TextIsReadBack : Type 0
-  TextIsReadBack = (x : SnapshotView) → IsAccepted net x → length (text_of net x) ≤ MOST_FILE_BYTES
+  TextIsReadBack = (x : SnapshotView) → IsAccepted net x → length (text_of net x) ≤ MAX_FILE_BYTES
       → snapshot net (text_of net x) ≡ Ok x
 
   -- a text is that of such a snapshot
   pub record IsTextOf (x : SnapshotView) (text : List ℕ) : Type 0 where
     pub text_is : text ≡ text_of net x
     pub accepted : IsAccepted net x
-    pub at_most : length text ≤ MOST_FILE_BYTES
+    pub at_most : length text ≤ MAX_FILE_BYTES
 
   -- and no other text is read as it
   abbrev pub OnlyTextsAreRead : Type 0
@@ -44,5 +44,5 @@ module _ (net : Net) where
   -- the text of a run's snapshot is read, and the run from it has the trace text of the clone
   abbrev pub SavedRunIsResumed : Type 0
   SavedRunIsResumed = (c : Clone) (front : ℕ) → HasSnapshot net c front
-      → length (text_of net (snapshot_of net c front)) ≤ MOST_FILE_BYTES
+      → length (text_of net (snapshot_of net c front)) ≤ MAX_FILE_BYTES
       → IsReadFrom c front (text_of net (snapshot_of net c front))

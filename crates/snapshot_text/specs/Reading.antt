@@ -1,7 +1,7 @@
 -- What a text states: a snapshot, or the first rule that it breaks.
 use Rattle.std.specs.Prelude.{ℕ, ◌+◌, ◌-◌, ◌==◌, nat_lt, Bool, false, if◌then◌else◌, List, [], ◌∷◌, ◌++◌, length}
 use Rattle.std.specs.Prelude.{Option, Some, None, option_map, Result, Ok, Err}
-use Rattle.sim_base.specs.declared.limits.TheConstants.{MOST_FILE_BYTES}
+use Rattle.sim_base.specs.declared.limits.TheConstants.{MAX_FILE_BYTES}
 use Rattle.sim_base.specs.declared.message.Msg.{Msg}
 use Rattle.net_model.specs.Net.{Net}
 use Rattle.stations.specs.declared.saved.Saved.{Saved}
@@ -103,5 +103,5 @@ of_lines net (Ok (Some r)) = if_accepted net r.snapshot
 
 -- the snapshot that a text states, or the first rule that it breaks
 abbrev pub snapshot : Net → List ℕ → Result SnapshotView SnapshotFault
-snapshot net text = if nat_lt MOST_FILE_BYTES (length text) then Err TooLong
+snapshot net text = if nat_lt MAX_FILE_BYTES (length text) then Err TooLong
     else of_lines net (read_text (step net) ends None text)

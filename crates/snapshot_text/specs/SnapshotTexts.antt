@@ -1,7 +1,7 @@
 -- The text of a snapshot, line by line.
 use Rattle.std.specs.Prelude.{◌≡◌, ℕ, suc, ◌≤◌, true, List, [], ◌∷◌, ◌++◌, length, map}
 use Rattle.std.specs.List.{flat_map, list_all}
-use Rattle.decision_script.specs.declared.number.TheConstants.{MOST_NUMBER}
+use Rattle.decision_script.specs.declared.number.TheConstants.{MAX_NUMBER}
 use Rattle.net_model.specs.Net.{Net, site_of}
 use Rattle.stations.specs.declared.saved.Saved.{Saved}
 use Rattle.exact_words.specs.Forms.{line_of}
@@ -44,7 +44,7 @@ pub record IsSayable (net : Net) (x : SnapshotView) : Type 0 where
   pub head : head_line.has (head_of x) ≡ true
   pub count : length x.saved ≡ length net.sites
   pub stations : HaveForm net 1 x.saved
-  pub message_count : length x.due ≤ MOST_NUMBER
+  pub message_count : length x.due ≤ MAX_NUMBER
   pub messages : list_all message_line.has x.due ≡ true
-  pub line_count : length x.lines ≤ MOST_NUMBER
+  pub line_count : length x.lines ≤ MAX_NUMBER
   pub lines : list_all is_trace_line x.lines ≡ true

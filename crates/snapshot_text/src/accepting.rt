@@ -3,7 +3,7 @@ ghost use Rattle.std.specs.Prelude.{◌≡◌, ℕ, ◌+◌, ◌-◌, ◌^◌, �
 ghost use Rattle.std.specs.Prelude.{IfSome, IsTrue};
 ghost use Rattle.net_model.specs.Net.{HasStation};
 ghost use Rattle.net_model.specs.Rules.{IsNet};
-ghost use Rattle.net_model.specs.declared.limits.TheConstants.{MOST_STATIONS};
+ghost use Rattle.net_model.specs.declared.limits.TheConstants.{MAX_STATIONS};
 ghost use Rattle.resume_laws.specs.RunKeeps.{completions_to};
 ghost use Rattle.checkpoint.specs.Accepted.{first_unfit as first_unfit', fits_end as fits_end'};
 ghost use Rattle.checkpoint.specs.Accepted.{fits_front as fits_front'};
@@ -13,10 +13,10 @@ ghost use Rattle.checkpoint.specs.Due.{may_carry as may_carry', next_of as next_
 ghost use Rattle.snapshot_text.specs.Counts.{is_addressed as is_addressed', is_in_time as is_in_time'};
 
 use net_model::Model;
-use net_model::limits::MOST_STATIONS;
-use sim_base::{MOST_DECISIONS, Msg, Payload};
+use net_model::limits::MAX_STATIONS;
+use sim_base::{MAX_DECISIONS, Msg, Payload};
 use stations::restoring::is_job;
-use stations::sender::ALL_TIMES;
+use stations::sender::MAX_EVENT_TIMES;
 use stations::{Saved, Shape};
 use std::cmp::Ordering;
 
@@ -67,15 +67,15 @@ fn comes_after(last: Option<Msg>, message: &Msg) -> bool
 fn is_in_time(front: u64, last: Option<Msg>, message: &Msg) -> bool
     ensures value { result ≡ is_in_time' front last message.now }
 {
-    comes_after(last, message) && (front <= message.key.time && message.key.time < ALL_TIMES)
+    comes_after(last, message) && (front <= message.key.time && message.key.time < MAX_EVENT_TIMES)
 }
 
 // Whether a message is for a station, and is from one or from an analyst.
 fn is_addressed(model: &Model, message: &Msg) -> bool
     ensures value { result ≡ is_addressed' model.now message.now }
-    ensures few { length model.now.sites ≤ MOST_STATIONS }
+    ensures few { length model.now.sites ≤ MAX_STATIONS }
     ensures station { IsTrue result → HasStation model.now message.now.to }
-    ensures at_most { IsTrue result → message.now.to ≤ MOST_STATIONS }
+    ensures at_most { IsTrue result → message.now.to ≤ MAX_STATIONS }
 {
     let count = model.len();
     0 < message.to && message.to <= count && message.key.sender <= count
@@ -87,7 +87,7 @@ fn next_of(saved: &[Saved], sender: u32) -> u64
     ensures value { result ≡ next_of' saved.now sender }
 {
     if sender == 0 {
-        return u64::from(MOST_DECISIONS);
+        return u64::from(MAX_DECISIONS);
     }
     match saved.get(sender as usize - 1) {
         Some(saved) => saved.next,
@@ -147,12 +147,12 @@ fn may_be_due(
     last: Option<Msg>,
     message: &Msg,
 ) -> bool
-    requires counts { length counts.now ≡ MOST_STATIONS }
+    requires counts { length counts.now ≡ MAX_STATIONS }
     ensures value { result ≡ may_be_due' model.now front saved.now (get_or counts.now (message.now.to - 1) 0)
         last message.now }
-    ensures few { length model.now.sites ≤ MOST_STATIONS }
+    ensures few { length model.now.sites ≤ MAX_STATIONS }
     ensures station { IsTrue result → HasStation model.now message.now.to }
-    ensures at_most { IsTrue result → message.now.to ≤ MOST_STATIONS }
+    ensures at_most { IsTrue result → message.now.to ≤ MAX_STATIONS }
 {
     let addressed = is_addressed(model, message);
     if !is_in_time(front, last, message) || !addressed {
@@ -165,13 +165,13 @@ fn may_be_due(
 
 // Counts a message if it is a completion.
 fn count_completion(counts: &mut [u64], message: &Msg)
-    requires stations { length counts.old ≡ MOST_STATIONS }
+    requires stations { length counts.old ≡ MAX_STATIONS }
     requires low { 1 ≤ message.now.to }
-    requires high { message.now.to ≤ MOST_STATIONS }
+    requires high { message.now.to ≤ MAX_STATIONS }
     requires room { get_or counts.old (message.now.to - 1) 0 < 2 ^ 64 - 1 }
-    ensures counted { (s : ℕ) → s < MOST_STATIONS
+    ensures counted { (s : ℕ) → s < MAX_STATIONS
         → get_or counts.new s 0 ≡ get_or counts.old s 0 + completions_to (s + 1) message.now }
-    ensures stations { length counts.new ≡ MOST_STATIONS }
+    ensures stations { length counts.new ≡ MAX_STATIONS }
 {
     if let Payload::Done(_) = message.payload {
         counts[message.to as usize - 1] += 1;
@@ -183,7 +183,7 @@ pub(crate) fn first_bad(model: &Model, front: u64, saved: &[Saved], due: &[Msg])
     ensures value { result ≡ first_bad' model.now front saved.now [] None due.now }
     ensures index { IfSome result (λ i. i < length due.now) }
 {
-    let mut counts = [0u64; MOST_STATIONS];
+    let mut counts = [0u64; MAX_STATIONS];
     let mut last: Option<Msg> = None;
     for index in 0..due.len() {
         let message = due[index];

@@ -9,7 +9,7 @@ use std::alloc::AllocError;
 /// memory.
 #[derive(Clone, Copy, Debug, PartialEq, Eq)]
 pub enum SnapshotFault {
-    /// More bytes than [`MOST_FILE_BYTES`](sim_base::MOST_FILE_BYTES).
+    /// More bytes than [`MAX_FILE_BYTES`](sim_base::MAX_FILE_BYTES).
     TooLong,
     /// The first line that is not what is expected, from 1. A missing line counts as the line after the last one.
     BadLine { line: u32 },

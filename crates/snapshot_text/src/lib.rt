@@ -16,7 +16,7 @@
 //! Each line has a form of `snapshot_lines`.
 //!
 //! ```text
-//! if text_len(&model, &snapshot) > MOST_FILE_BYTES as u128 { .. }      // too long: known before any memory is taken
+//! if text_len(&model, &snapshot) > MAX_FILE_BYTES as u128 { .. }      // too long: known before any memory is taken
 //! let text = snapshot_text(alloc, &model, &snapshot)?;
 //! let snapshot = read_snapshot(alloc, &model, &text)?;
 //! ```

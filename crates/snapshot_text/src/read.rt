@@ -1,6 +1,6 @@
 //! Reads a snapshot's text.
 ghost use Rattle.std.specs.Prelude.{◌≡◌, ◌≢◌, ◌≤◌, length, Some, None, Ok, Err, IfOk, IfErr, MatchBool};
-ghost use Rattle.sim_base.specs.declared.limits.TheConstants.{MOST_FILE_BYTES};
+ghost use Rattle.sim_base.specs.declared.limits.TheConstants.{MAX_FILE_BYTES};
 ghost use Rattle.net_model.specs.Rules.{IsNet};
 ghost use Rattle.exact_words.specs.Texts.{read_text};
 ghost use Rattle.checkpoint.specs.Accepted.{IsAccepted};
@@ -12,7 +12,7 @@ use crate::fault::SnapshotFault;
 use crate::reader::Reader;
 use checkpoint::Snapshot;
 use net_model::Model;
-use sim_base::{MOST_FILE_BYTES, NoMemory};
+use sim_base::{MAX_FILE_BYTES, NoMemory};
 use snapshot_lines::words::cut_at;
 use std::alloc::Global;
 
@@ -38,7 +38,7 @@ fn take_line(
 
 /// Reads all lines of a text.
 pub(crate) fn read_lines(alloc: Global, model: &Model, text: &[u8]) -> Result<Reader, SnapshotFault>
-    requires at_most { length text.now ≤ MOST_FILE_BYTES }
+    requires at_most { length text.now ≤ MAX_FILE_BYTES }
     ensures ok { IfOk result (λ r. read_text (step model.now) ends None text.now ≡ Ok (Some r)) }
     ensures refused { IfErr result (λ e. e ≢ SnapshotFault.NoMemory
         → of_lines model.now (read_text (step model.now) ends None text.now) ≡ Err e) }
@@ -93,7 +93,7 @@ pub fn read_snapshot(alloc: Global, model: &Model, text: &[u8]) -> Result<Snapsh
     ensures refused { IfErr result (λ e. e ≢ SnapshotFault.NoMemory → snapshot model.now text.now ≡ Err e) }
     ensures accepted { IfOk result (λ x. IsAccepted model.now x) }
 {
-    if text.len() > MOST_FILE_BYTES {
+    if text.len() > MAX_FILE_BYTES {
         return Err(SnapshotFault::TooLong);
     }
     match read_lines(alloc, model, text) {

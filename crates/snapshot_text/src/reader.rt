@@ -4,7 +4,7 @@ ghost use Rattle.std.specs.Prelude.{MatchBool};
 ghost use Rattle.std.specs.List.{list_all};
 ghost use Rattle.std.specs.Prelude.{OnOk, ◌+◌, ◌≤◌, ◌^◌, ◌==◌, if◌then◌else◌};
 ghost use Rattle.net_model.specs.Net.{HasStation};
-ghost use Rattle.net_model.specs.declared.limits.TheConstants.{MOST_LINKS};
+ghost use Rattle.net_model.specs.declared.limits.TheConstants.{MAX_LINKS};
 ghost use Rattle.exact_words.specs.Forms.{line_says};
 ghost use Rattle.snapshot_lines.specs.Grammar.{head_line, message_line, pending_line, station_line, trace_line};
 ghost use Rattle.checkpoint.specs.TraceLines.{is_printed as is_printed', is_trace_line as is_trace_line'};
@@ -86,7 +86,7 @@ fn is_trace_line(line: &[u8]) -> bool
 fn link_count(model: &Model, station: u32) -> usize
     requires is_station { HasStation model.now station }
     ensures value { result ≡ links_of model.now station }
-    ensures at_most { result ≤ MOST_LINKS }
+    ensures at_most { result ≤ MAX_LINKS }
 {
     model.station(station).links.len()
 }

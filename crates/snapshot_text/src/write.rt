@@ -3,7 +3,7 @@ ghost use Rattle.std.specs.Prelude.{◌≡◌, ◌^◌, ◌<◌, ◌≤◌, ◌+
 ghost use Rattle.std.specs.List.{flat_map};
 ghost use Rattle.exact_words.specs.Forms.{line_of};
 ghost use Rattle.exact_words.specs.Texts.{ended};
-ghost use Rattle.net_model.specs.declared.limits.TheConstants.{MOST_STATIONS};
+ghost use Rattle.net_model.specs.declared.limits.TheConstants.{MAX_STATIONS};
 ghost use Rattle.snapshot_lines.specs.Grammar.{message_line};
 ghost use Rattle.snapshot_text.specs.SnapshotTexts.{head_of, station_lines, text_of};
 

@@ -25,7 +25,7 @@ use Rattle.net_model.specs.Rules.{IsNet}
 use Rattle.stations.specs.Handling.{StateView, handle}
 use Rattle.stations.specs.Opening.{setup}
 use Rattle.stations.specs.Sends.{AreSends}
-use Rattle.stations.specs.declared.sender.TheConstants.{ALL_TIMES}
+use Rattle.stations.specs.declared.sender.TheConstants.{MAX_EVENT_TIMES}
 use Rattle.stations.proofs.Lawful.{handles-fitting}
 use Rattle.stations.proofs.GoodLaws.{lawful-stations}
 use Rattle.solo_run.specs.EventLists.{IsForStation, EventListView}
@@ -118,7 +118,7 @@ sends_for net now s k (m ∷ ms) are = (
 
 module _ (net : Net) (valid : IsNet net) (past : Entries) (v : SoloView) (m : Msg) (new : List StateView)
     (next : List Msg) (sends : List Msg) (line : Line)
-    (early : m.key.time < ALL_TIMES)
+    (early : m.key.time < MAX_EVENT_TIMES)
     (solo : IsSoloAfter net past (with_due m v))
     (h : HandlesAt net (m.to - 1) m v.states new sends line) where
   -- the entry that the turn adds to the trace

@@ -8,7 +8,7 @@ ghost use Rattle.sim_base.specs.Order.{msg_cmp};
 ghost use Rattle.run_laws.specs.Queue.{insert_all};
 ghost use Rattle.stations.specs.Fits.{SuitsNet};
 ghost use Rattle.stations.specs.Handling.{StateView};
-ghost use Rattle.stations.specs.declared.sender.TheConstants.{ALL_TIMES};
+ghost use Rattle.stations.specs.declared.sender.TheConstants.{MAX_EVENT_TIMES};
 ghost use Rattle.solo_run.specs.EventLists.{IsForStation};
 ghost use Rattle.solo_run.specs.SoloView.{Entries, IsSoloAfter, with_due};
 ghost use Rattle.solo_run.specs.Turns.{HandlesAt, StopsAt, HasTurned};
@@ -19,7 +19,7 @@ use arrayvec::ArrayVec;
 use net_model::Model;
 use sim_base::{Entry, Line, Msg, NoMemory, Steps};
 use stations::state::handle;
-use stations::{MOST_SENDS, State};
+use stations::{MAX_SENDS, State};
 use std::sync::ledger::Ledger;
 
 /// Why a run stops.
@@ -48,7 +48,7 @@ fn handle_at<L: Ledger>(
     states: &mut Vec<State>,
     model: &Model,
     msg: &Msg,
-    out: &mut ArrayVec<Msg, MOST_SENDS>,
+    out: &mut ArrayVec<Msg, MAX_SENDS>,
     steps: &mut Steps<L>,
 ) -> Result<Line, SoloFault>
     // required: a message to a station of the model, and the states of its stations in order
@@ -57,7 +57,7 @@ fn handle_at<L: Ledger>(
     requires suits { (i : ℕ) (st : StateView) → slice_get states.old.items i ≡ Some st → SuitsNet model.now st }
     requires numbers { (i : ℕ) (st : StateView) → slice_get states.old.items i ≡ Some st → (st.sender.station ≡ i + 1) }
     // a time at which a station may handle a message, and an empty `out`
-    requires early { msg.now.key.time < ALL_TIMES }
+    requires early { msg.now.key.time < MAX_EVENT_TIMES }
     requires empty { array_vec_len out.old ≡ 0 }
     // result: the receiver's state after the message, the other states unchanged, the sends and the line; it counts a
     // step
@@ -91,12 +91,12 @@ impl Solo {
         &mut self,
         model: &Model,
         msg: &Msg,
-        out: &mut ArrayVec<Msg, MOST_SENDS>,
+        out: &mut ArrayVec<Msg, MAX_SENDS>,
         steps: &mut Steps<L>,
     ) -> Result<(), SoloFault>
         ghost past: { Entries }
         requires solo { IsSoloAfter model.now past (with_due msg.now self.old) }
-        requires early { msg.now.key.time < ALL_TIMES }
+        requires early { msg.now.key.time < MAX_EVENT_TIMES }
 
         // the run reaches the state after the turn
         ensures turned { OnOk result (HasTurned model.now self.old msg.now self.new) }

@@ -4,7 +4,7 @@ use Rattle.std.specs.Prelude.{IfSome}
 use Rattle.clone_sets.specs.Sets.{empty, IsFirst}
 use Rattle.clone_sets.specs.declared.set.CloneSet.{CloneSet}
 use Rattle.net_model.specs.Net.{Net}
-use Rattle.net_model.specs.declared.limits.TheConstants.{MOST_STATIONS}
+use Rattle.net_model.specs.declared.limits.TheConstants.{MAX_STATIONS}
 use Rattle.phys_proc.specs.Own.{MarkedMessages}
 use Rattle.phys_proc.specs.Procs.{ProcView}
 use Rattle.station_steps.specs.declared.flow.Flow.{Flow}
@@ -24,7 +24,7 @@ FirstOver flows (Some p) = IsFirstOver flows p.0 p.1
 
 -- the place, if any, is less than the greatest number of stations
 abbrev pub IsPlaceOfOver : Option (ℕ × ℕ) → Type 0
-IsPlaceOfOver over = IfSome over (λ p. p.0 < MOST_STATIONS)
+IsPlaceOfOver over = IfSome over (λ p. p.0 < MAX_STATIONS)
 
 -- the station at place i was stepped, what it sent is appended to what the others sent before, and the other stations
 -- are unchanged

@@ -5,7 +5,7 @@ use Rattle.std.specs.List.{All, flat_map}
 use Rattle.clone_sets.specs.Sets.{has, empty}
 use Rattle.clone_sets.specs.declared.set.CloneSet.{CloneSet}
 use Rattle.net_model.specs.Net.{Net}
-use Rattle.net_model.specs.declared.limits.TheConstants.{MOST_STATIONS}
+use Rattle.net_model.specs.declared.limits.TheConstants.{MAX_STATIONS}
 use Rattle.stations.specs.Runs.{simulation}
 use Rattle.run_laws.specs.Copies.{IsStepped, AreOver, GainTogether}
 use Rattle.phys_proc.specs.Own.{StationCopy, MarkedMessages}
@@ -29,7 +29,7 @@ AreProcsInOrder net procs = (i : ℕ) (p : ProcView) → slice_get procs i ≡ S
 
 -- the copies of a network's stations, in the order of their numbers, and at most as many as the limit on stations
 pub record AreStations (net : Net) (procs : List ProcView) : Type 0 where
-  pub few : length procs ≤ MOST_STATIONS
+  pub few : length procs ≤ MAX_STATIONS
   pub procs_in_order : AreProcsInOrder net procs
 
 -- a bound for each station, none past the horizon
@@ -102,7 +102,7 @@ AreStationsInOrder procs = (i : ℕ) (p : ProcView) → slice_get procs i ≡ So
 
 -- messages may be delivered to these stations: they are in the order of their numbers, and not too many
 pub record MayGiveAll (procs : List ProcView) : Type 0 where
-  pub few : length procs ≤ MOST_STATIONS
+  pub few : length procs ≤ MAX_STATIONS
   pub in_order : AreStationsInOrder procs
 
 -- messages were delivered to the copies of one station, and nothing else changed

@@ -7,7 +7,7 @@ ghost use Rattle.station_steps.specs.Mail.{IsEarliest, IsFirstFor, IsMailTaken, 
 ghost use Rattle.station_steps.specs.Windows.{IsDeliveredTo, mail_for};
 
 use clone_sets::CloneSet;
-use net_model::limits::MOST_STATIONS;
+use net_model::limits::MAX_STATIONS;
 use phys_proc::{CloneEnds, Proc};
 use sim_base::{Msg, NoMemory};
 use std::alloc::Global;
@@ -19,7 +19,7 @@ pub const NO_MAIL: u64 = u64::MAX;
 const LATEST_FIRST: u64 = NO_MAIL - 1;
 
 // One first time for each station number, from 0.
-const PLACES: usize = MOST_STATIONS + 1;
+const PLACES: usize = MAX_STATIONS + 1;
 
 /// The messages that a station sent in a window, in order, each with the clones that send it. For each receiver the
 /// list has a lower bound of the times of its messages.

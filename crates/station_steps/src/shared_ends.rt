@@ -1,6 +1,6 @@
 //! When clones end (their stop times), shared with workers that hold it across windows.
 ghost use Rattle.std.specs.Prelude.{◌≡◌, ◌<◌, ◌∷◌, ◌++◌, [], IfOk, OnOk, OnErr};
-ghost use Rattle.sim_base.specs.declared.lists.TheConstants.{MOST_CLONES};
+ghost use Rattle.sim_base.specs.declared.lists.TheConstants.{MAX_CLONES};
 ghost use Rattle.phys_proc.specs.Ends.{AreEndsOfClones, EndsWith};
 
 use phys_proc::CloneEnds;
@@ -54,7 +54,7 @@ impl SharedEnds {
     ///
     /// If out of memory, nothing changes.
     pub fn end(&mut self, alloc: Global, clone: u32, at: u64) -> Result<(), NoMemory>
-        requires clone { clone < MOST_CLONES }
+        requires clone { clone < MAX_CLONES }
         ensures ended { OnOk result (self.new ≡ self.old ++ (clone, at) ∷ []) }
         ensures ends { OnOk result (EndsWith clone at self.old self.new) }
         ensures err { OnErr result (self.new ≡ self.old) }

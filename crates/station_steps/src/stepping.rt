@@ -4,7 +4,7 @@ ghost use Rattle.std.specs.Prelude.{◌≡◌, ◌+◌, ◌<◌, ◌≤◌, ◌+
 ghost use Rattle.std.specs.Prelude.{Some, None, List, length, map, slice_get, IfOk, OnOk};
 ghost use Rattle.std.specs.List.{All};
 ghost use Rattle.net_model.specs.Net.{Net};
-ghost use Rattle.net_model.specs.declared.limits.TheConstants.{MOST_STATIONS};
+ghost use Rattle.net_model.specs.declared.limits.TheConstants.{MAX_STATIONS};
 ghost use Rattle.phys_proc.specs.Ends.{ends_in};
 ghost use Rattle.phys_proc.specs.Procs.{ProcView};
 ghost use Rattle.station_steps.specs.declared.flow.Flow.{Flow as Flow'};
@@ -93,7 +93,7 @@ fn append(all: &mut Vec<(Msg, CloneSet)>, more: &[(Msg, CloneSet)]) -> Result<()
 
 // The first station over the limit so far, and its first clone there, if the station at place i is next.
 fn first_so_far(before: Option<(u32, u32)>, i: u32, over: CloneSet) -> Option<(u32, u32)>
-    requires few { i < MOST_STATIONS }
+    requires few { i < MAX_STATIONS }
     requires before { IsPlaceOfOver before }
     ensures first { (flows : List Flow') (f : Flow') → length flows ≡ i → f.over ≡ over → FirstOver flows before →
         FirstOver (flows ++ f ∷ []) result }
@@ -119,7 +119,7 @@ fn step_place<L: Ledger>(
     steps: &mut Steps<L>,
 ) -> Result<Gain, NoMemory>
     requires place { i < length procs.old.items }
-    requires few { i < MOST_STATIONS }
+    requires few { i < MAX_STATIONS }
     requires bounds { AreBounds model.now procs.old.items buffers.old.bounds.items }
     requires numbered { (p : ProcView) → slice_get procs.old.items i ≡ Some p → IsNumbered model.now i p }
     ensures stepped { IfOk result (λ gain. SteppedAt model.now (ends_in model.now.horizon ends.now)
@@ -223,7 +223,7 @@ fn handled_in(flows: &[Flow]) -> u64 {
 
 // The first station with a clone over the limit, and there the first clone.
 fn first_over(flows: &[Flow]) -> Option<(u32, u32)>
-    requires few { length flows.now ≤ MOST_STATIONS }
+    requires few { length flows.now ≤ MAX_STATIONS }
     ensures first { FirstOver flows.now result }
     ensures few { IsPlaceOfOver result }
 {
@@ -241,7 +241,7 @@ fn gather_flows(
     flows: Vec<Flow>,
     buffers: Buffers,
 ) -> Result<(WindowResult, Arc<Mail>), NoMemory>
-    requires few { length flows.items ≤ MOST_STATIONS }
+    requires few { length flows.items ≤ MAX_STATIONS }
     ensures procs { IfOk result (λ s. s.0.procs.items ≡ map (λ f. f.done) flows.items) }
     ensures sent { IfOk result (λ s. s.1.value ≡ all_sent flows.items) }
     ensures over { IfOk result (λ s. FirstOver flows.items s.0.over) }

@@ -1,7 +1,7 @@
 //! The copies (physical processes) of a station (a logical process), with a lower bound of the times in their future
 //! event lists. They may have mail that they have not taken.
 ghost use Rattle.std.specs.Prelude.{◌≡◌, ◌<◌, ◌≤◌, ◌+◌, [], true, false, IfOk, OnOk, IsTrue, map, length};
-ghost use Rattle.sim_base.specs.declared.lists.TheConstants.{MOST_CLONES};
+ghost use Rattle.sim_base.specs.declared.lists.TheConstants.{MAX_CLONES};
 ghost use Rattle.clone_sets.specs.Sets.{has};
 ghost use Rattle.net_model.specs.Net.{Net};
 ghost use Rattle.stations.specs.Runs.{simulation};
@@ -179,7 +179,7 @@ impl TimedProc {
     /// The least time at which something is due for the clone, below its end; None exactly if nothing is.
     pub fn least_of(&self, model: &Model, ends: &CloneEnds, c: u32) -> Option<u64>
         requires proc { IsProc model.now self.now }
-        requires clone { c < MOST_CLONES }
+        requires clone { c < MAX_CLONES }
         ensures least { IsLeastOf (ends_in model.now.horizon ends.now) self.now.copies c result }
     {
         earlier_in_mail(
@@ -242,7 +242,7 @@ impl TimedProc {
     pub fn fork(&mut self, old: u32, new: u32) -> Result<(), NoMemory>
         requires old { has self.old.living old ≡ true }
         requires new { has self.old.living new ≡ false }
-        requires below { new < MOST_CLONES }
+        requires below { new < MAX_CLONES }
         ensures forked { OnOk result (HasForked old new self.old self.new) }
     {
         let lower_bound = self.lower_bound;
@@ -266,7 +266,7 @@ impl TimedProc {
     ) -> Result<Rack, NoMemory>
         requires copies { Stands (simulation model.value) has lists.value.clones front self.old.station
             self.old.copies }
-        requires few { length lists.value.clones ≤ MOST_CLONES }
+        requires few { length lists.value.clones ≤ MAX_CLONES }
         requires early { front ≤ model.value.horizon }
         ensures rack { IfOk result (λ r. r ≡ record {
           net = model.value;

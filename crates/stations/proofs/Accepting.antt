@@ -9,7 +9,7 @@ use Rattle.net_model.specs.declared.station.Kind.{Kind}
 use Rattle.net_model.specs.declared.station.Kind.TheVariants.{Source, Server, Delay, Router, Sink}
 use Rattle.net_model.specs.Net.{Site, is_router}
 use Rattle.net_model.specs.Rules.{IsRange, is_within}
-use Rattle.net_model.specs.declared.limits.TheConstants.{MOST_WEIGHT}
+use Rattle.net_model.specs.declared.limits.TheConstants.{MAX_WEIGHT}
 use Rattle.net_model.proofs.Bounds.{is_range-bounds, is_within-bounds}
 use Rattle.stations.specs.Changes.{has_parameter, is_in_range, is_accepted}
 
@@ -41,9 +41,9 @@ pub record IsWeightChange (links : ℕ) (c : Change) : Type 0 where
 is_in_range-weight : (links a b : ℕ) → is_in_range links Weight a b ≡ true
     → (1 ≤ a) × (a ≤ links) × IsWeight b
 is_in_range-weight links a b h =
-    let parts = and_parts (is_within 1 links a) (is_within 1 MOST_WEIGHT b) h in
+    let parts = and_parts (is_within 1 links a) (is_within 1 MAX_WEIGHT b) h in
     let link = is_within-bounds 1 links a parts.0 in
-    let weight = is_within-bounds 1 MOST_WEIGHT b parts.1 in
+    let weight = is_within-bounds 1 MAX_WEIGHT b parts.1 in
     (link.0, link.1, record { heavy = weight.0; light = weight.1 })
 
 -- the parameter of a router is a weight

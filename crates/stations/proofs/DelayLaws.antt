@@ -15,7 +15,7 @@ use Rattle.stations.specs.Sending.{Outgoing, weights_of, after_pick}
 use Rattle.stations.specs.Delays.{delay_job, delay_set, delay_on}
 use Rattle.stations.proofs.Accepting.{is_accepted-delay}
 use Rattle.stations.proofs.Growing.{Grown, grown-more, grown-held, grown-same}
-use Rattle.stations.specs.declared.sender.TheConstants.{MOST_SENDS}
+use Rattle.stations.specs.declared.sender.TheConstants.{MAX_SENDS}
 
 module _ (net : Net) (site : Site) (now : ℕ) (links : AllByRecursion (IsLink net) site.links)
     (ahead : 1 ≤ net.lookahead)
@@ -39,17 +39,17 @@ module _ (net : Net) (site : Site) (now : ℕ) (links : AllByRecursion (IsLink n
   delay-later : (handled : ℕ) (s : DelayState) → FitsDelay handled s → FitsDelay (handled + 1) s
   delay-later handled s f = record { range = f.range; passed = omega (arith, f.passed) }
 
-  -- after any message a delay fits one message more, and sends at most `MOST_SENDS` messages
+  -- after any message a delay fits one message more, and sends at most `MAX_SENDS` messages
   pub delay_on-good : (lo hi handled : ℕ) (p : Payload) (s : DelayState) → site.kind ≡ kind.Delay lo hi
       → FitsDelay handled s
       → FitsDelay (handled + 1) (delay_on site now p s a).state
-      × Grown net now MOST_SENDS a (delay_on site now p s a).out
+      × Grown net now MAX_SENDS a (delay_on site now p s a).out
   delay_on-good lo hi handled (Job j) s is f = (
     record { range = f.range; passed = omega (arith, f.passed) },
-    grown-more net now 2 MOST_SENDS a (delay_job site now j s a)
+    grown-more net now 2 MAX_SENDS a (delay_job site now j s a)
         (grown-held net now site.links (weights_of site.links)
         (range_of s.lo s.hi (after_pick (weights_of site.links) a).sender.draws) j a links ahead) (omega arith),
   )
-  delay_on-good lo hi handled (Set c) s is f = (delay_set-fits lo hi handled c s is f, grown-same net now MOST_SENDS a)
-  delay_on-good lo hi handled Tick s is f = (delay-later handled s f, grown-same net now MOST_SENDS a)
-  delay_on-good lo hi handled (Done j) s is f = (delay-later handled s f, grown-same net now MOST_SENDS a)
+  delay_on-good lo hi handled (Set c) s is f = (delay_set-fits lo hi handled c s is f, grown-same net now MAX_SENDS a)
+  delay_on-good lo hi handled Tick s is f = (delay-later handled s f, grown-same net now MAX_SENDS a)
+  delay_on-good lo hi handled (Done j) s is f = (delay-later handled s f, grown-same net now MAX_SENDS a)

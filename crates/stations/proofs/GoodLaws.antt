@@ -24,7 +24,7 @@ use Rattle.stations.proofs.KindLaws.{good_kind, kind_on-good}
 use Rattle.stations.proofs.Lawful.{site_cases, site_valid, number_in, site_is}
 use Rattle.stations.proofs.OpeningLaws.{opening_kind-fits, opening_kind-is_of_kind}
 use Rattle.stations.proofs.OpeningLaws.{first_tick-station, first_tick-first}
-use Rattle.stations.specs.declared.sender.TheConstants.{MOST_SENDS}
+use Rattle.stations.specs.declared.sender.TheConstants.{MAX_SENDS}
 
 module _ (net : Net) (valid : IsNet net) where
   -- ---- handle
@@ -33,7 +33,7 @@ module _ (net : Net) (valid : IsNet net) where
   pub record HandlesGoodState (s : ℕ) (st : StateView) (m : Msg) : Type 0 where
     pub good : IsGood net s (handle net st m).state
     pub sends : AreSends net m.key.time s st.sender.next (handle net st m).sends
-    pub few : length (handle net st m).sends ≤ MOST_SENDS
+    pub few : length (handle net st m).sends ≤ MAX_SENDS
     pub next : (handle net st m).state.sender.next ≡ st.sender.next + length (handle net st m).sends
 
   -- so it is at a station of the network

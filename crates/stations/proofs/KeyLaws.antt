@@ -20,13 +20,13 @@ use Rattle.stations.specs.Laws.{KeysAreSmall, LogKeysAreSmall}
 use Rattle.stations.specs.Runs.{simulation}
 use Rattle.stations.proofs.GoodLaws.{lawful-stations, stations-to_stations, fresh-stations}
 use Rattle.stations.proofs.ReplayLaws.{sends-next_numbers}
-use Rattle.stations.specs.declared.sender.TheConstants.{MOST_SENDS}
+use Rattle.stations.specs.declared.sender.TheConstants.{MAX_SENDS}
 
 module _ (net : Net) (valid : IsNet net) where
   -- ---- UsesFewNumbers
 
-  -- a station uses up at most `MOST_SENDS` numbers with one message
-  few-numbers : UsesFewNumbers (simulation net) (IsGood net) next_number MOST_SENDS
+  -- a station uses up at most `MAX_SENDS` numbers with one message
+  few-numbers : UsesFewNumbers (simulation net) (IsGood net) next_number MAX_SENDS
   few-numbers = record {
     opens = λ s there. let first = (sends-next_numbers net valid).opens s in omega (arith, first);
     grows = λ s st m there good.
@@ -35,8 +35,8 @@ module _ (net : Net) (valid : IsNet net) where
         omega (arith, few, next);
   }
 
-  -- `MOST_SENDS` numbers for each message of a log that keeps the limit, and once more, fit words
-  bound-enough : MOST_SENDS * (net.limit + 1) ≤ WORD_NUMBERS
+  -- `MAX_SENDS` numbers for each message of a log that keeps the limit, and once more, fit words
+  bound-enough : MAX_SENDS * (net.limit + 1) ≤ WORD_NUMBERS
   bound-enough = let short = valid.short in omega (arith, short)
 
   -- ---- KeysAreSmall and LogKeysAreSmall

@@ -18,7 +18,7 @@ use Rattle.stations.proofs.DelayLaws.{delay_on-good}
 use Rattle.stations.proofs.RouterLaws.{router_on-good}
 use Rattle.stations.proofs.ServerLaws.{server_on-good}
 use Rattle.stations.proofs.SinkLaws.{sink_on-fits}
-use Rattle.stations.specs.declared.sender.TheConstants.{ALL_TIMES, MOST_SENDS}
+use Rattle.stations.specs.declared.sender.TheConstants.{MAX_EVENT_TIMES, MAX_SENDS}
 
 -- ---- GoodKind
 
@@ -37,7 +37,7 @@ module _ (net : Net) (site : Site) (now : ℕ) where
   pub record IsGoodReaction (handled : ℕ) (a : Outgoing) (r : Reaction KindState) : Type 0 where
     pub good : GoodKind (handled + 1) r.state
     pub kind : IsOfKind site site.kind r.state
-    pub grown : Grown net now MOST_SENDS a r.out
+    pub grown : Grown net now MAX_SENDS a r.out
 
 module _ (net : Net) (site : Site) (now : ℕ) (links : AllByRecursion (IsLink net) site.links)
     (ahead : 1 ≤ net.lookahead)
@@ -63,7 +63,7 @@ module _ (net : Net) (site : Site) (now : ℕ) (links : AllByRecursion (IsLink n
         grown = r.2;
       }
   kind_on-good kind.Sink handled p (Sink s) is of f =
-      record { good = tt; kind = rw is tt; grown = grown-same net now MOST_SENDS a }
+      record { good = tt; kind = rw is tt; grown = grown-same net now MAX_SENDS a }
   kind_on-good (kind.Source lo hi jobs class) handled p (Server s) is of f = absurd of
   kind_on-good (kind.Source lo hi jobs class) handled p (Delay s) is of f = absurd of
   kind_on-good (kind.Source lo hi jobs class) handled p (Router s) is of f = absurd of
@@ -85,7 +85,7 @@ module _ (net : Net) (site : Site) (now : ℕ) (links : AllByRecursion (IsLink n
   kind_on-good kind.Sink handled p (Delay s) is of f = absurd of
   kind_on-good kind.Sink handled p (Router s) is of f = absurd of
 
-module _ (now : ℕ) (early : now < ALL_TIMES) where
+module _ (now : ℕ) (early : now < MAX_EVENT_TIMES) where
   -- a good state fits if the sums of a sink stay small
   pub kind_on-fits : (net : Net) (site : Site) (handled : ℕ) (p : Payload) (s : KindState) (o : Outgoing)
       → FitsKind handled s → GoodKind (handled + 1) (kind_on net site now p s o).state

@@ -7,7 +7,7 @@ use Rattle.sim_base.specs.Weights.{IsWeight}
 use Rattle.sim_base.proofs.ListLaws.{all_weaker}
 use Rattle.net_model.specs.Net.{Net, Site, HasStation, site_at, site_of, no_site}
 use Rattle.net_model.specs.Rules.{IsNet, IsSite, IsLink}
-use Rattle.net_model.specs.declared.limits.TheConstants.{MOST_TIME}
+use Rattle.net_model.specs.declared.limits.TheConstants.{MAX_TIME}
 use Rattle.stations.specs.declared.kind_state.KindState.{KindState}
 use Rattle.stations.specs.Fits.{AreLinks, IsOfKind, SuitsNet, FitsState}
 use Rattle.sim_base.specs.declared.message.Msg.{Msg}
@@ -17,7 +17,7 @@ use Rattle.stations.specs.Sending.{Outgoing, outgoing, reaction}
 use Rattle.stations.specs.Sends.{AreSends}
 use Rattle.stations.proofs.Places.{AllByRecursion-slice_get}
 use Rattle.stations.proofs.KindLaws.{good_kind, kind_on-good, kind_on-fits}
-use Rattle.stations.specs.declared.sender.TheConstants.{ALL_TIMES, MOST_SENDS}
+use Rattle.stations.specs.declared.sender.TheConstants.{MAX_EVENT_TIMES, MAX_SENDS}
 
 -- ---- site_at and site_of
 
@@ -61,7 +61,7 @@ are_links net site valid some =
       some = some;
       few = valid.few;
       weights = all_weaker (IsLink net) (λ l. IsWeight l.weight) site.links (λ l is. is.weight) valid.links;
-      near = all_weaker (IsLink net) (λ l. l.delay ≤ MOST_TIME) site.links (λ l is. is.small) valid.links;
+      near = all_weaker (IsLink net) (λ l. l.delay ≤ MAX_TIME) site.links (λ l is. is.small) valid.links;
     }
 
 -- ---- handle
@@ -72,13 +72,13 @@ pub record HandlesFittingState (net : Net) (st : StateView) (m : Msg) : Type 0 w
   pub suits : SuitsNet net (handle net st m).state
   pub sends : AreSends net m.key.time st.sender.station st.sender.next (handle net st m).sends
   pub next : (handle net st m).state.sender.next ≡ st.sender.next + length (handle net st m).sends
-  pub few : length (handle net st m).sends ≤ MOST_SENDS
+  pub few : length (handle net st m).sends ≤ MAX_SENDS
   pub handled : (handle net st m).state.handled ≡ st.handled + 1
   pub station : (handle net st m).state.sender.station ≡ st.sender.station
 
 -- so it is for each station of the network whose state fits, and each message that it may handle
 pub handles-fitting : (net : Net) (st : StateView) (m : Msg) → IsNet net → FitsState st → SuitsNet net st
-    → m.key.time < ALL_TIMES → HandlesFittingState net st m
+    → m.key.time < MAX_EVENT_TIMES → HandlesFittingState net st m
 unfolding handle
 handles-fitting net st m valid fits suits early =
     let site = site_of net st.sender.station in

@@ -23,7 +23,7 @@ use Rattle.stations.specs.Sending.{Outgoing, send_later}
 use Rattle.stations.proofs.GoodLaws.{among, handles-good, lawful-stations, opens_good}
 use Rattle.stations.proofs.Lawful.{handles-fitting, site_at-within, site_is}
 use Rattle.stations.proofs.OpeningLaws.{setup-well}
-use Rattle.stations.specs.declared.sender.TheConstants.{ALL_TIMES, MOST_SENDS}
+use Rattle.stations.specs.declared.sender.TheConstants.{MAX_EVENT_TIMES, MAX_SENDS}
 
 -- ---- first_tick
 
@@ -78,7 +78,7 @@ module _ (net : Net) (valid : IsNet net) where
 
   -- states that fit lead to such states, if the times of the log are early
   fits_from : (s : ℕ) (st : StateView) (log : List (Entry Msg Line)) → FitsState st → SuitsNet net st
-      → AllByRecursion (λ e. e.msg.key.time < ALL_TIMES) log → FitsState (replay_from net s st log)
+      → AllByRecursion (λ e. e.msg.key.time < MAX_EVENT_TIMES) log → FitsState (replay_from net s st log)
   fits_from s st [] fits suits early = fits
   fits_from s st (e ∷ es) fits suits early =
       let well = handles-fitting net st e.msg valid fits suits early.0 in
@@ -97,7 +97,7 @@ module _ (net : Net) (valid : IsNet net) where
   opens_next : (s : ℕ) → (setup net s).state.sender.next ≤ 1
   opens_next s = first_tick-next (opening_kind (site_of net s) (site_of net s).kind) _
 
-  -- a station opens with at most one message and sends at most `MOST_SENDS` at each, and each gets the next number
+  -- a station opens with at most one message and sends at most `MAX_SENDS` at each, and each gets the next number
   pub sends-next_numbers : SendsNextNumbers net
   sends-next_numbers = record {
     opens = opens_next;
@@ -106,16 +106,16 @@ module _ (net : Net) (valid : IsNet net) where
     sends = λ s st m good. (handles-good net valid s st m good).sends;
   }
 
-  -- for each entry the next number goes up by at most `MOST_SENDS`
+  -- for each entry the next number goes up by at most `MAX_SENDS`
   next_from : (s : ℕ) (st : StateView) (log : List (Entry Msg Line)) → IsGood net s st
-      → (replay_from net s st log).sender.next ≤ st.sender.next + MOST_SENDS * length log
+      → (replay_from net s st log).sender.next ≤ st.sender.next + MAX_SENDS * length log
   next_from s st [] good = omega arith
   next_from s st (e ∷ es) good =
       let one = handles-good net valid s st e.msg good in
       let rest = next_from s (handle net st e.msg).state es one.good in
       omega (arith, rest, one.next, one.few)
 
-  -- so its next number is at most `MOST_SENDS` for each entry of its log, and once more
+  -- so its next number is at most `MAX_SENDS` for each entry of its log, and once more
   pub numbers-small : NumbersAreSmall net
   numbers-small s log =
       let rest = next_from s (setup net s).state log (opens_good net valid s) in

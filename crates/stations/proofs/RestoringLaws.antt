@@ -7,13 +7,13 @@ use Rattle.std.proofs.lemmas.Bool.{leb-true, le-leb, and_parts as both, and_from
 use Rattle.sim_base.specs.Weights.{IsWeight}
 use Rattle.net_model.specs.declared.station.Kind.{Kind}
 use Rattle.net_model.specs.declared.station.Kind.TheVariants as kind
-use Rattle.net_model.specs.declared.limits.TheConstants.{MOST_WEIGHT, MOST_TIME}
+use Rattle.net_model.specs.declared.limits.TheConstants.{MAX_WEIGHT, MAX_TIME}
 use Rattle.net_model.specs.Net.{Net, Site, site_at, site_of}
 use Rattle.net_model.specs.Rules.{IsNet, IsSite, IsRange, is_range, is_within, IsKind}
 use Rattle.net_model.proofs.Bounds.{is_range-bounds, is_within-bounds}
 use Rattle.stations.specs.declared.kind_state.KindState.{KindState}
 use Rattle.stations.specs.declared.kind_state.KindState.TheVariants.{Source, Server, Delay, Router, Sink}
-use Rattle.stations.specs.declared.sender.TheConstants.{ALL_STAYS, MOST_SENDS}
+use Rattle.stations.specs.declared.sender.TheConstants.{MAX_STAY_SUM, MAX_SENDS}
 use Rattle.stations.specs.Fits.{FitsKind, IsOfKind}
 use Rattle.stations.proofs.Lawful.{site_at-within, site_is, site_valid}
 use Rattle.stations.specs.declared.saved.Saved.{Saved}
@@ -26,7 +26,7 @@ use Rattle.stations.specs.Saving.{restored_kind, restored}
 
 pub range-true : (low lo hi : ℕ) → IsRange low lo hi → is_range low lo hi ≡ true
 range-true low lo hi r =
-    and _ _ (and _ _ (le-leb low lo r.above) (le-leb lo hi r.ordered)) (le-leb hi MOST_TIME r.small)
+    and _ _ (and _ _ (le-leb low lo r.above) (le-leb lo hi r.ordered)) (le-leb hi MAX_TIME r.small)
 
 pub within-true : (low high n : ℕ) → low ≤ n → n ≤ high → is_within low high n ≡ true
 within-true low high n p q = and _ _ (le-leb low n p) (le-leb n high q)
@@ -136,20 +136,20 @@ module _ (net : Net) where
           weights = record {
             some = elim links [ inl some ↦ omega (arith, count, some) | inr sink ↦ absurd (cc) ];
             few = omega (arith, count, few);
-            all = all weights.items (all_pass-all (is_within 1 MOST_WEIGHT) weights.items parts.1);
+            all = all weights.items (all_pass-all (is_within 1 MAX_WEIGHT) weights.items parts.1);
           };
           passed = leb-true passed handled h.1;
         };
         of = count;
       }
     where
-      all : (ws : List ℕ) → AllByRecursion (λ w. is_within 1 MOST_WEIGHT w ≡ true) ws → AllByRecursion IsWeight ws
+      all : (ws : List ℕ) → AllByRecursion (λ w. is_within 1 MAX_WEIGHT w ≡ true) ws → AllByRecursion IsWeight ws
       all [] are = tt
-      all (w ∷ ws) are = let b = is_within-bounds 1 MOST_WEIGHT w are.0 in
+      all (w ∷ ws) are = let b = is_within-bounds 1 MAX_WEIGHT w are.0 in
           (record { heavy = b.0; light = b.1 }, all ws are.1)
   shape-restored site kind.Sink handled (shape.Sink got stay) valid links few e =
       let h = both _ _ e in
-      let less = ltb-true stay ALL_STAYS h.1 in
+      let less = ltb-true stay MAX_STAY_SUM h.1 in
       record {
         state = Sink (record { got = got; stay = stay });
         is = refl;
@@ -175,8 +175,8 @@ module _ (net : Net) where
       let site : Site = site_of net s in
       let here : site_at net s ≡ Some site = rw same found.1 in
       let lawful : IsSite net site = rw same (site_valid net s found.0 valid found.1) in
-      let numbers_fit : Bool = nat_le saved.handled net.limit && (nat_le saved.next (MOST_SENDS * (saved.handled + 1))
-      && nat_le saved.drawn (MOST_SENDS * (saved.handled + 1))) in
+      let numbers_fit : Bool = nat_le saved.handled net.limit && (nat_le saved.next (MAX_SENDS * (saved.handled + 1))
+      && nat_le saved.drawn (MAX_SENDS * (saved.handled + 1))) in
       let h = both numbers_fit (fits_shape net site saved.handled site.kind saved.shape) e in
       let counts = both _ _ h.0 in
       let numbers = both _ _ counts.1 in

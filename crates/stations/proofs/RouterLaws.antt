@@ -18,7 +18,7 @@ use Rattle.stations.specs.Sending.{Outgoing, send_over, route_by}
 use Rattle.stations.specs.Routers.{router_job, router_set, router_on}
 use Rattle.stations.proofs.Accepting.{is_accepted-router}
 use Rattle.stations.proofs.Growing.{Grown, grown-more, grown-route, grown-over, grown-same}
-use Rattle.stations.specs.declared.sender.TheConstants.{MOST_SENDS}
+use Rattle.stations.specs.declared.sender.TheConstants.{MAX_SENDS}
 
 module _ (net : Net) (site : Site) (now : ℕ) (links : AllByRecursion (IsLink net) site.links)
     (ahead : 1 ≤ net.lookahead)
@@ -62,28 +62,28 @@ module _ (net : Net) (site : Site) (now : ℕ) (links : AllByRecursion (IsLink n
 
   -- ---- router_job
 
-  -- a job that is sent on is at most `MOST_SENDS` messages
-  router_job-grown : (j : JobOf) (s : RouterState) → Grown net now MOST_SENDS a (router_job site now j s a)
+  -- a job that is sent on is at most `MAX_SENDS` messages
+  router_job-grown : (j : JobOf) (s : RouterState) → Grown net now MAX_SENDS a (router_job site now j s a)
   router_job-grown j s = by (routes_by_turn site.kind) _
     where
       -- by whether it routes by turn, over whichever link
-      by : (b : Bool) (i : ℕ) → Grown net now MOST_SENDS a
+      by : (b : Bool) (i : ℕ) → Grown net now MAX_SENDS a
           (if b then send_over (slice_get site.links i) now j a else route_by site.links s.weights.items now j a)
-      by true i = grown-more net now 1 MOST_SENDS a _ (grown-over net now site.links i j a links ahead) (omega arith)
-      by false i = grown-more net now 1 MOST_SENDS a _
+      by true i = grown-more net now 1 MAX_SENDS a _ (grown-over net now site.links i j a links ahead) (omega arith)
+      by false i = grown-more net now 1 MAX_SENDS a _
           (grown-route net now site.links s.weights.items j a links ahead) (omega arith)
 
   -- ---- router_on
 
-  -- after any message a router fits one more, has a weight for each link, and sends at most `MOST_SENDS` messages
+  -- after any message a router fits one more, has a weight for each link, and sends at most `MAX_SENDS` messages
   pub router_on-good : (handled : ℕ) (p : Payload) (s : RouterState) → is_router site.kind ≡ true
       → length s.weights.items ≡ length site.links → FitsRouter handled s
       → FitsRouter (handled + 1) (router_on site now p s a).state
       × (length (router_on site now p s a).state.weights.items ≡ length site.links)
-      × Grown net now MOST_SENDS a (router_on site now p s a).out
+      × Grown net now MAX_SENDS a (router_on site now p s a).out
   router_on-good handled (Job j) s is count f =
       (record { weights = f.weights; passed = omega (arith, f.passed) }, count, router_job-grown j s)
   router_on-good handled (Set c) s is count f = let r = router_set-fits handled c s is count f in
-      (r.0, r.1, grown-same net now MOST_SENDS a)
-  router_on-good handled Tick s is count f = (router-later handled s f, count, grown-same net now MOST_SENDS a)
-  router_on-good handled (Done j) s is count f = (router-later handled s f, count, grown-same net now MOST_SENDS a)
+      (r.0, r.1, grown-same net now MAX_SENDS a)
+  router_on-good handled Tick s is count f = (router-later handled s f, count, grown-same net now MAX_SENDS a)
+  router_on-good handled (Done j) s is count f = (router-later handled s f, count, grown-same net now MAX_SENDS a)

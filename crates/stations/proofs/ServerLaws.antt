@@ -13,7 +13,7 @@ use Rattle.sim_base.specs.declared.message.Payload.{Payload}
 use Rattle.sim_base.specs.declared.message.Payload.TheVariants.{Tick, Job, Done, Set}
 use Rattle.net_model.specs.Net.{Net, Site, HasStation}
 use Rattle.net_model.specs.Rules.{IsLink, IsServer}
-use Rattle.net_model.specs.declared.limits.TheConstants.{MOST_ROOM, MOST_SERVERS}
+use Rattle.net_model.specs.declared.limits.TheConstants.{MAX_ROOM, MAX_SERVERS}
 use Rattle.stations.specs.declared.kind_state.ServerState.{ServerState}
 use Rattle.stations.specs.Changes.{is_accepted}
 use Rattle.stations.specs.Fits.{FitsServer}
@@ -24,16 +24,16 @@ use Rattle.net_model.proofs.Bounds.{is_range-bounds, is_within-bounds}
 use Rattle.stations.proofs.Accepting.{is_accepted-parts}
 use Rattle.stations.proofs.NextInLine.{next_place-below}
 use Rattle.stations.proofs.Growing.{Grown, grown-none, grown-more, grown-trans, grown-later, grown-route, grown-same}
-use Rattle.stations.specs.declared.sender.TheConstants.{MOST_SENDS}
+use Rattle.stations.specs.declared.sender.TheConstants.{MAX_SENDS}
 
 -- ---- a server that fits
 
 -- a server that could take n waiting jobs more into service
 record IsBusyBut (n handled : ℕ) (s : ServerState) : Type 0 where
   pub rules : IsServer s.servers s.room s.lo s.hi
-  pub busy : s.busy ≤ MOST_SERVERS
+  pub busy : s.busy ≤ MAX_SERVERS
   pub line : (length s.waiting ≡ 0) ⊎ (s.servers ≤ s.busy + n)
-  pub short : length s.waiting ≤ MOST_ROOM
+  pub short : length s.waiting ≤ MAX_ROOM
   pub done : s.done ≤ handled
   pub lost : s.lost ≤ handled
 
@@ -170,14 +170,14 @@ module _ (net : Net) (site : Site) (now : ℕ) (links : AllByRecursion (IsLink n
 
     -- ---- server_job
 
-    -- if a job arrives, the server fits one more message and sends at most `MOST_SENDS` messages
+    -- if a job arrives, the server fits one more message and sends at most `MAX_SENDS` messages
     server_job-good : (handled : ℕ) (job : JobOf) (s : ServerState) → FitsServer handled s
-        → Holds (FitsServer (handled + 1)) MOST_SENDS a (server_job now job s a)
+        → Holds (FitsServer (handled + 1)) MAX_SENDS a (server_job now job s a)
     server_job-good handled job s f = by (nat_lt s.busy s.servers) (nat_lt (length s.waiting) s.room) refl refl
       where
         -- by whether a server is free, and whether the waiting line has room
         by : (free space : Bool) → nat_lt s.busy s.servers ≡ free → nat_lt (length s.waiting) s.room ≡ space
-            → Holds (FitsServer (handled + 1)) MOST_SENDS a
+            → Holds (FitsServer (handled + 1)) MAX_SENDS a
             (if free then start now job s a else if space then reaction
             (record s { waiting = s.waiting ++ job ∷ [] }) a else reaction (record s { lost = s.lost + 1 }) a)
         by true space free e =
@@ -191,7 +191,7 @@ module _ (net : Net) (site : Site) (now : ℕ) (links : AllByRecursion (IsLink n
                 done = omega (arith, f.done);
                 lost = omega (arith, f.lost);
               };
-              grown = grown-more net now 1 MOST_SENDS a (start now job s a).out
+              grown = grown-more net now 1 MAX_SENDS a (start now job s a).out
                   (grown-later net now a is_station s.lo s.hi (Done job) (λ job. job) f.rules.service.above)
                   (omega arith);
             }
@@ -207,7 +207,7 @@ module _ (net : Net) (site : Site) (now : ℕ) (links : AllByRecursion (IsLink n
                 done = omega (arith, f.done);
                 lost = omega (arith, f.lost);
               };
-              grown = grown-same net now MOST_SENDS a;
+              grown = grown-same net now MAX_SENDS a;
             }
         by false false full no_space = record {
           holds = record {
@@ -218,19 +218,19 @@ module _ (net : Net) (site : Site) (now : ℕ) (links : AllByRecursion (IsLink n
             done = omega (arith, f.done);
             lost = omega (arith, f.lost);
           };
-          grown = grown-same net now MOST_SENDS a;
+          grown = grown-same net now MAX_SENDS a;
         }
 
     -- ---- server_done
 
-    -- if a service ends, the server fits one more message and sends at most `MOST_SENDS` messages
+    -- if a service ends, the server fits one more message and sends at most `MAX_SENDS` messages
     server_done-good : (handled : ℕ) (job : JobOf) (s : ServerState) → FitsServer handled s
-        → Holds (FitsServer (handled + 1)) MOST_SENDS a (server_done net site now job s a)
+        → Holds (FitsServer (handled + 1)) MAX_SENDS a (server_done net site now job s a)
     server_done-good handled job s f = by (nat_lt 0 s.busy) refl
       where
         -- by whether a job is in service
         by : (some : Bool) → nat_lt 0 s.busy ≡ some
-            → Holds (FitsServer (handled + 1)) MOST_SENDS a
+            → Holds (FitsServer (handled + 1)) MAX_SENDS a
             (if some then start_next net site now (record s { busy = s.busy - 1; done = s.done + 1 })
             (route site.links now job a) else reaction s a)
         by true some =
@@ -250,17 +250,17 @@ module _ (net : Net) (site : Site) (now : ℕ) (links : AllByRecursion (IsLink n
             let r = start_next net site now (record s { busy = s.busy - 1; done = s.done + 1 }) after in
             record {
               holds = busy_fits (handled + 1) r.state one.holds;
-              grown = grown-more net now 2 MOST_SENDS a r.out (grown-trans net now 1 1 a after r.out routed one.grown)
+              grown = grown-more net now 2 MAX_SENDS a r.out (grown-trans net now 1 1 a after r.out routed one.grown)
                   (omega arith);
             }
-        by false none = record { holds = server-later handled s f; grown = grown-same net now MOST_SENDS a }
+        by false none = record { holds = server-later handled s f; grown = grown-same net now MAX_SENDS a }
 
     -- ---- server_set
 
-    -- if a parameter changes as the server accepts, it fits one more message and sends at most `MOST_SENDS` messages
+    -- if a parameter changes as the server accepts, it fits one more message and sends at most `MAX_SENDS` messages
     server_change-good : (handled : ℕ) (p : Param) (c : Change) (s : ServerState) → c.param ≡ p
         → is_accepted site c ≡ true → FitsServer handled s
-        → Holds (FitsServer (handled + 1)) MOST_SENDS a (server_change net site now p c.a c.b s a)
+        → Holds (FitsServer (handled + 1)) MAX_SENDS a (server_change net site now p c.a c.b s a)
     server_change-good handled Service c s is accepted f =
         let range = is_range-bounds 1 c.a c.b (let h = (is_accepted-parts site c accepted).1 in rw is at h) in
         record {
@@ -272,10 +272,10 @@ module _ (net : Net) (site : Site) (now : ℕ) (links : AllByRecursion (IsLink n
             done = omega (arith, f.done);
             lost = omega (arith, f.lost);
           };
-          grown = grown-same net now MOST_SENDS a;
+          grown = grown-same net now MAX_SENDS a;
         }
     server_change-good handled Room c s is accepted f =
-        let room = leb-true c.a MOST_ROOM (let h = (is_accepted-parts site c accepted).1 in rw is at h) in
+        let room = leb-true c.a MAX_ROOM (let h = (is_accepted-parts site c accepted).1 in rw is at h) in
         record {
           holds = record {
             rules = record { some = f.rules.some; few = f.rules.few; small = room; service = f.rules.service };
@@ -285,10 +285,10 @@ module _ (net : Net) (site : Site) (now : ℕ) (links : AllByRecursion (IsLink n
             done = omega (arith, f.done);
             lost = omega (arith, f.lost);
           };
-          grown = grown-same net now MOST_SENDS a;
+          grown = grown-same net now MAX_SENDS a;
         }
     server_change-good handled Servers c s is accepted f =
-        let bounds = is_within-bounds 1 MOST_SERVERS c.a
+        let bounds = is_within-bounds 1 MAX_SERVERS c.a
         (let h = (is_accepted-parts site c accepted).1 in rw is at h) in
         let few = bounds.1 in
         let begun : IsBusyBut (c.a - s.busy) (handled + 1) (record s { servers = c.a }) = record {
@@ -304,34 +304,34 @@ module _ (net : Net) (site : Site) (now : ℕ) (links : AllByRecursion (IsLink n
         let r = start_times (c.a - s.busy) net site now begin in
         record {
           holds = busy_fits (handled + 1) r.state rest.holds;
-          grown = grown-more net now (0 + (c.a - s.busy)) MOST_SENDS a r.out rest.grown (omega arith);
+          grown = grown-more net now (0 + (c.a - s.busy)) MAX_SENDS a r.out rest.grown (omega arith);
         }
     server_change-good handled Every c s is accepted f =
-        record { holds = server-later handled s f; grown = grown-same net now MOST_SENDS a }
+        record { holds = server-later handled s f; grown = grown-same net now MAX_SENDS a }
     server_change-good handled Hold c s is accepted f =
-        record { holds = server-later handled s f; grown = grown-same net now MOST_SENDS a }
+        record { holds = server-later handled s f; grown = grown-same net now MAX_SENDS a }
     server_change-good handled Weight c s is accepted f =
-        record { holds = server-later handled s f; grown = grown-same net now MOST_SENDS a }
+        record { holds = server-later handled s f; grown = grown-same net now MAX_SENDS a }
 
     -- so it does for every change
     server_set-good : (handled : ℕ) (c : Change) (s : ServerState) → FitsServer handled s
-        → Holds (FitsServer (handled + 1)) MOST_SENDS a (server_set net site now c s a)
+        → Holds (FitsServer (handled + 1)) MAX_SENDS a (server_set net site now c s a)
     server_set-good handled c s f = by (is_accepted site c) refl
       where
         -- by whether it takes the change
         by : (t : Bool) → is_accepted site c ≡ t
-            → Holds (FitsServer (handled + 1)) MOST_SENDS a
+            → Holds (FitsServer (handled + 1)) MAX_SENDS a
             (if t then server_change net site now c.param c.a c.b s a else reaction s a)
         by true accepted = server_change-good handled c.param c s refl accepted f
-        by false refused = record { holds = server-later handled s f; grown = grown-same net now MOST_SENDS a }
+        by false refused = record { holds = server-later handled s f; grown = grown-same net now MAX_SENDS a }
 
     -- ---- server_on
 
     -- for every message, a server keeps its invariant, and sends as stations send
     pub server_on-good : (handled : ℕ) (p : Payload) (s : ServerState) → FitsServer handled s
-        → Holds (FitsServer (handled + 1)) MOST_SENDS a (server_on net site now p s a)
+        → Holds (FitsServer (handled + 1)) MAX_SENDS a (server_on net site now p s a)
     server_on-good handled (Job j) s f = server_job-good handled j s f
     server_on-good handled (Done j) s f = server_done-good handled j s f
     server_on-good handled (Set c) s f = server_set-good handled c s f
     server_on-good handled Tick s f =
-        record { holds = server-later handled s f; grown = grown-same net now MOST_SENDS a }
+        record { holds = server-later handled s f; grown = grown-same net now MAX_SENDS a }

@@ -5,9 +5,9 @@ use Rattle.sim_base.specs.declared.message.Payload.TheVariants.{Tick, Job, Done,
 use Rattle.stations.specs.declared.kind_state.SinkState.{SinkState}
 use Rattle.stations.specs.Fits.{FitsSink}
 use Rattle.stations.specs.Sinks.{sink_on}
-use Rattle.stations.specs.declared.sender.TheConstants.{ALL_TIMES}
+use Rattle.stations.specs.declared.sender.TheConstants.{MAX_EVENT_TIMES}
 
-module _ (now : ℕ) (early : now < ALL_TIMES) where
+module _ (now : ℕ) (early : now < MAX_EVENT_TIMES) where
   -- after any message that a station may handle a sink fits one message more
   pub sink_on-fits : (handled : ℕ) (p : Payload) (s : SinkState) → FitsSink handled s
       → FitsSink (handled + 1) (sink_on now p s)

@@ -15,7 +15,7 @@ use Rattle.stations.specs.Sending.{Outgoing, weights_of, route, send_later}
 use Rattle.stations.specs.Sources.{next_tick, source_ticks, source_set, source_on}
 use Rattle.stations.proofs.Accepting.{is_accepted-source}
 use Rattle.stations.proofs.Growing.{Grown, grown-more, grown-trans, grown-later, grown-route, grown-same}
-use Rattle.stations.specs.declared.sender.TheConstants.{MOST_SENDS}
+use Rattle.stations.specs.declared.sender.TheConstants.{MAX_SENDS}
 
 -- ---- next_tick
 
@@ -52,30 +52,30 @@ module _ (net : Net) (site : Site) (now : ℕ) (links : AllByRecursion (IsLink n
 
   -- ---- source_ticks
 
-  -- a job that is made and the next tick are at most `MOST_SENDS` messages
+  -- a job that is made and the next tick are at most `MAX_SENDS` messages
   source_ticks-grown : (s : SourceState) → IsRange 1 s.lo s.hi
-      → Grown net now MOST_SENDS a (source_ticks site now s a).out
+      → Grown net now MAX_SENDS a (source_ticks site now s a).out
   source_ticks-grown s range =
       let job : JobOf = record { source = a.sender.station; count = s.sent; born = now } in
       let t : SourceState = record s { sent = s.sent + 1 } in
       let routed = grown-route net now site.links (weights_of site.links) job a links ahead in
       let after = route site.links now job a in
       let ticked = next_tick-grown net now t after range (rw routed.station is_station) in
-      grown-more net now 2 MOST_SENDS a (next_tick now t after)
+      grown-more net now 2 MAX_SENDS a (next_tick now t after)
       (grown-trans net now 1 1 a after (next_tick now t after) routed ticked) (omega arith)
 
   -- ---- source_on
 
-  -- after any message a source fits one message more, and sends at most `MOST_SENDS` messages
+  -- after any message a source fits one message more, and sends at most `MAX_SENDS` messages
   pub source_on-good : (lo hi jobs class handled : ℕ) (p : Payload) (s : SourceState)
       → site.kind ≡ kind.Source lo hi jobs class → FitsSource handled s
       → FitsSource (handled + 1) (source_on site now p s a).state
-      × Grown net now MOST_SENDS a (source_on site now p s a).out
+      × Grown net now MAX_SENDS a (source_on site now p s a).out
   source_on-good lo hi jobs class handled Tick s is f =
       (record { range = f.range; jobs = f.jobs; sent = omega (arith, f.sent) }, source_ticks-grown s f.range)
   source_on-good lo hi jobs class handled (Set c) s is f =
-      (source_set-fits lo hi jobs class handled c s is f, grown-same net now MOST_SENDS a)
+      (source_set-fits lo hi jobs class handled c s is f, grown-same net now MAX_SENDS a)
   source_on-good lo hi jobs class handled (Job j) s is f =
-      (record { range = f.range; jobs = f.jobs; sent = omega (arith, f.sent) }, grown-same net now MOST_SENDS a)
+      (record { range = f.range; jobs = f.jobs; sent = omega (arith, f.sent) }, grown-same net now MAX_SENDS a)
   source_on-good lo hi jobs class handled (Done j) s is f =
-      (record { range = f.range; jobs = f.jobs; sent = omega (arith, f.sent) }, grown-same net now MOST_SENDS a)
+      (record { range = f.range; jobs = f.jobs; sent = omega (arith, f.sent) }, grown-same net now MAX_SENDS a)

@@ -5,7 +5,7 @@ use Rattle.sim_base.specs.declared.message.Param.{Param}
 use Rattle.sim_base.specs.declared.message.Param.TheVariants.{Every, Service, Hold, Servers, Room, Weight}
 use Rattle.net_model.specs.declared.station.Kind.{Kind}
 use Rattle.net_model.specs.declared.station.Kind.TheVariants.{Source, Server, Delay, Router}
-use Rattle.net_model.specs.declared.limits.TheConstants.{MOST_ROOM, MOST_SERVERS, MOST_WEIGHT}
+use Rattle.net_model.specs.declared.limits.TheConstants.{MAX_ROOM, MAX_SERVERS, MAX_WEIGHT}
 use Rattle.net_model.specs.Net.{Site}
 use Rattle.net_model.specs.Rules.{is_range, is_within}
 use Rattle.stations.specs.declared.change.ChangeFault.{ChangeFault}
@@ -26,9 +26,9 @@ abbrev pub is_in_range : ℕ → Param → ℕ → ℕ → Bool
 is_in_range links Every a b = is_range 1 a b
 is_in_range links Service a b = is_range 1 a b
 is_in_range links Hold a b = is_range 0 a b
-is_in_range links Servers a b = is_within 1 MOST_SERVERS a
-is_in_range links Room a b = nat_le a MOST_ROOM
-is_in_range links Weight a b = is_within 1 links a && is_within 1 MOST_WEIGHT b
+is_in_range links Servers a b = is_within 1 MAX_SERVERS a
+is_in_range links Room a b = nat_le a MAX_ROOM
+is_in_range links Weight a b = is_within 1 links a && is_within 1 MAX_WEIGHT b
 
 -- whether a station accepts a change, or the reason for refusing it
 abbrev pub accepts : Site → Change → Result (Unit {0}) ChangeFault

@@ -6,8 +6,8 @@ use Rattle.sim_draw.specs.Drawing.{AreWeights}
 use Rattle.net_model.specs.declared.station.Kind.{Kind}
 use Rattle.net_model.specs.declared.station.Kind.TheVariants as kind
 use Rattle.net_model.specs.declared.station.Link.{Link}
-use Rattle.net_model.specs.declared.limits.TheConstants.{MOST_JOBS, MOST_LINKS, MOST_ROOM}
-use Rattle.net_model.specs.declared.limits.TheConstants.{MOST_SERVERS, MOST_TIME}
+use Rattle.net_model.specs.declared.limits.TheConstants.{MAX_JOBS, MAX_LINKS, MAX_ROOM}
+use Rattle.net_model.specs.declared.limits.TheConstants.{MAX_SERVERS, MAX_TIME}
 use Rattle.net_model.specs.Net.{Net, Site, site_at}
 use Rattle.net_model.specs.Rules.{IsRange, IsServer}
 use Rattle.stations.specs.declared.sender.Sender.{Sender}
@@ -19,33 +19,33 @@ use Rattle.stations.specs.declared.kind_state.DelayState.{DelayState}
 use Rattle.stations.specs.declared.kind_state.RouterState.{RouterState}
 use Rattle.stations.specs.declared.kind_state.SinkState.{SinkState}
 use Rattle.stations.specs.Handling.{StateView}
-use Rattle.stations.specs.declared.sender.TheConstants.{ALL_STAYS, ALL_TIMES, MOST_SENDS}
+use Rattle.stations.specs.declared.sender.TheConstants.{MAX_STAY_SUM, MAX_EVENT_TIMES, MAX_SENDS}
 
 -- links over which jobs may travel
 pub record AreLinks (links : List Link) : Type 0 where
   pub some : 1 ≤ length links
-  pub few : length links ≤ MOST_LINKS
+  pub few : length links ≤ MAX_LINKS
   pub weights : AllByRecursion (λ l. IsWeight l.weight) links
-  pub near : AllByRecursion (λ l. l.delay ≤ MOST_TIME) links
+  pub near : AllByRecursion (λ l. l.delay ≤ MAX_TIME) links
 
 -- a station that sends has links
 abbrev pub HasLinks : KindState → List Link → Type 0
 HasLinks (Sink s) links = Unit {0}
 HasLinks _ links = AreLinks links
 
--- a source has a range of times from 1 on and at most `MOST_JOBS` jobs. It may be restored with up to `MOST_JOBS` jobs
+-- a source has a range of times from 1 on and at most `MAX_JOBS` jobs. It may be restored with up to `MAX_JOBS` jobs
 -- sent, and sends at most one job for each message that it handles
 pub record FitsSource (handled : ℕ) (s : SourceState) : Type 0 where
   pub range : IsRange 1 s.lo s.hi
-  pub jobs : s.jobs ≤ MOST_JOBS
-  pub sent : s.sent ≤ MOST_JOBS + handled
+  pub jobs : s.jobs ≤ MAX_JOBS
+  pub sent : s.sent ≤ MAX_JOBS + handled
 
 -- a server's parameters keep the rules, and no job waits while a server is free
 pub record FitsServer (handled : ℕ) (s : ServerState) : Type 0 where
   pub rules : IsServer s.servers s.room s.lo s.hi
-  pub busy : s.busy ≤ MOST_SERVERS
+  pub busy : s.busy ≤ MAX_SERVERS
   pub line : (length s.waiting ≡ 0) ⊎ (s.servers ≤ s.busy)
-  pub short : length s.waiting ≤ MOST_ROOM
+  pub short : length s.waiting ≤ MAX_ROOM
   pub done : s.done ≤ handled
   pub lost : s.lost ≤ handled
 
@@ -59,11 +59,11 @@ pub record FitsRouter (handled : ℕ) (s : RouterState) : Type 0 where
   pub weights : AreWeights s.weights.items
   pub passed : s.passed ≤ handled
 
--- a sink got no more jobs than it handled messages. It may be restored with any sum of stays below `ALL_STAYS`, and
--- each message adds at most `ALL_TIMES`
+-- a sink got no more jobs than it handled messages. It may be restored with any sum of stays below `MAX_STAY_SUM`, and
+-- each message adds at most `MAX_EVENT_TIMES`
 pub record FitsSink (handled : ℕ) (s : SinkState) : Type 0 where
   pub got : s.got ≤ handled
-  pub stay : s.stay ≤ ALL_STAYS + ALL_TIMES * handled
+  pub stay : s.stay ≤ MAX_STAY_SUM + MAX_EVENT_TIMES * handled
 
 -- the invariant of each kind's state, after `handled` messages
 abbrev pub FitsKind : ℕ → KindState → Type 0
@@ -78,12 +78,12 @@ abbrev pub GoodKind : ℕ → KindState → Type 0
 GoodKind handled (Sink s) = Unit {0}
 GoodKind handled s = FitsKind handled s
 
--- the sender is a station, and has used at most `MOST_SENDS` numbers and draws for each message
+-- the sender is a station, and has used at most `MAX_SENDS` numbers and draws for each message
 -- and for the opening
 pub record FitsSender (handled : ℕ) (s : Sender) : Type 0 where
   pub station : 1 ≤ s.station
-  pub next : s.next ≤ MOST_SENDS * (handled + 1)
-  pub draws : s.draws.count ≤ MOST_SENDS * (handled + 1)
+  pub next : s.next ≤ MAX_SENDS * (handled + 1)
+  pub draws : s.draws.count ≤ MAX_SENDS * (handled + 1)
 
 -- the invariants of the sender and of the kind, after the handled messages
 pub record FitsState (st : StateView) : Type 0 where

@@ -19,7 +19,7 @@ use Rattle.stations.specs.Handling.{StateView, handle}
 use Rattle.stations.specs.Opening.{setup}
 use Rattle.stations.specs.Runs.{simulation, replay, log_at}
 use Rattle.stations.specs.Sends.{AreSends, IsJob}
-use Rattle.stations.specs.declared.sender.TheConstants.{ALL_TIMES, MOST_SENDS}
+use Rattle.stations.specs.declared.sender.TheConstants.{MAX_EVENT_TIMES, MAX_SENDS}
 
 module _ (net : Net) where
   -- the state that a log leads to has handled as many messages as the log has entries
@@ -30,21 +30,21 @@ module _ (net : Net) where
   abbrev pub ReplaySuits : Type 0
   ReplaySuits = (s : ℕ) (log : List (Entry Msg Line)) → HasStation net s → SuitsNet net (replay net s log)
 
-  -- and it meets the invariant of every state, if the times are below `ALL_TIMES`
+  -- and it meets the invariant of every state, if the times are below `MAX_EVENT_TIMES`
   abbrev pub ReplayFits : Type 0
   ReplayFits = (s : ℕ) (log : List (Entry Msg Line)) → HasStation net s →
-      AllByRecursion (λ e. e.msg.key.time < ALL_TIMES) log → FitsState (replay net s log)
+      AllByRecursion (λ e. e.msg.key.time < MAX_EVENT_TIMES) log → FitsState (replay net s log)
 
   -- the replay of one more entry is the replay followed by its message
   abbrev pub ReplayGoesOn : Type 0
   ReplayGoesOn = (s : ℕ) (log : List (Entry Msg Line)) (e : Entry Msg Line) →
       replay net s (log ++ e ∷ []) ≡ (handle net (replay net s log) e.msg).state
 
-  -- a station opens with at most one message, and sends at most `MOST_SENDS` for each that it handles; each of them
+  -- a station opens with at most one message, and sends at most `MAX_SENDS` for each that it handles; each of them
   -- gets the next number
   pub record SendsNextNumbers : Type 0 where
     pub opens : (s : ℕ) → (setup net s).state.sender.next ≤ 1
-    pub few : (s : ℕ) (st : StateView) (m : Msg) → IsGood net s st → length (handle net st m).sends ≤ MOST_SENDS
+    pub few : (s : ℕ) (st : StateView) (m : Msg) → IsGood net s st → length (handle net st m).sends ≤ MAX_SENDS
     pub next : (s : ℕ) (st : StateView) (m : Msg) → IsGood net s st →
         (handle net st m).state.sender.next ≡ st.sender.next + length (handle net st m).sends
     pub sends : (s : ℕ) (st : StateView) (m : Msg) → IsGood net s st →
@@ -53,7 +53,7 @@ module _ (net : Net) where
   -- so the next number of a station is bounded by its log
   abbrev pub NumbersAreSmall : Type 0
   NumbersAreSmall = (s : ℕ) (log : List (Entry Msg Line)) →
-      (replay net s log).sender.next ≤ MOST_SENDS * (length log + 1)
+      (replay net s log).sender.next ≤ MAX_SENDS * (length log + 1)
 
   -- a sent job comes later by the lookahead or more, even over a link back to its own station
   abbrev pub JobsTakeTheLookahead : Type 0

@@ -7,7 +7,7 @@ use Rattle.sim_base.specs.declared.message.Payload.TheVariants.{Job}
 use Rattle.sim_draw.specs.Drawing.{after_draw, range_of, pick_of, after_pick_by}
 use Rattle.net_model.specs.declared.station.Link.{Link}
 use Rattle.stations.specs.declared.sender.Sender.{Sender}
-use Rattle.stations.specs.declared.sender.TheConstants.{ALL_COUNTS, ALL_TIMES, MOST_SENDS}
+use Rattle.stations.specs.declared.sender.TheConstants.{MAX_COUNTS, MAX_EVENT_TIMES, MAX_SENDS}
 
 -- a sender, and the messages that it has sent since a message arrived, in order
 pub record Outgoing : Type 0 where
@@ -21,10 +21,10 @@ outgoing sender sends = record { sender = sender; sends = sends }
 -- a station that has sent `sent` messages for the one that arrived at `now` may send `more`. Its list has places, its
 -- numbers, draws and time are far from their ends. A message takes at most two drawn words
 pub record MaySend (more now : ℕ) (sender : Sender) (sent : ℕ) : Type 0 where
-  pub free : sent + more ≤ MOST_SENDS
-  pub next : sender.next + more ≤ ALL_COUNTS
-  pub draws : sender.draws.count + 2 * more ≤ ALL_COUNTS
-  pub early : now < ALL_TIMES
+  pub free : sent + more ≤ MAX_SENDS
+  pub next : sender.next + more ≤ MAX_COUNTS
+  pub draws : sender.draws.count + 2 * more ≤ MAX_COUNTS
+  pub early : now < MAX_EVENT_TIMES
 
 -- one more message is sent, with the sender's next number
 abbrev pub send : ℕ → ℕ → Payload → Outgoing → Outgoing

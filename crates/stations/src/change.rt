@@ -4,7 +4,7 @@ ghost use Rattle.net_model.specs.Net.{HasStation, site_of};
 ghost use Rattle.net_model.specs.Sites.{as_site};
 ghost use Rattle.stations.specs.Changes.{accepts as accepts', is_accepted, has_parameter, is_in_range};
 
-use net_model::limits::{MOST_ROOM, MOST_SERVERS, MOST_WEIGHT, is_range};
+use net_model::limits::{MAX_ROOM, MAX_SERVERS, MAX_WEIGHT, is_range};
 use net_model::{Kind, Model, Station};
 use sim_base::{Change, Param};
 
@@ -66,10 +66,10 @@ fn in_range(links: usize, change: &Change) -> bool
     match change.param {
         Param::Every | Param::Service => is_range(1, change.a, change.b),
         Param::Hold => is_range(0, change.a, change.b),
-        Param::Servers => 1 <= change.a && change.a <= MOST_SERVERS,
-        Param::Room => change.a <= MOST_ROOM,
+        Param::Servers => 1 <= change.a && change.a <= MAX_SERVERS,
+        Param::Room => change.a <= MAX_ROOM,
         Param::Weight => {
-            1 <= change.a && change.a <= links as u64 && 1 <= change.b && change.b <= MOST_WEIGHT
+            1 <= change.a && change.a <= links as u64 && 1 <= change.b && change.b <= MAX_WEIGHT
         }
     }
 }

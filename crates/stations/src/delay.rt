@@ -2,16 +2,16 @@
 ghost use Rattle.std.specs.Prelude.{◌≡◌};
 ghost use Rattle.arrayvec.specs.ArrayVec.{array_vec_len};
 ghost use Rattle.net_model.specs.Rules.{IsRange};
-ghost use Rattle.net_model.specs.declared.limits.TheConstants.{MOST_LIMIT};
+ghost use Rattle.net_model.specs.declared.limits.TheConstants.{MAX_LIMIT};
 ghost use Rattle.net_model.specs.Sites.{as_site};
 ghost use Rattle.stations.specs.Delays.{delay_job, delay_set, delay_on};
 ghost use Rattle.stations.specs.Fits.{AreLinks, FitsDelay};
 ghost use Rattle.stations.specs.Sending.{MaySend, outgoing, reaction};
-ghost use Rattle.stations.specs.declared.sender.TheConstants.{MOST_SENDS};
+ghost use Rattle.stations.specs.declared.sender.TheConstants.{MAX_SENDS};
 
 use crate::change::takes_change;
 use crate::kind_state::DelayState;
-use crate::sender::{MOST_SENDS, Sender, pick_by_model, send_over_link};
+use crate::sender::{MAX_SENDS, Sender, pick_by_model, send_over_link};
 use arrayvec::ArrayVec;
 use net_model::Station;
 use sim_base::{Change, Job, Msg, Payload};
@@ -20,7 +20,7 @@ use sim_base::{Change, Job, Msg, Payload};
 fn hold_job(
     delay: &DelayState,
     sender: &mut Sender,
-    out: &mut ArrayVec<Msg, MOST_SENDS>,
+    out: &mut ArrayVec<Msg, MAX_SENDS>,
     station: &Station,
     now: u64,
     job: Job,
@@ -49,14 +49,14 @@ fn set_delay(delay: &mut DelayState, station: &Station, change: &Change)
 pub(crate) fn delay_handles(
     delay: &mut DelayState,
     sender: &mut Sender,
-    out: &mut ArrayVec<Msg, MOST_SENDS>,
+    out: &mut ArrayVec<Msg, MAX_SENDS>,
     station: &Station,
     now: u64,
     payload: &Payload,
 )
-    requires may_send { MaySend MOST_SENDS now sender.old (array_vec_len out.old) }
+    requires may_send { MaySend MAX_SENDS now sender.old (array_vec_len out.old) }
     requires links { AreLinks station.now.links.items }
-    requires fits { FitsDelay MOST_LIMIT delay.old }
+    requires fits { FitsDelay MAX_LIMIT delay.old }
     ensures { delay_on (as_site station.now) now payload.now delay.old (outgoing sender.old out.old.items)
         ≡ reaction delay.new (outgoing sender.new out.new.items) }
 {

@@ -2,7 +2,7 @@
 //! jobs, and counts, such as the jobs blocked at a full queue. A sink also sums up times in system.
 use crate::job_queue::JobQueue;
 use arrayvec::ArrayVec;
-use net_model::limits::MOST_LINKS;
+use net_model::limits::MAX_LINKS;
 
 /// A source: the range of its times between jobs, the number of jobs that it makes, and of those that it has sent.
 #[derive(Clone, Copy, Debug, PartialEq, Eq)]
@@ -37,7 +37,7 @@ pub struct DelayState {
 /// A router: the weights of its links, and the number of jobs that it has passed on.
 #[derive(Drop)]
 pub struct RouterState {
-    pub weights: ArrayVec<u32, MOST_LINKS>,
+    pub weights: ArrayVec<u32, MAX_LINKS>,
     pub passed: u64,
 }
 

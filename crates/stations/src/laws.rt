@@ -40,8 +40,8 @@ pub fn logs_are_replayed()
     ensures goes_on { (net : Net) → ReplayGoesOn net }
 {}
 
-/// A station numbers its messages consecutively, at most `MOST_SENDS` for each message that it handles. So its numbers
-/// stay below `MOST_SENDS` times (1 + the length of its log).
+/// A station numbers its messages consecutively, at most `MAX_SENDS` for each message that it handles. So its numbers
+/// stay below `MAX_SENDS` times (1 + the length of its log).
 pub fn sends_are_numbered()
     ensures next { (net : Net) → IsNet net → SendsNextNumbers net }
     ensures small { (net : Net) → IsNet net → NumbersAreSmall net }

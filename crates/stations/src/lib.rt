@@ -26,7 +26,7 @@
 //!     let again = State::restore(alloc, &model, 1, &saved)?;
 //!
 //! A message costs constant time; a queue that is served by class is searched twice. A handling sends at most
-//! `MOST_SENDS` messages, and none is allocated.
+//! `MAX_SENDS` messages, and none is allocated.
 //!
 //! Every simulator of this project computes with `handle`, whose contract is the definition in `specs/Handling.antt`.
 //! `laws` has the laws that sharing copies rests on, for every valid network. The state of a station is the replay of
@@ -57,5 +57,5 @@ pub use job_line::JobLine;
 pub use job_queue::JobQueue;
 pub use kind_state::{DelayState, KindState, RouterState, ServerState, SinkState, SourceState};
 pub use saved::{RestoreFault, Saved, Shape};
-pub use sender::{MOST_SENDS, Sender};
+pub use sender::{MAX_SENDS, Sender};
 pub use state::State;

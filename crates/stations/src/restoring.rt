@@ -4,7 +4,7 @@ ghost use Rattle.std.specs.List.{list_all};
 ghost use Rattle.net_model.specs.Net.{HasStation, is_source, site_of};
 ghost use Rattle.net_model.specs.Rules.{is_within};
 ghost use Rattle.net_model.specs.Sites.{as_site};
-ghost use Rattle.net_model.specs.declared.limits.TheConstants.{MOST_WEIGHT};
+ghost use Rattle.net_model.specs.declared.limits.TheConstants.{MAX_WEIGHT};
 ghost use Rattle.stations.specs.Fits.{FitsState, SuitsNet};
 ghost use Rattle.stations.specs.Fitting.{is_job_of, fits_shape, fits_saved};
 ghost use Rattle.stations.specs.Saving.{restored_server, restored_kind, restored};
@@ -13,9 +13,9 @@ use crate::job_line::JobLine;
 use crate::job_queue::JobQueue;
 use crate::kind_state::{DelayState, KindState, RouterState, ServerState, SinkState, SourceState};
 use crate::saved::{RestoreFault, Saved, Shape};
-use crate::sender::{ALL_STAYS, MOST_SENDS, Sender};
+use crate::sender::{MAX_SENDS, MAX_STAY_SUM, Sender};
 use crate::state::{State, copy_weights};
-use net_model::limits::{MOST_JOBS, MOST_ROOM, MOST_SERVERS, MOST_WEIGHT, is_range};
+use net_model::limits::{MAX_JOBS, MAX_ROOM, MAX_SERVERS, MAX_WEIGHT, is_range};
 use net_model::{Kind, Model, Station};
 use sim_base::{Job, NoMemory};
 use sim_draw::Draws;
@@ -37,15 +37,15 @@ fn is_source_at(model: &Model, station: u32) -> bool
 pub fn is_job(model: &Model, job: &Job) -> bool
     ensures { result ≡ is_job_of model.now job.now }
 {
-    is_source_at(model, job.source) && job.count < MOST_JOBS && job.born < model.horizon()
+    is_source_at(model, job.source) && job.count < MAX_JOBS && job.born < model.horizon()
 }
 
 fn are_weights(weights: &[u32]) -> bool
-    ensures { result ≡ list_all (is_within 1 MOST_WEIGHT) weights.now }
+    ensures { result ≡ list_all (is_within 1 MAX_WEIGHT) weights.now }
 {
     weights
         .iter()
-        .all(|weight| 1 <= *weight && u64::from(*weight) <= MOST_WEIGHT)
+        .all(|weight| 1 <= *weight && u64::from(*weight) <= MAX_WEIGHT)
 }
 
 fn is_shape_fit(model: &Model, station: &Station, handled: u64, shape: &Shape) -> bool
@@ -68,10 +68,10 @@ fn is_shape_fit(model: &Model, station: &Station, handled: u64, shape: &Shape) -
             },
         ) => {
             (1 <= *servers
-                && u64::from(*servers) <= MOST_SERVERS
-                && (u64::from(*room) <= MOST_ROOM && is_range(1, *lo, *hi)))
-                && (*busy <= MOST_SERVERS
-                    && line.len() as u64 <= MOST_ROOM
+                && u64::from(*servers) <= MAX_SERVERS
+                && (u64::from(*room) <= MAX_ROOM && is_range(1, *lo, *hi)))
+                && (*busy <= MAX_SERVERS
+                    && line.len() as u64 <= MAX_ROOM
                     && (line.len() == 0 || u64::from(*servers) <= *busy)
                     && (*done <= handled && *lost <= handled && line.are_jobs(model)))
         }
@@ -81,7 +81,7 @@ fn is_shape_fit(model: &Model, station: &Station, handled: u64, shape: &Shape) -
             (weights.len() == station.links.len() && are_weights(weights.as_slice()))
                 && *passed <= handled
         }
-        (Kind::Sink, Shape::Sink { got, stay }) => *got <= handled && *stay < ALL_STAYS,
+        (Kind::Sink, Shape::Sink { got, stay }) => *got <= handled && *stay < MAX_STAY_SUM,
         _ => false,
     }
 }
@@ -92,7 +92,7 @@ impl Saved {
         requires is_station { HasStation model.now station }
         ensures value { result ≡ fits_saved model.now station self.now }
     {
-        let most = MOST_SENDS as u64;
+        let most = MAX_SENDS as u64;
         (self.handled <= model.limit()
             && (self.next <= most * (self.handled + 1) && self.drawn <= most * (self.handled + 1)))
             && is_shape_fit(model, model.station(station), self.handled, &self.shape)

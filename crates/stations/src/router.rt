@@ -4,15 +4,15 @@ ghost use Rattle.arrayvec.specs.ArrayVec.{array_vec_len};
 ghost use Rattle.sim_draw.specs.Drawing.{AreWeights};
 ghost use Rattle.net_model.specs.Net.{is_router};
 ghost use Rattle.net_model.specs.Sites.{as_site};
-ghost use Rattle.net_model.specs.declared.limits.TheConstants.{MOST_LIMIT};
+ghost use Rattle.net_model.specs.declared.limits.TheConstants.{MAX_LIMIT};
 ghost use Rattle.stations.specs.Fits.{AreLinks, FitsRouter};
 ghost use Rattle.stations.specs.Routers.{router_job, router_set, router_on};
 ghost use Rattle.stations.specs.Sending.{MaySend, outgoing, reaction};
-ghost use Rattle.stations.specs.declared.sender.TheConstants.{MOST_SENDS};
+ghost use Rattle.stations.specs.declared.sender.TheConstants.{MAX_SENDS};
 
 use crate::change::takes_change;
 use crate::kind_state::RouterState;
-use crate::sender::{MOST_SENDS, Sender, link_at, pick_link, send_over_link};
+use crate::sender::{MAX_SENDS, Sender, link_at, pick_link, send_over_link};
 use arrayvec::ArrayVec;
 use net_model::Station;
 use sim_base::{Change, Job, Msg, Payload};
@@ -21,7 +21,7 @@ use sim_base::{Change, Job, Msg, Payload};
 fn pass_job(
     router: &RouterState,
     sender: &mut Sender,
-    out: &mut ArrayVec<Msg, MOST_SENDS>,
+    out: &mut ArrayVec<Msg, MAX_SENDS>,
     station: &Station,
     now: u64,
     job: Job,
@@ -56,14 +56,14 @@ fn set_router(router: &mut RouterState, station: &Station, change: &Change)
 pub(crate) fn router_handles(
     router: &mut RouterState,
     sender: &mut Sender,
-    out: &mut ArrayVec<Msg, MOST_SENDS>,
+    out: &mut ArrayVec<Msg, MAX_SENDS>,
     station: &Station,
     now: u64,
     payload: &Payload,
 )
-    requires may_send { MaySend MOST_SENDS now sender.old (array_vec_len out.old) }
+    requires may_send { MaySend MAX_SENDS now sender.old (array_vec_len out.old) }
     requires links { AreLinks station.now.links.items }
-    requires fits { FitsRouter MOST_LIMIT router.old }
+    requires fits { FitsRouter MAX_LIMIT router.old }
     requires same { length router.old.weights.items ≡ length station.now.links.items }
     requires kind { is_router station.now.kind ≡ true }
     ensures { router_on (as_site station.now) now payload.now router.old (outgoing sender.old out.old.items)

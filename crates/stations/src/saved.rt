@@ -1,7 +1,7 @@
 //! The state of a station as plain data.
 use crate::job_line::JobLine;
 use arrayvec::ArrayVec;
-use net_model::limits::MOST_LINKS;
+use net_model::limits::MAX_LINKS;
 
 /// The state of a station of each kind: its present parameters, its counts, and the waiting jobs. The number of jobs
 /// that a source makes is the model's, which no decision changes.
@@ -29,7 +29,7 @@ pub enum Shape {
     },
     Router {
         passed: u64,
-        weights: ArrayVec<u32, MOST_LINKS>,
+        weights: ArrayVec<u32, MAX_LINKS>,
     },
     Sink {
         got: u64,

@@ -3,29 +3,29 @@ ghost use Rattle.std.specs.Prelude.{◌≡◌, ◌<◌, ◌≤◌, ◌*◌, leng
 ghost use Rattle.arrayvec.specs.ArrayVec.{array_vec_len};
 ghost use Rattle.sim_draw.specs.Drawing.{AreWeights, pick_of, after_pick_by};
 ghost use Rattle.net_model.specs.Rules.{IsRange};
-ghost use Rattle.net_model.specs.declared.limits.TheConstants.{MOST_LINKS, MOST_TIME};
+ghost use Rattle.net_model.specs.declared.limits.TheConstants.{MAX_LINKS, MAX_TIME};
 ghost use Rattle.stations.specs.Fits.{AreLinks};
 ghost use Rattle.stations.specs.Sending.{MaySend, outgoing, send, send_later, send_over, route, weights_of};
-ghost use Rattle.stations.specs.declared.sender.TheConstants.{ALL_COUNTS, ALL_TIMES, MOST_SENDS};
+ghost use Rattle.stations.specs.declared.sender.TheConstants.{MAX_COUNTS, MAX_EVENT_TIMES, MAX_SENDS};
 
 use arrayvec::ArrayVec;
 use net_model::Link;
-use net_model::limits::{MOST_LINKS, MOST_SERVERS};
+use net_model::limits::{MAX_LINKS, MAX_SERVERS};
 use sim_base::{Job, Key, Msg, Payload};
-use sim_draw::{Draws, MOST_DRAWS};
+use sim_draw::{Draws, MAX_DRAWS};
 
 /// The most messages that a station sends for one that it handles. It is the most servers: one change may add them all,
 /// and each takes a waiting job.
-pub const MOST_SENDS: usize = MOST_SERVERS as usize;
+pub const MAX_SENDS: usize = MAX_SERVERS as usize;
 
 /// The number of times at which a station may handle a message: 31 bits, more than the greatest horizon.
-pub const ALL_TIMES: u64 = 2_147_483_648;
+pub const MAX_EVENT_TIMES: u64 = 2_147_483_648;
 
 /// A sink may be restored with a sum of stays below this number: 48 bits, more than the sum of any run.
-pub const ALL_STAYS: u64 = 281_474_976_710_656;
+pub const MAX_STAY_SUM: u64 = 281_474_976_710_656;
 
 /// The number of sequence numbers of a station, of its draws, and of values of each count: 32 bits.
-pub const ALL_COUNTS: u64 = MOST_DRAWS;
+pub const MAX_COUNTS: u64 = MAX_DRAWS;
 
 /// A station's number, its count of sent messages, and its draws.
 #[derive(Drop)]
@@ -38,13 +38,13 @@ pub struct Sender {
 /// Sends a message, with the sender's next number.
 pub(crate) fn send_message(
     sender: &mut Sender,
-    out: &mut ArrayVec<Msg, MOST_SENDS>,
+    out: &mut ArrayVec<Msg, MAX_SENDS>,
     time: u64,
     to: u32,
     payload: Payload,
 )
-    requires free { array_vec_len out.old < MOST_SENDS }
-    requires next { sender.old.next < ALL_COUNTS }
+    requires free { array_vec_len out.old < MAX_SENDS }
+    requires next { sender.old.next < MAX_COUNTS }
     ensures { send time to payload (outgoing sender.old out.old.items) ≡ outgoing sender.new out.new.items }
 {
     out.push(Msg {
@@ -62,7 +62,7 @@ pub(crate) fn send_message(
 /// Sends a message to the station itself, after a time drawn from `lo` to `hi`.
 pub(crate) fn send_to_itself(
     sender: &mut Sender,
-    out: &mut ArrayVec<Msg, MOST_SENDS>,
+    out: &mut ArrayVec<Msg, MAX_SENDS>,
     now: u64,
     lo: u64,
     hi: u64,
@@ -80,15 +80,15 @@ pub(crate) fn send_to_itself(
 /// Sends a job over a link, from `time` on; it takes the link's delay.
 pub(crate) fn send_over_link(
     sender: &mut Sender,
-    out: &mut ArrayVec<Msg, MOST_SENDS>,
+    out: &mut ArrayVec<Msg, MAX_SENDS>,
     link: &Link,
     time: u64,
     job: Job,
 )
-    requires free { array_vec_len out.old < MOST_SENDS }
-    requires next { sender.old.next < ALL_COUNTS }
-    requires near { link.now.delay ≤ MOST_TIME }
-    requires early { time < 2 * ALL_TIMES }
+    requires free { array_vec_len out.old < MAX_SENDS }
+    requires next { sender.old.next < MAX_COUNTS }
+    requires near { link.now.delay ≤ MAX_TIME }
+    requires early { time < 2 * MAX_EVENT_TIMES }
     ensures { send_over (Some link.now) time job (outgoing sender.old out.old.items)
         ≡ outgoing sender.new out.new.items }
 {
@@ -99,7 +99,7 @@ pub(crate) fn send_over_link(
 pub(crate) fn pick_link(sender: &mut Sender, links: &[Link], weights: &[u32]) -> Link
     requires valid { AreWeights weights.now }
     requires same { length weights.now ≡ length links.now }
-    requires draws { sender.old.draws.count < ALL_COUNTS }
+    requires draws { sender.old.draws.count < MAX_COUNTS }
     ensures link { slice_get links.now (pick_of weights.now sender.old.draws) ≡ Some result }
     ensures drawn { sender.new ≡ record sender.old { draws = after_pick_by weights.now sender.old.draws } }
 {
@@ -115,8 +115,8 @@ pub(crate) fn link_at(links: &[Link], place: usize) -> Link
 }
 
 /// The weights of links, as in the model.
-pub(crate) fn link_weights(links: &[Link]) -> ArrayVec<u32, MOST_LINKS>
-    requires { length links.now ≤ MOST_LINKS }
+pub(crate) fn link_weights(links: &[Link]) -> ArrayVec<u32, MAX_LINKS>
+    requires { length links.now ≤ MAX_LINKS }
     ensures { result.items ≡ weights_of links.now }
 {
     let mut weights = ArrayVec::new();
@@ -129,10 +129,10 @@ pub(crate) fn link_weights(links: &[Link]) -> ArrayVec<u32, MOST_LINKS>
 /// Picks a link by the weights of the model; with one link it draws nothing.
 pub(crate) fn pick_by_model(sender: &mut Sender, links: &[Link]) -> Link
     requires valid { AreLinks links.now }
-    requires draws { sender.old.draws.count < ALL_COUNTS }
+    requires draws { sender.old.draws.count < MAX_COUNTS }
     ensures link { slice_get links.now (pick_of (weights_of links.now) sender.old.draws) ≡ Some result }
     ensures drawn { sender.new ≡ record sender.old { draws = after_pick_by (weights_of links.now) sender.old.draws } }
-    ensures near { result.delay ≤ MOST_TIME }
+    ensures near { result.delay ≤ MAX_TIME }
 {
     if links.len() == 1 {
         return links[0];
@@ -144,7 +144,7 @@ pub(crate) fn pick_by_model(sender: &mut Sender, links: &[Link]) -> Link
 /// Sends a job over one of the links, by the weights of the model.
 pub(crate) fn route_job(
     sender: &mut Sender,
-    out: &mut ArrayVec<Msg, MOST_SENDS>,
+    out: &mut ArrayVec<Msg, MAX_SENDS>,
     links: &[Link],
     now: u64,
     job: Job,

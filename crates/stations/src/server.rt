@@ -2,19 +2,19 @@
 ghost use Rattle.std.specs.Prelude.{◌≡◌, ◌<◌, ◌≤◌, length, OnOk, OnErr};
 ghost use Rattle.arrayvec.specs.ArrayVec.{array_vec_len};
 ghost use Rattle.net_model.specs.Rules.{IsRange};
-ghost use Rattle.net_model.specs.declared.limits.TheConstants.{MOST_LIMIT, MOST_SERVERS};
+ghost use Rattle.net_model.specs.declared.limits.TheConstants.{MAX_LIMIT, MAX_SERVERS};
 ghost use Rattle.net_model.specs.Sites.{as_site};
 ghost use Rattle.stations.specs.Fits.{AreLinks, FitsServer};
 ghost use Rattle.stations.specs.Sending.{MaySend, outgoing, reaction};
 ghost use Rattle.stations.specs.Servers.{least_in, place_of_class, next_place, start, start_next as start_next'};
 ghost use Rattle.stations.specs.Servers.{start_times, server_job, server_done, server_change, server_set, server_on};
-ghost use Rattle.stations.specs.declared.sender.TheConstants.{ALL_COUNTS, MOST_SENDS};
+ghost use Rattle.stations.specs.declared.sender.TheConstants.{MAX_COUNTS, MAX_SENDS};
 ghost use Rattle.sim_base.specs.declared.message.Param.TheVariants.{Servers};
 
 use crate::change::takes_change;
 use crate::job_queue::JobQueue;
 use crate::kind_state::ServerState;
-use crate::sender::{MOST_SENDS, Sender, route_job, send_to_itself};
+use crate::sender::{MAX_SENDS, Sender, route_job, send_to_itself};
 use arrayvec::ArrayVec;
 use net_model::{Model, Station};
 use sim_base::{Change, Job, Msg, NoMemory, Param, Payload};
@@ -57,13 +57,13 @@ fn place_of_next(model: &Model, station: &Station, jobs: &JobQueue) -> usize
 fn start_job(
     server: &mut ServerState,
     sender: &mut Sender,
-    out: &mut ArrayVec<Msg, MOST_SENDS>,
+    out: &mut ArrayVec<Msg, MAX_SENDS>,
     now: u64,
     job: Job,
 )
     requires may_send { MaySend 1 now sender.old (array_vec_len out.old) }
     requires range { IsRange 1 server.old.lo server.old.hi }
-    requires busy { server.old.busy < ALL_COUNTS }
+    requires busy { server.old.busy < MAX_COUNTS }
     ensures { start now job server.old (outgoing sender.old out.old.items) ≡ reaction server.new
         (outgoing sender.new out.new.items) }
 {
@@ -75,7 +75,7 @@ fn start_job(
 fn start_next(
     server: &mut ServerState,
     sender: &mut Sender,
-    out: &mut ArrayVec<Msg, MOST_SENDS>,
+    out: &mut ArrayVec<Msg, MAX_SENDS>,
     model: &Model,
     station: &Station,
     now: u64,
@@ -97,13 +97,13 @@ fn start_next(
 fn admit_job(
     server: &mut ServerState,
     sender: &mut Sender,
-    out: &mut ArrayVec<Msg, MOST_SENDS>,
+    out: &mut ArrayVec<Msg, MAX_SENDS>,
     now: u64,
     job: Job,
 ) -> Result<(), NoMemory>
     requires may_send { MaySend 1 now sender.old (array_vec_len out.old) }
     requires range { IsRange 1 server.old.lo server.old.hi }
-    requires lost { server.old.lost < ALL_COUNTS }
+    requires lost { server.old.lost < MAX_COUNTS }
     ensures ok { OnOk result (server_job now job server.old (outgoing sender.old out.old.items) ≡ reaction server.new
         (outgoing sender.new out.new.items)) }
     ensures err { OnErr result (reaction server.new (outgoing sender.new out.new.items) ≡ reaction server.old
@@ -123,7 +123,7 @@ fn admit_job(
 fn end_service(
     server: &mut ServerState,
     sender: &mut Sender,
-    out: &mut ArrayVec<Msg, MOST_SENDS>,
+    out: &mut ArrayVec<Msg, MAX_SENDS>,
     model: &Model,
     station: &Station,
     now: u64,
@@ -132,7 +132,7 @@ fn end_service(
     requires may_send { MaySend 2 now sender.old (array_vec_len out.old) }
     requires links { AreLinks station.now.links.items }
     requires range { IsRange 1 server.old.lo server.old.hi }
-    requires done { server.old.done < ALL_COUNTS }
+    requires done { server.old.done < MAX_COUNTS }
     ensures { server_done model.now (as_site station.now) now job server.old (outgoing sender.old out.old.items)
         ≡ reaction server.new (outgoing sender.new out.new.items) }
 {
@@ -149,14 +149,14 @@ fn end_service(
 fn start_many(
     server: &mut ServerState,
     sender: &mut Sender,
-    out: &mut ArrayVec<Msg, MOST_SENDS>,
+    out: &mut ArrayVec<Msg, MAX_SENDS>,
     model: &Model,
     station: &Station,
     now: u64,
     times: u64,
 )
-    requires may_send { MaySend MOST_SENDS now sender.old (array_vec_len out.old) }
-    requires few_times { times ≤ MOST_SERVERS }
+    requires may_send { MaySend MAX_SENDS now sender.old (array_vec_len out.old) }
+    requires few_times { times ≤ MAX_SERVERS }
     requires range { IsRange 1 server.old.lo server.old.hi }
     ensures { start_times times model.now (as_site station.now) now
         (reaction server.old (outgoing sender.old out.old.items)) ≡ reaction server.new
@@ -171,14 +171,14 @@ fn start_many(
 fn set_servers(
     server: &mut ServerState,
     sender: &mut Sender,
-    out: &mut ArrayVec<Msg, MOST_SENDS>,
+    out: &mut ArrayVec<Msg, MAX_SENDS>,
     model: &Model,
     station: &Station,
     now: u64,
     servers: u32,
 )
-    requires may_send { MaySend MOST_SENDS now sender.old (array_vec_len out.old) }
-    requires few_servers { servers ≤ MOST_SERVERS }
+    requires may_send { MaySend MAX_SENDS now sender.old (array_vec_len out.old) }
+    requires few_servers { servers ≤ MAX_SERVERS }
     requires range { IsRange 1 server.old.lo server.old.hi }
     ensures { server_change model.now (as_site station.now) now Servers servers 0 server.old
         (outgoing sender.old out.old.items) ≡ reaction server.new (outgoing sender.new out.new.items) }
@@ -192,13 +192,13 @@ fn set_servers(
 fn set_server(
     server: &mut ServerState,
     sender: &mut Sender,
-    out: &mut ArrayVec<Msg, MOST_SENDS>,
+    out: &mut ArrayVec<Msg, MAX_SENDS>,
     model: &Model,
     station: &Station,
     now: u64,
     change: &Change,
 )
-    requires may_send { MaySend MOST_SENDS now sender.old (array_vec_len out.old) }
+    requires may_send { MaySend MAX_SENDS now sender.old (array_vec_len out.old) }
     requires range { IsRange 1 server.old.lo server.old.hi }
     ensures { server_set model.now (as_site station.now) now change.now server.old (outgoing sender.old out.old.items)
         ≡ reaction server.new (outgoing sender.new out.new.items) }
@@ -223,15 +223,15 @@ fn set_server(
 pub(crate) fn server_handles(
     server: &mut ServerState,
     sender: &mut Sender,
-    out: &mut ArrayVec<Msg, MOST_SENDS>,
+    out: &mut ArrayVec<Msg, MAX_SENDS>,
     model: &Model,
     station: &Station,
     now: u64,
     payload: &Payload,
 ) -> Result<(), NoMemory>
-    requires may_send { MaySend MOST_SENDS now sender.old (array_vec_len out.old) }
+    requires may_send { MaySend MAX_SENDS now sender.old (array_vec_len out.old) }
     requires links { AreLinks station.now.links.items }
-    requires fits { FitsServer MOST_LIMIT server.old }
+    requires fits { FitsServer MAX_LIMIT server.old }
     ensures ok { OnOk result (server_on model.now (as_site station.now) now payload.now server.old
         (outgoing sender.old out.old.items) ≡ reaction server.new (outgoing sender.new out.new.items)) }
     ensures err { OnErr result (reaction server.new (outgoing sender.new out.new.items) ≡ reaction server.old

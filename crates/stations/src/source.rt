@@ -2,16 +2,16 @@
 ghost use Rattle.std.specs.Prelude.{◌≡◌, ◌<◌};
 ghost use Rattle.arrayvec.specs.ArrayVec.{array_vec_len};
 ghost use Rattle.net_model.specs.Rules.{IsRange};
-ghost use Rattle.net_model.specs.declared.limits.TheConstants.{MOST_LIMIT};
+ghost use Rattle.net_model.specs.declared.limits.TheConstants.{MAX_LIMIT};
 ghost use Rattle.net_model.specs.Sites.{as_site};
 ghost use Rattle.stations.specs.Fits.{AreLinks, FitsSource};
 ghost use Rattle.stations.specs.Sending.{MaySend, outgoing, reaction};
 ghost use Rattle.stations.specs.Sources.{next_tick, source_ticks, source_set, source_on};
-ghost use Rattle.stations.specs.declared.sender.TheConstants.{ALL_COUNTS, MOST_SENDS};
+ghost use Rattle.stations.specs.declared.sender.TheConstants.{MAX_COUNTS, MAX_SENDS};
 
 use crate::change::takes_change;
 use crate::kind_state::SourceState;
-use crate::sender::{MOST_SENDS, Sender, route_job, send_to_itself};
+use crate::sender::{MAX_SENDS, Sender, route_job, send_to_itself};
 use arrayvec::ArrayVec;
 use net_model::Station;
 use sim_base::{Change, Job, Msg, Payload};
@@ -20,7 +20,7 @@ use sim_base::{Change, Job, Msg, Payload};
 pub(crate) fn send_tick(
     source: &SourceState,
     sender: &mut Sender,
-    out: &mut ArrayVec<Msg, MOST_SENDS>,
+    out: &mut ArrayVec<Msg, MAX_SENDS>,
     now: u64,
 )
     requires may_send { MaySend 1 now sender.old (array_vec_len out.old) }
@@ -35,14 +35,14 @@ pub(crate) fn send_tick(
 fn make_job(
     source: &mut SourceState,
     sender: &mut Sender,
-    out: &mut ArrayVec<Msg, MOST_SENDS>,
+    out: &mut ArrayVec<Msg, MAX_SENDS>,
     station: &Station,
     now: u64,
 )
     requires may_send { MaySend 2 now sender.old (array_vec_len out.old) }
     requires links { AreLinks station.now.links.items }
     requires range { IsRange 1 source.old.lo source.old.hi }
-    requires sent { source.old.sent < ALL_COUNTS }
+    requires sent { source.old.sent < MAX_COUNTS }
     ensures { source_ticks (as_site station.now) now source.old (outgoing sender.old out.old.items)
         ≡ reaction source.new (outgoing sender.new out.new.items) }
 {
@@ -69,14 +69,14 @@ fn set_source(source: &mut SourceState, station: &Station, change: &Change)
 pub(crate) fn source_handles(
     source: &mut SourceState,
     sender: &mut Sender,
-    out: &mut ArrayVec<Msg, MOST_SENDS>,
+    out: &mut ArrayVec<Msg, MAX_SENDS>,
     station: &Station,
     now: u64,
     payload: &Payload,
 )
-    requires may_send { MaySend MOST_SENDS now sender.old (array_vec_len out.old) }
+    requires may_send { MaySend MAX_SENDS now sender.old (array_vec_len out.old) }
     requires links { AreLinks station.now.links.items }
-    requires fits { FitsSource MOST_LIMIT source.old }
+    requires fits { FitsSource MAX_LIMIT source.old }
     ensures { source_on (as_site station.now) now payload.now source.old (outgoing sender.old out.old.items)
         ≡ reaction source.new (outgoing sender.new out.new.items) }
 {

@@ -3,24 +3,24 @@ ghost use Rattle.std.specs.Prelude.{◌≡◌, ◌+◌, ◌<◌, ◌≤◌, [], 
 ghost use Rattle.arrayvec.specs.ArrayVec.{array_vec_len};
 ghost use Rattle.net_model.specs.Net.{HasStation};
 ghost use Rattle.net_model.specs.Sites.{as_site};
-ghost use Rattle.net_model.specs.declared.limits.TheConstants.{MOST_LIMIT, MOST_LINKS};
+ghost use Rattle.net_model.specs.declared.limits.TheConstants.{MAX_LIMIT, MAX_LINKS};
 ghost use Rattle.stations.specs.Fits.{FitsState, FitsKind, SuitsNet, IsOfKind, HasLinks};
 ghost use Rattle.stations.specs.Handling.{handle as handle', kind_on, line_of};
 ghost use Rattle.stations.specs.Opening.{setup as setup', opening_kind, first_tick};
 ghost use Rattle.stations.specs.Sending.{MaySend, outgoing, reaction};
 ghost use Rattle.stations.specs.Sends.{AreSends};
-ghost use Rattle.stations.specs.declared.sender.TheConstants.{ALL_TIMES, MOST_SENDS};
+ghost use Rattle.stations.specs.declared.sender.TheConstants.{MAX_EVENT_TIMES, MAX_SENDS};
 
 use crate::delay::delay_handles;
 use crate::job_queue::JobQueue;
 use crate::kind_state::{DelayState, KindState, RouterState, ServerState, SinkState, SourceState};
 use crate::router::router_handles;
-use crate::sender::{MOST_SENDS, Sender, link_weights};
+use crate::sender::{MAX_SENDS, Sender, link_weights};
 use crate::server::server_handles;
 use crate::sink::sink_handles;
 use crate::source::{send_tick, source_handles};
 use arrayvec::ArrayVec;
-use net_model::limits::MOST_LINKS;
+use net_model::limits::MAX_LINKS;
 use net_model::{Kind, Model, Station};
 use sim_base::{Line, Msg, NoMemory, Payload, Steps};
 use sim_draw::Draws;
@@ -49,16 +49,16 @@ impl std::marker::Model for State {
 fn kind_handles(
     kind: &mut KindState,
     sender: &mut Sender,
-    out: &mut ArrayVec<Msg, MOST_SENDS>,
+    out: &mut ArrayVec<Msg, MAX_SENDS>,
     model: &Model,
     station: &Station,
     now: u64,
     payload: &Payload,
 ) -> Result<(), NoMemory>
-    requires may_send { MaySend MOST_SENDS now sender.old (array_vec_len out.old) }
+    requires may_send { MaySend MAX_SENDS now sender.old (array_vec_len out.old) }
     requires links { HasLinks kind.old station.now.links.items }
     requires of_kind { IsOfKind (as_site station.now) station.now.kind kind.old }
-    requires fits { FitsKind MOST_LIMIT kind.old }
+    requires fits { FitsKind MAX_LIMIT kind.old }
     ensures ok { OnOk result (kind_on model.now (as_site station.now) now payload.now kind.old
         (outgoing sender.old out.old.items) ≡ reaction kind.new (outgoing sender.new out.new.items)) }
     ensures err { OnErr result (reaction kind.new (outgoing sender.new out.new.items) ≡ reaction kind.old
@@ -118,7 +118,7 @@ pub fn handle<L: Ledger>(
     state: &mut State,
     model: &Model,
     msg: &Msg,
-    out: &mut ArrayVec<Msg, MOST_SENDS>,
+    out: &mut ArrayVec<Msg, MAX_SENDS>,
     steps: &mut Steps<L>,
 ) -> Result<Line, NoMemory>
     // required: a station of the network, an empty `out`, and a message to this station. The station has handled fewer
@@ -126,8 +126,8 @@ pub fn handle<L: Ledger>(
     requires suits { SuitsNet model.now state.old }
     requires empty { array_vec_len out.old ≡ 0 }
     requires own { msg.now.to ≡ state.old.sender.station }
-    requires below { state.old.handled < MOST_LIMIT }
-    requires early { msg.now.key.time < ALL_TIMES }
+    requires below { state.old.handled < MAX_LIMIT }
+    requires early { msg.now.key.time < MAX_EVENT_TIMES }
     // result: the state, the sends and the line of the definition; each send is later than the message, and they have
     // the sender's next numbers
     ensures ok { IfOk result (λ line. handle' model.now state.old msg.now
@@ -163,7 +163,7 @@ pub fn handle<L: Ledger>(
 }
 
 fn opening_state(alloc: Global, station: &Station) -> KindState
-    requires { length station.now.links.items ≤ MOST_LINKS }
+    requires { length station.now.links.items ≤ MAX_LINKS }
     ensures { result ≡ opening_kind (as_site station.now) station.now.kind }
 {
     match station.kind {
@@ -199,7 +199,7 @@ fn opening_state(alloc: Global, station: &Station) -> KindState
 }
 
 // A source sends itself its first tick.
-fn send_first(kind: &KindState, sender: &mut Sender, out: &mut ArrayVec<Msg, MOST_SENDS>)
+fn send_first(kind: &KindState, sender: &mut Sender, out: &mut ArrayVec<Msg, MAX_SENDS>)
     requires may_send { MaySend 1 0 sender.old (array_vec_len out.old) }
     requires fits { FitsKind 0 kind.now }
     ensures { first_tick kind.now (outgoing sender.old out.old.items) ≡ outgoing sender.new out.new.items }
@@ -316,8 +316,8 @@ fn copy_kind(kind: &KindState, alloc: Global) -> Result<KindState, NoMemory>
 }
 
 // A copy of the weights.
-pub(crate) fn copy_weights(weights: &[u32]) -> ArrayVec<u32, MOST_LINKS>
-    requires { length weights.now ≤ MOST_LINKS }
+pub(crate) fn copy_weights(weights: &[u32]) -> ArrayVec<u32, MAX_LINKS>
+    requires { length weights.now ≤ MAX_LINKS }
     ensures { result.items ≡ weights.now }
 {
     let mut copied = ArrayVec::new();

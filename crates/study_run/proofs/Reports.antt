@@ -6,7 +6,7 @@ use Rattle.std.proofs.Math.Nat.{mul-le-mul}
 use Rattle.sim_base.specs.Clones.{Clone}
 use Rattle.sim_base.specs.Same.{same_entry}
 use Rattle.sim_base.specs.declared.figures.Figures.{Figures}
-use Rattle.sim_base.specs.declared.lists.TheConstants.{MOST_CLONES}
+use Rattle.sim_base.specs.declared.lists.TheConstants.{MAX_CLONES}
 use Rattle.net_model.specs.Net.{Net}
 use Rattle.net_model.specs.Rules.{IsNet}
 use Rattle.run_laws.specs.CountLaws.{AreFew}
@@ -20,7 +20,7 @@ use Rattle.study_run.specs.Limits.{AreWithin}
 use Rattle.trace_report.specs.Outputs.{figures_of, figures_to, report}
 
 -- the messages of a clone at a station are within the limit, and those of all clones at all stations fit 64 bits
-small : (net : Net) (cs : List Clone) → IsNet net → length cs ≤ MOST_CLONES
+small : (net : Net) (cs : List Clone) → IsNet net → length cs ≤ MAX_CLONES
     → most_handled net (length cs) < 2 ^ 64
 small net cs valid few =
     let a : length cs * net.limit ≤ 16777216 = mul-le-mul few valid.short in
@@ -65,7 +65,7 @@ module _ (net : Net) (cs : List Clone) where
         (sym (sum_by_push f (figures_to net cs n) (figures_of net cs (n + 1)))) (omega (arith, h, one, m))
 
     -- the sum over all stations fits 64 bits, if the clones are not too many
-    pub figures_small : IsNet net → length cs ≤ MOST_CLONES → sum_by f (figures_to net cs (length net.sites)) < 2 ^ 64
+    pub figures_small : IsNet net → length cs ≤ MAX_CLONES → sum_by f (figures_to net cs (length net.sites)) < 2 ^ 64
     figures_small valid few =
         let a = figures_few (length net.sites) (omega arith) in
         let b = small net cs valid few in

@@ -1,14 +1,14 @@
 //! Tournaments of words.
 ghost use Rattle.std.specs.Prelude.{◌≡◌, ◌+◌, ◌-◌, ◌*◌, ◌<◌, ◌≤◌, length, replicate, slice_set, IfOk};
 ghost use Rattle.trace_cursor.specs.Tournament.{sibling, IsLeastWord};
-ghost use Rattle.trace_cursor.specs.declared.tree.TheConstants.{MOST_WORDS, NO_WORD};
+ghost use Rattle.trace_cursor.specs.declared.tree.TheConstants.{MAX_WORDS, NO_WORD};
 
 use sim_base::NoMemory;
 use std::alloc::Global;
 use std::marker::Model;
 
 /// The most words of a tournament.
-pub const MOST_WORDS: usize = 1_048_576;
+pub const MAX_WORDS: usize = 1_048_576;
 
 /// The greatest word, which represents an exhausted list.
 pub const NO_WORD: u64 = u64::MAX;
@@ -36,7 +36,7 @@ impl Tree {
     /// `count` words, each the greatest.
     pub fn new(alloc: Global, count: usize) -> Result<Tree, NoMemory>
         requires some { 1 ≤ count }
-        requires few { count ≤ MOST_WORDS }
+        requires few { count ≤ MAX_WORDS }
         ensures value { IfOk result (λ t. t ≡ replicate count NO_WORD) }
     {
         let nodes = vec![in alloc; NO_WORD; 2 * count]?;
@@ -89,7 +89,7 @@ impl Tree {
 // The other node under the same parent.
 fn sibling(node: usize) -> usize
     requires below { 1 < node }
-    requires small { node < 2 * MOST_WORDS }
+    requires small { node < 2 * MAX_WORDS }
     ensures value { result ≡ sibling node }
 {
     if node % 2 == 0 { node + 1 } else { node - 1 }

@@ -4,12 +4,12 @@ use Rattle.std.specs.List.{join_with_byte}
 use Rattle.sim_base.specs.Params.{param_word, param_values, value_words, words_of_change}
 use Rattle.sim_base.specs.declared.message.Param.{Param}
 use Rattle.sim_base.specs.declared.message.Param.TheVariants.{Every, Service, Hold, Servers, Room, Weight}
-use Rattle.trace_report.specs.declared.lengths.TheConstants.{LONGEST_WORD}
+use Rattle.trace_report.specs.declared.lengths.TheConstants.{MAX_WORD_LEN}
 
 -- ---- param_word
 
 -- no word is longer than `service`
-pub param_word-short : (p : Param) → length (param_word p) ≤ LONGEST_WORD
+pub param_word-short : (p : Param) → length (param_word p) ≤ MAX_WORD_LEN
 param_word-short Every = omega arith
 param_word-short Service = omega arith
 param_word-short Hold = omega arith

@@ -1,9 +1,9 @@
 //! The number of decimal digits of a number.
 ghost use Rattle.std.specs.Prelude.{◌≡◌, ◌<◌, ◌≤◌, length, decimal};
-ghost use Rattle.trace_report.specs.declared.digits.TheConstants.{LEAST_LONG, LONGEST_NUMBER, SHORT_NUMBER};
+ghost use Rattle.trace_report.specs.declared.digits.TheConstants.{LEAST_LONG, MAX_NUMBER_LEN, SHORT_NUMBER};
 
 /// The maximum number of digits of a 64-bit number.
-pub const LONGEST_NUMBER: usize = 20;
+pub const MAX_NUMBER_LEN: usize = 20;
 
 /// The maximum number of digits of a short number.
 pub const SHORT_NUMBER: usize = 10;
@@ -16,7 +16,7 @@ pub const LEAST_LONG: u64 = 10_000_000_000;
 #[inline(always)]
 pub fn digits(n: u64) -> usize
     ensures count { result ≡ length (decimal n) }
-    ensures few { result ≤ LONGEST_NUMBER }
+    ensures few { result ≤ MAX_NUMBER_LEN }
 {
     if n < LEAST_LONG {
         few_digits(n)

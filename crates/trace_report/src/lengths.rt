@@ -3,50 +3,50 @@ ghost use Rattle.std.specs.Prelude.{◌≡◌, ◌≤◌, length};
 ghost use Rattle.trace_report.specs.Slots.{AreNames};
 ghost use Rattle.trace_report.specs.TraceText.{station_name, class_text, job_text, values_text};
 ghost use Rattle.trace_report.specs.TraceText.{change_text, payload_text, counts_text, entry_line};
-ghost use Rattle.trace_report.specs.declared.line.TheConstants.{MOST_LINE};
-ghost use Rattle.sim_base.specs.declared.name.TheConstants.{LONGEST_NAME};
-ghost use Rattle.trace_report.specs.declared.lengths.TheConstants.{LONGEST_CLASS, LONGEST_JOB, LONGEST_VALUES};
-ghost use Rattle.trace_report.specs.declared.lengths.TheConstants.{LONGEST_CHANGE, LONGEST_PAYLOAD, LONGEST_COUNTS};
+ghost use Rattle.trace_report.specs.declared.line.TheConstants.{MAX_LINE};
+ghost use Rattle.sim_base.specs.declared.name.TheConstants.{MAX_NAME_LEN};
+ghost use Rattle.trace_report.specs.declared.lengths.TheConstants.{MAX_CLASS_LEN, MAX_JOB_LEN, MAX_VALUES_LEN};
+ghost use Rattle.trace_report.specs.declared.lengths.TheConstants.{MAX_CHANGE_LEN, MAX_PAYLOAD_LEN, MAX_COUNTS_LEN};
 
-use crate::digits::{LONGEST_NUMBER, digits};
+use crate::digits::{MAX_NUMBER_LEN, digits};
 use crate::line::word_of;
 use crate::names::Names;
 use net_model::Model;
-use sim_base::name::LONGEST_NAME;
+use sim_base::name::MAX_NAME_LEN;
 use sim_base::{Change, Entry, Job, Line, Payload};
 
 /// The maximum number of bytes in the class of a job, with the colon before it.
-pub const LONGEST_CLASS: usize = 1 + LONGEST_NUMBER;
+pub const MAX_CLASS_LEN: usize = 1 + MAX_NUMBER_LEN;
 
 /// The maximum number of bytes in a job.
-pub const LONGEST_JOB: usize = LONGEST_NAME + 1 + LONGEST_NUMBER + LONGEST_CLASS;
+pub const MAX_JOB_LEN: usize = MAX_NAME_LEN + 1 + MAX_NUMBER_LEN + MAX_CLASS_LEN;
 
 /// The maximum number of bytes in a parameter's word.
-pub const LONGEST_WORD: usize = 7;
+pub const MAX_WORD_LEN: usize = 7;
 
 /// The maximum number of bytes in the values of a change.
-pub const LONGEST_VALUES: usize = LONGEST_NUMBER + 1 + LONGEST_NUMBER;
+pub const MAX_VALUES_LEN: usize = MAX_NUMBER_LEN + 1 + MAX_NUMBER_LEN;
 
 /// The maximum number of bytes in a change.
-pub const LONGEST_CHANGE: usize = LONGEST_WORD + 1 + LONGEST_VALUES;
+pub const MAX_CHANGE_LEN: usize = MAX_WORD_LEN + 1 + MAX_VALUES_LEN;
 
 /// The maximum number of bytes in a payload.
-pub const LONGEST_PAYLOAD: usize = 5 + LONGEST_JOB;
+pub const MAX_PAYLOAD_LEN: usize = 5 + MAX_JOB_LEN;
 
 /// The maximum number of bytes in the counts of a station.
-pub const LONGEST_COUNTS: usize = 23 + 4 * LONGEST_NUMBER;
+pub const MAX_COUNTS_LEN: usize = 23 + 4 * MAX_NUMBER_LEN;
 
 /// The maximum number of bytes in a line before its payload.
-pub const LONGEST_KEY: usize = 5 + 2 * LONGEST_NUMBER + 2 * LONGEST_NAME;
+pub const MAX_KEY_LEN: usize = 5 + 2 * MAX_NUMBER_LEN + 2 * MAX_NAME_LEN;
 
 /// The maximum number of bytes in the counts and the line feed.
-pub const LONGEST_END: usize = LONGEST_COUNTS + 1;
+pub const MAX_END_LEN: usize = MAX_COUNTS_LEN + 1;
 
 #[inline(always)]
 fn station_len(model: &Model, names: &Names, s: u32) -> usize
     requires names { AreNames model.now names.now }
     ensures value { result ≡ length (station_name model.now s) }
-    ensures short { result ≤ LONGEST_NAME }
+    ensures short { result ≤ MAX_NAME_LEN }
 {
     names.slot(model, s).name.len()
 }
@@ -55,7 +55,7 @@ fn station_len(model: &Model, names: &Names, s: u32) -> usize
 fn class_len(model: &Model, names: &Names, source: u32) -> usize
     requires names { AreNames model.now names.now }
     ensures value { result ≡ length (class_text model.now source) }
-    ensures short { result ≤ LONGEST_CLASS }
+    ensures short { result ≤ MAX_CLASS_LEN }
 {
     if model.format() == 2 {
         1 + digits(u64::from(names.slot(model, source).class))
@@ -68,7 +68,7 @@ fn class_len(model: &Model, names: &Names, source: u32) -> usize
 fn job_len(model: &Model, names: &Names, job: &Job) -> usize
     requires names { AreNames model.now names.now }
     ensures value { result ≡ length (job_text model.now job.now) }
-    ensures short { result ≤ LONGEST_JOB }
+    ensures short { result ≤ MAX_JOB_LEN }
 {
     station_len(model, names, job.source)
         + 1
@@ -78,7 +78,7 @@ fn job_len(model: &Model, names: &Names, job: &Job) -> usize
 
 fn values_len(change: &Change) -> usize
     ensures value { result ≡ length (values_text change.now) }
-    ensures short { result ≤ LONGEST_VALUES }
+    ensures short { result ≤ MAX_VALUES_LEN }
 {
     if change.param.values() == 1 {
         digits(change.a)
@@ -89,7 +89,7 @@ fn values_len(change: &Change) -> usize
 
 fn change_len(change: &Change) -> usize
     ensures value { result ≡ length (change_text change.now) }
-    ensures short { result ≤ LONGEST_CHANGE }
+    ensures short { result ≤ MAX_CHANGE_LEN }
 {
     word_of(change.param).len() + 1 + values_len(change)
 }
@@ -98,7 +98,7 @@ fn change_len(change: &Change) -> usize
 fn payload_len(model: &Model, names: &Names, payload: &Payload) -> usize
     requires names { AreNames model.now names.now }
     ensures value { result ≡ length (payload_text model.now payload.now) }
-    ensures short { result ≤ LONGEST_PAYLOAD }
+    ensures short { result ≤ MAX_PAYLOAD_LEN }
 {
     match payload {
         Payload::Tick => 4,
@@ -111,7 +111,7 @@ fn payload_len(model: &Model, names: &Names, payload: &Payload) -> usize
 #[inline(always)]
 fn counts_len(counts: &Line) -> usize
     ensures value { result ≡ length (counts_text counts.now) }
-    ensures short { result ≤ LONGEST_COUNTS }
+    ensures short { result ≤ MAX_COUNTS_LEN }
 {
     match counts {
         Line::Source { sent } => 5 + digits(*sent),
@@ -130,7 +130,7 @@ fn counts_len(counts: &Line) -> usize
 pub fn line_len(model: &Model, names: &Names, entry: &Entry) -> usize
     requires names { AreNames model.now names.now }
     ensures value { result ≡ length (entry_line model.now entry.now) }
-    ensures short { result ≤ MOST_LINE }
+    ensures short { result ≤ MAX_LINE }
 {
     let key = entry.msg.key;
     6 + digits(key.time)

@@ -15,8 +15,8 @@
 //! ```
 //!
 //! A name is copied as 16 bytes whatever its length, and a number is written from its last digit. So a piece may write
-//! past the line's end, but never more than `MOST_LINE` bytes from the line's start. A buffer therefore ends with
-//! `MOST_LINE` spare bytes. `line_len` counts digits to return the length of a line before it is written, so that a
+//! past the line's end, but never more than `MAX_LINE` bytes from the line's start. A buffer therefore ends with
+//! `MAX_LINE` spare bytes. `line_len` counts digits to return the length of a line before it is written, so that a
 //! buffer can be allocated once. `trace_text` writes each line into a small buffer that stays in cache, and appends it
 //! to the text.
 //!
@@ -35,9 +35,9 @@ mod pieces;
 mod report;
 mod trace;
 
-pub use digits::LONGEST_NUMBER;
+pub use digits::MAX_NUMBER_LEN;
 pub use lengths::line_len;
-pub use line::{MOST_LINE, write_line, write_stored};
+pub use line::{MAX_LINE, write_line, write_stored};
 pub use names::Names;
 pub use report::report_text;
 pub use trace::trace_text;

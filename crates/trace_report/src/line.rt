@@ -10,11 +10,11 @@ ghost use Rattle.sim_base.specs.Params.{param_word};
 ghost use Rattle.trace_report.specs.TraceText.{station_name, class_text, job_text, values_text};
 ghost use Rattle.trace_report.specs.TraceText.{change_text, payload_text, counts_text, line_start, entry_line};
 ghost use Rattle.trace_report.specs.Writers.{WritesExactly, WritesPiece};
-ghost use Rattle.trace_report.specs.declared.line.TheConstants.{MOST_LINE};
-ghost use Rattle.sim_base.specs.declared.name.TheConstants.{LONGEST_NAME};
-ghost use Rattle.trace_report.specs.declared.lengths.TheConstants.{LONGEST_CLASS, LONGEST_JOB, LONGEST_WORD};
-ghost use Rattle.trace_report.specs.declared.lengths.TheConstants.{LONGEST_VALUES, LONGEST_CHANGE, LONGEST_PAYLOAD};
-ghost use Rattle.trace_report.specs.declared.lengths.TheConstants.{LONGEST_COUNTS, LONGEST_KEY, LONGEST_END};
+ghost use Rattle.trace_report.specs.declared.line.TheConstants.{MAX_LINE};
+ghost use Rattle.sim_base.specs.declared.name.TheConstants.{MAX_NAME_LEN};
+ghost use Rattle.trace_report.specs.declared.lengths.TheConstants.{MAX_CLASS_LEN, MAX_JOB_LEN, MAX_WORD_LEN};
+ghost use Rattle.trace_report.specs.declared.lengths.TheConstants.{MAX_VALUES_LEN, MAX_CHANGE_LEN, MAX_PAYLOAD_LEN};
+ghost use Rattle.trace_report.specs.declared.lengths.TheConstants.{MAX_COUNTS_LEN, MAX_KEY_LEN, MAX_END_LEN};
 
 use crate::names::Names;
 use crate::pieces::{put, put_count, put_name, put_number};
@@ -26,8 +26,8 @@ use sim_base::{Change, Entry, Job, Key, Line, Param, Payload};
 #[inline(always)]
 fn put_station(bytes: &mut [u8], at: usize, model: &Model, names: &Names, s: u32) -> usize
     requires names { AreNames model.now names.now }
-    requires free { at + LONGEST_NAME ≤ length bytes.old }
-    ensures written { WritesPiece (station_name model.now s) LONGEST_NAME at result bytes.old bytes.new }
+    requires free { at + MAX_NAME_LEN ≤ length bytes.old }
+    ensures written { WritesPiece (station_name model.now s) MAX_NAME_LEN at result bytes.old bytes.new }
 {
     put_name(bytes, at, &names.slot(model, s).name)
 }
@@ -36,8 +36,8 @@ fn put_station(bytes: &mut [u8], at: usize, model: &Model, names: &Names, s: u32
 #[inline(always)]
 fn put_class(bytes: &mut [u8], at: usize, model: &Model, names: &Names, source: u32) -> usize
     requires names { AreNames model.now names.now }
-    requires free { at + LONGEST_CLASS ≤ length bytes.old }
-    ensures written { WritesPiece (class_text model.now source) LONGEST_CLASS at result bytes.old bytes.new }
+    requires free { at + MAX_CLASS_LEN ≤ length bytes.old }
+    ensures written { WritesPiece (class_text model.now source) MAX_CLASS_LEN at result bytes.old bytes.new }
 {
     if model.format() == 2 {
         put_count(bytes, at, b":", u64::from(names.slot(model, source).class))
@@ -50,8 +50,8 @@ fn put_class(bytes: &mut [u8], at: usize, model: &Model, names: &Names, source: 
 #[inline(always)]
 fn put_job(bytes: &mut [u8], at: usize, model: &Model, names: &Names, job: &Job) -> usize
     requires names { AreNames model.now names.now }
-    requires free { at + LONGEST_JOB ≤ length bytes.old }
-    ensures written { WritesPiece (job_text model.now job.now) LONGEST_JOB at result bytes.old bytes.new }
+    requires free { at + MAX_JOB_LEN ≤ length bytes.old }
+    ensures written { WritesPiece (job_text model.now job.now) MAX_JOB_LEN at result bytes.old bytes.new }
 {
     let at = put_station(bytes, at, model, names, job.source);
     let at = put_count(bytes, at, b".", job.count);
@@ -61,15 +61,15 @@ fn put_job(bytes: &mut [u8], at: usize, model: &Model, names: &Names, job: &Job)
 /// The script's word for a parameter.
 pub fn word_of(param: Param) -> &'static [u8]
     ensures value { result.now ≡ param_word param }
-    ensures short { length result.now ≤ LONGEST_WORD }
+    ensures short { length result.now ≤ MAX_WORD_LEN }
 {
     param.word().as_bytes()
 }
 
 // Writes the values of a change.
 fn put_values(bytes: &mut [u8], at: usize, change: &Change) -> usize
-    requires free { at + LONGEST_VALUES ≤ length bytes.old }
-    ensures written { WritesPiece (values_text change.now) LONGEST_VALUES at result bytes.old bytes.new }
+    requires free { at + MAX_VALUES_LEN ≤ length bytes.old }
+    ensures written { WritesPiece (values_text change.now) MAX_VALUES_LEN at result bytes.old bytes.new }
 {
     let at = put_number(bytes, at, change.a);
     if change.param.values() == 1 {
@@ -81,8 +81,8 @@ fn put_values(bytes: &mut [u8], at: usize, change: &Change) -> usize
 
 // Writes a change in script syntax.
 fn put_change(bytes: &mut [u8], at: usize, change: &Change) -> usize
-    requires free { at + LONGEST_CHANGE ≤ length bytes.old }
-    ensures written { WritesPiece (change_text change.now) LONGEST_CHANGE at result bytes.old bytes.new }
+    requires free { at + MAX_CHANGE_LEN ≤ length bytes.old }
+    ensures written { WritesPiece (change_text change.now) MAX_CHANGE_LEN at result bytes.old bytes.new }
 {
     let at = put(bytes, at, word_of(change.param));
     let at = put(bytes, at, b" ");
@@ -99,8 +99,8 @@ fn put_payload(
     payload: &Payload,
 ) -> usize
     requires names { AreNames model.now names.now }
-    requires free { at + LONGEST_PAYLOAD ≤ length bytes.old }
-    ensures written { WritesPiece (payload_text model.now payload.now) LONGEST_PAYLOAD at result bytes.old bytes.new }
+    requires free { at + MAX_PAYLOAD_LEN ≤ length bytes.old }
+    ensures written { WritesPiece (payload_text model.now payload.now) MAX_PAYLOAD_LEN at result bytes.old bytes.new }
 {
     match payload {
         Payload::Tick => put(bytes, at, b"tick"),
@@ -122,8 +122,8 @@ fn put_payload(
 // Writes the counts of a server.
 #[inline(always)]
 fn put_server(bytes: &mut [u8], at: usize, busy: u64, wait: u64, done: u64, lost: u64) -> usize
-    requires free { at + LONGEST_COUNTS ≤ length bytes.old }
-    ensures written { WritesPiece (counts_text (Server busy wait done lost)) LONGEST_COUNTS
+    requires free { at + MAX_COUNTS_LEN ≤ length bytes.old }
+    ensures written { WritesPiece (counts_text (Server busy wait done lost)) MAX_COUNTS_LEN
         at result bytes.old bytes.new }
 {
     let at = put_count(bytes, at, b"busy=", busy);
@@ -135,8 +135,8 @@ fn put_server(bytes: &mut [u8], at: usize, busy: u64, wait: u64, done: u64, lost
 // Writes the counts of a station after a message.
 #[inline(always)]
 fn put_counts(bytes: &mut [u8], at: usize, counts: &Line) -> usize
-    requires free { at + LONGEST_COUNTS ≤ length bytes.old }
-    ensures written { WritesPiece (counts_text counts.now) LONGEST_COUNTS at result bytes.old bytes.new }
+    requires free { at + MAX_COUNTS_LEN ≤ length bytes.old }
+    ensures written { WritesPiece (counts_text counts.now) MAX_COUNTS_LEN at result bytes.old bytes.new }
 {
     match counts {
         Line::Source { sent } => put_count(bytes, at, b"sent=", *sent),
@@ -158,8 +158,8 @@ fn put_counts(bytes: &mut [u8], at: usize, counts: &Line) -> usize
 #[inline(always)]
 fn put_key(bytes: &mut [u8], at: usize, model: &Model, names: &Names, key: &Key, to: u32) -> usize
     requires names { AreNames model.now names.now }
-    requires free { at + LONGEST_KEY ≤ length bytes.old }
-    ensures written { WritesPiece (line_start model.now key.now to) LONGEST_KEY at result bytes.old bytes.new }
+    requires free { at + MAX_KEY_LEN ≤ length bytes.old }
+    ensures written { WritesPiece (line_start model.now key.now to) MAX_KEY_LEN at result bytes.old bytes.new }
 {
     let at = put_number(bytes, at, key.time);
     let at = put(bytes, at, b" ");
@@ -173,23 +173,23 @@ fn put_key(bytes: &mut [u8], at: usize, model: &Model, names: &Names, key: &Key,
 // Writes the counts and the line feed.
 #[inline(always)]
 fn put_end(bytes: &mut [u8], at: usize, counts: &Line) -> usize
-    requires free { at + LONGEST_END ≤ length bytes.old }
-    ensures written { WritesPiece (counts_text counts.now ++ codes "\n") LONGEST_END at result bytes.old bytes.new }
+    requires free { at + MAX_END_LEN ≤ length bytes.old }
+    ensures written { WritesPiece (counts_text counts.now ++ codes "\n") MAX_END_LEN at result bytes.old bytes.new }
 {
     let at = put_counts(bytes, at, counts);
     put(bytes, at, b"\n")
 }
 
 /// The maximum number of bytes in a line, with what its pieces may write past its end.
-pub const MOST_LINE: usize = 256;
+pub const MAX_LINE: usize = 256;
 
 /// Writes the line of an entry at a place, and returns the place after it.
 ///
-/// A number that is not a station's, 0 or past the last, is written as `analyst`. At least [`MOST_LINE`] bytes from the
+/// A number that is not a station's, 0 or past the last, is written as `analyst`. At least [`MAX_LINE`] bytes from the
 /// place must be free, since pieces write past the line's end.
 pub fn write_line(bytes: &mut [u8], at: usize, model: &Model, names: &Names, entry: &Entry) -> usize
     requires names { AreNames model.now names.now }
-    requires free { at + MOST_LINE ≤ length bytes.old }
+    requires free { at + MAX_LINE ≤ length bytes.old }
     ensures written { WritesExactly (entry_line model.now entry.now) at result bytes.old bytes.new }
 {
     let at = put_key(bytes, at, model, names, &entry.msg.key, entry.msg.to);
@@ -207,7 +207,7 @@ fn write_packed(
     packed: &PackedEntry,
 ) -> usize
     requires names { AreNames model.now names.now }
-    requires free { at + MOST_LINE ≤ length bytes.old }
+    requires free { at + MAX_LINE ≤ length bytes.old }
     ensures written { WritesExactly (entry_line model.now (unpacked_entry packed.now)) at result bytes.old bytes.new }
 {
     // a copy, which no written byte can change, so that each part is read once
@@ -228,7 +228,7 @@ pub fn write_stored(
     stored: StoredEntry<'_>,
 ) -> usize
     requires names { AreNames model.now names.now }
-    requires free { at + MOST_LINE ≤ length bytes.old }
+    requires free { at + MAX_LINE ≤ length bytes.old }
     ensures written { WritesExactly (entry_line model.now (entry_in stored.entry)) at result bytes.old bytes.new }
 {
     match stored {

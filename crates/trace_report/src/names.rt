@@ -4,12 +4,12 @@ ghost use Rattle.net_model.specs.Net.{site_at};
 ghost use Rattle.net_model.specs.Sites.{as_site};
 ghost use Rattle.trace_report.specs.TraceText.{station_name};
 
-use net_model::limits::MOST_STATIONS;
+use net_model::limits::MAX_STATIONS;
 use net_model::{Model, Station};
 use sim_base::Name;
 
 /// The size of the table: one slot for each station number, and one for the analyst.
-pub(crate) const SLOTS: usize = MOST_STATIONS + 1;
+pub(crate) const SLOTS: usize = MAX_STATIONS + 1;
 
 /// What lines show of a station: its name, and the class of the jobs that it makes.
 #[derive(Clone, Copy)]

@@ -3,7 +3,7 @@ ghost use Rattle.std.specs.Prelude.{◌≡◌, ◌+◌, ◌*◌, ◌≤◌, leng
 ghost use Rattle.std.specs.List.{flat_map, zip};
 ghost use Rattle.trace_report.specs.ReportText.{HaveSmallSums, report_text as report_of, station_line, total_line};
 ghost use Rattle.trace_report.specs.Writers.{WritesPiece};
-ghost use Rattle.trace_report.specs.declared.report.TheConstants.{MOST_REPORT_LINE};
+ghost use Rattle.trace_report.specs.declared.report.TheConstants.{MAX_REPORT_LINE};
 ghost use Rattle.net_model.specs.Sites.{as_site};
 
 use crate::pieces::{put, put_count, put_name};
@@ -12,12 +12,12 @@ use sim_base::{Figures, NoMemory};
 use std::alloc::Global;
 
 /// The maximum number of bytes in a line of a report.
-pub(crate) const MOST_REPORT_LINE: usize = 128;
+pub(crate) const MAX_REPORT_LINE: usize = 128;
 
 // Writes the line of a station.
 fn write_figures(bytes: &mut [u8], at: usize, station: &Station, figures: &Figures) -> usize
-    requires free { at + MOST_REPORT_LINE ≤ length bytes.old }
-    ensures written { WritesPiece (station_line (as_site station.now) figures.now) MOST_REPORT_LINE
+    requires free { at + MAX_REPORT_LINE ≤ length bytes.old }
+    ensures written { WritesPiece (station_line (as_site station.now) figures.now) MAX_REPORT_LINE
         at result bytes.old bytes.new }
 {
     let at = put_name(bytes, at, &station.name);
@@ -30,10 +30,10 @@ fn write_figures(bytes: &mut [u8], at: usize, station: &Station, figures: &Figur
 // Writes the lines of all stations, one after the other.
 fn write_stations(bytes: &mut [u8], start: usize, model: &Model, figures: &[Figures]) -> usize
     requires all { length figures.now ≡ length model.now.sites }
-    requires free { start + MOST_REPORT_LINE * length model.now.sites ≤ length bytes.old }
+    requires free { start + MAX_REPORT_LINE * length model.now.sites ≤ length bytes.old }
     ensures written { WritesPiece
         (flat_map (λ beside. station_line beside.0 beside.1) (zip model.now.sites figures.now))
-        (MOST_REPORT_LINE * length model.now.sites) start result bytes.old bytes.new }
+        (MAX_REPORT_LINE * length model.now.sites) start result bytes.old bytes.new }
 {
     let mut at = start;
     for s in 0..model.len() {
@@ -61,8 +61,8 @@ fn alone_in_all(figures: &[Figures]) -> u64
 // Writes the line of the sums.
 fn write_total(bytes: &mut [u8], at: usize, figures: &[Figures]) -> usize
     requires sums { HaveSmallSums figures.now }
-    requires free { at + MOST_REPORT_LINE ≤ length bytes.old }
-    ensures written { WritesPiece (total_line figures.now) MOST_REPORT_LINE at result bytes.old bytes.new }
+    requires free { at + MAX_REPORT_LINE ≤ length bytes.old }
+    ensures written { WritesPiece (total_line figures.now) MAX_REPORT_LINE at result bytes.old bytes.new }
 {
     let at = put_count(bytes, at, b"total handled=", handled_in_all(figures));
     let at = put_count(bytes, at, b" alone=", alone_in_all(figures));
@@ -75,7 +75,7 @@ pub fn report_text(alloc: Global, model: &Model, figures: &[Figures]) -> Result<
     requires sums { HaveSmallSums figures.now }
     ensures { IfOk result (λ text. text.items ≡ report_of model.now figures.now) }
 {
-    let mut text = vec![in alloc; 0u8; MOST_REPORT_LINE * (model.len() as usize + 2)]?;
+    let mut text = vec![in alloc; 0u8; MAX_REPORT_LINE * (model.len() as usize + 2)]?;
     let at = put(&mut text, 0, b"report\n");
     let at = write_stations(&mut text, at, model, figures);
     let end = write_total(&mut text, at, figures);

@@ -2,7 +2,7 @@
 ghost use Rattle.std.specs.Prelude.{◌≡◌, IfOk};
 ghost use Rattle.trace_report.specs.TraceText.{trace_text as trace_of};
 
-use crate::line::{MOST_LINE, write_line};
+use crate::line::{MAX_LINE, write_line};
 use crate::names::Names;
 use net_model::Model;
 use sim_base::{Entry, Name, NoMemory};
@@ -24,7 +24,7 @@ pub fn trace_text(
     let mut text = Vec::from_slice(alloc, b"clone ")?;
     text.extend_from_slice(name.as_bytes())?;
     text.extend_from_slice(b"\n")?;
-    let mut page = [0u8; MOST_LINE];
+    let mut page = [0u8; MAX_LINE];
     for entry in entries {
         let end = write_line(&mut page, 0, model, &names, entry);
         text.extend_from_slice(&page[..end])?;

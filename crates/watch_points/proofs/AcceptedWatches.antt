@@ -11,7 +11,7 @@ use Rattle.std.proofs.lemmas.Bool.{leb-false}
 use Rattle.std.proofs.lemmas.List.{length-reverse}
 use Rattle.std.proofs.lemmas.Slice.Eq.{bytes_eq-Decides}
 use Rattle.sim_base.specs.Clones.{Clone, clone_at, place_of}
-use Rattle.sim_base.specs.declared.lists.TheConstants.{MOST_CLONES, MOST_DECISIONS}
+use Rattle.sim_base.specs.declared.lists.TheConstants.{MAX_CLONES, MAX_DECISIONS}
 use Rattle.net_model.specs.Net.{Net, site_of, station_named}
 use Rattle.run_laws.specs.Queue.{In}
 use Rattle.stations.specs.Changes.{accepts}
@@ -54,7 +54,7 @@ module _ (net : Net) (cs : List Clone) (earlier : List Watch) (w : Watch) where
   record HasPassedRows (c : WatchedClone) : Type 0 where
     no_end : c.end ≡ None
     is_new : is_taken cs earlier w.new ≡ false
-    room : length cs + length earlier < MOST_CLONES
+    room : length cs + length earlier < MAX_CLONES
     both : HasBoth net w
 
   -- the row of a change
@@ -90,11 +90,11 @@ module _ (net : Net) (cs : List Clone) (earlier : List Watch) (w : Watch) where
     where
       by : (end : Option ℕ) → c.end ≡ end →
           first_row (option_map (λ at. Ended at) end ∷ row (is_taken cs earlier w.new) NameTaken
-          ∷ row (nat_le MOST_CLONES (length cs + length earlier)) TooManyClones
+          ∷ row (nat_le MAX_CLONES (length cs + length earlier)) TooManyClones
           ∷ row (is_none (station_named w.station net) || is_none (station_named w.target net)) UnknownStation
           ∷ server_row net (station_named w.station net)
           ∷ change_row net (station_named w.target net) w.change
-          ∷ row (nat_le MOST_DECISIONS c.decisions) ListFull
+          ∷ row (nat_le MAX_DECISIONS c.decisions) ListFull
           ∷ []) ≡ Accepted → HasPassedRows c
       by (Some at) is e = absurd (cc)
       by None is e =
@@ -102,18 +102,18 @@ module _ (net : Net) (cs : List Clone) (earlier : List Watch) (w : Watch) where
           row (is_none (station_named w.station net) || is_none (station_named w.target net)) UnknownStation
           ∷ server_row net (station_named w.station net)
           ∷ change_row net (station_named w.target net) w.change
-          ∷ row (nat_le MOST_DECISIONS c.decisions) ListFull
+          ∷ row (nat_le MAX_DECISIONS c.decisions) ListFull
           ∷ [] in
           let a = first_row-Accepted (is_taken cs earlier w.new) NameTaken
-          (row (nat_le MOST_CLONES (length cs + length earlier)) TooManyClones ∷ rest) (λ e. absurd (cc)) e in
-          let b = first_row-Accepted (nat_le MOST_CLONES (length cs + length earlier)) TooManyClones rest
+          (row (nat_le MAX_CLONES (length cs + length earlier)) TooManyClones ∷ rest) (λ e. absurd (cc)) e in
+          let b = first_row-Accepted (nat_le MAX_CLONES (length cs + length earlier)) TooManyClones rest
           (λ e. absurd (cc)) a.1 in
           record {
             no_end = is;
             is_new = a.0;
-            room = leb-false MOST_CLONES (length cs + length earlier) b.0;
+            room = leb-false MAX_CLONES (length cs + length earlier) b.0;
             both = both-stations (station_named w.station net) (station_named w.target net) refl refl
-                (row (nat_le MOST_DECISIONS c.decisions) ListFull ∷ []) b.1;
+                (row (nat_le MAX_DECISIONS c.decisions) ListFull ∷ []) b.1;
           }
 
   -- an accepted watch has a clone, and passed the rows
@@ -220,7 +220,7 @@ watchable cs (u ∷ earlier) name c e no_end =
 -- what holds of watches that fit after earlier ones, of which the last comes first
 record AreFittingAfter (net : Net) (cs : List Clone) (earlier ws : List Watch) : Type 0 where
   new_names : HaveNewNames (all_names cs earlier) (triggers_of net ws)
-  clones_max : 0 < length ws → length cs + length earlier + length ws ≤ MOST_CLONES
+  clones_max : 0 < length ws → length cs + length earlier + length ws ≤ MAX_CLONES
   each : (j : ℕ) (w : Watch) → slice_get ws j ≡ Some w → FitsAfter net cs (reverse earlier ++ take j ws) w
 
 fit_after-fitting : (net : Net) (cs : List Clone) (earlier ws : List Watch) → fit_after net cs earlier ws ≡ Ok tt →
@@ -241,8 +241,8 @@ fit_after-fitting net cs earlier (w ∷ ws) e =
       each = fits passed rest;
     }
   where
-    many : (n m : ℕ) → length cs + m < MOST_CLONES → (0 < n → length cs + suc m + n ≤ MOST_CLONES) →
-        length cs + m + suc n ≤ MOST_CLONES
+    many : (n m : ℕ) → length cs + m < MAX_CLONES → (0 < n → length cs + suc m + n ≤ MAX_CLONES) →
+        length cs + m + suc n ≤ MAX_CLONES
     many zero m a f = omega (arith, a)
     many (suc n) m a f = let h = f (omega arith) in omega (arith, h)
 

@@ -9,7 +9,7 @@ use Rattle.std.proofs.lemmas.List.{length-take-le}
 use Rattle.std.proofs.lemmas.Option.{slice_get_within}
 use Rattle.sim_base.specs.Clones.{Clone, clone_at}
 use Rattle.sim_base.specs.declared.entry.Line.{Line}
-use Rattle.sim_base.specs.declared.lists.TheConstants.{MOST_CLONES}
+use Rattle.sim_base.specs.declared.lists.TheConstants.{MAX_CLONES}
 use Rattle.net_model.specs.Net.{Net}
 use Rattle.run_laws.proofs.Lists.{in_append}
 use Rattle.stations.specs.Runs.{simulation}
@@ -186,6 +186,6 @@ maker_there w k p above none =
     let never : ⊥ = cc in never
 
 -- its number is small
-pub number_fits : (w : WatcherView) (k i : ℕ) → IsPlaceOf w k → i < length w.active → w.script_len + i < MOST_CLONES
+pub number_fits : (w : WatcherView) (k i : ℕ) → IsPlaceOf w k → i < length w.active → w.script_len + i < MAX_CLONES
 number_fits w k i p l =
     let fits = p.follows.clones_max (omega (arith, l)) in omega (arith, fits, l)

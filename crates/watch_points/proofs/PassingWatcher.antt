@@ -11,7 +11,7 @@ use Rattle.sim_base.specs.Same.{same_entry}
 use Rattle.sim_base.specs.declared.decision.Planned.{Planned}
 use Rattle.sim_base.specs.declared.entry.Entry.{Entry}
 use Rattle.sim_base.specs.declared.entry.Line.{Line}
-use Rattle.sim_base.specs.declared.lists.TheConstants.{MOST_CLONES}
+use Rattle.sim_base.specs.declared.lists.TheConstants.{MAX_CLONES}
 use Rattle.sim_base.specs.declared.message.Msg.{Msg}
 use Rattle.sim_base.proofs.SameEntry.{same_entry-Decides}
 use Rattle.net_model.specs.Net.{HasStation, Net}
@@ -307,7 +307,7 @@ module _ (w : WatcherView) (world : WorldView) (i : ℕ) (a : ActiveWatch) (k du
   due-unused = makes-unused due_law due_pass d.passing.have_passed due_trigger at_place its_source its_progress
       d.is_found
 
-  pub due-room : length world.clones < MOST_CLONES
+  pub due-room : length world.clones < MAX_CLONES
   due-room =
       let below = slice_get_within w.active i a d.is_watch in
       let fits = d.passing.clones_max (omega (arith, below)) in

@@ -4,7 +4,7 @@ use Rattle.std.specs.Prelude.{Result, Ok, Err, option_map, is_none, is_some, if�
 use Rattle.std.specs.List.{list_any}
 use Rattle.std.specs.Str.{bytes_eq}
 use Rattle.sim_base.specs.Clones.{Clone, clone_at, place_of}
-use Rattle.sim_base.specs.declared.lists.TheConstants.{MOST_CLONES, MOST_DECISIONS}
+use Rattle.sim_base.specs.declared.lists.TheConstants.{MAX_CLONES, MAX_DECISIONS}
 use Rattle.net_model.specs.Net.{Net, site_of, station_named}
 use Rattle.net_model.specs.declared.station.Kind.{Kind}
 use Rattle.net_model.specs.declared.station.Kind.TheVariants.{Server}
@@ -49,11 +49,11 @@ server_row net (Some s) = row (not (is_server (site_of net s).kind)) WrongParame
 abbrev pub clone_rows : Net → List Clone → List Watch → Watch → WatchedClone → List (Option Reply)
 clone_rows net cs earlier w c = option_map (λ at. Ended at) c.end
     ∷ row (is_taken cs earlier w.new) NameTaken
-    ∷ row (nat_le MOST_CLONES (length cs + length earlier)) TooManyClones
+    ∷ row (nat_le MAX_CLONES (length cs + length earlier)) TooManyClones
     ∷ row (is_none (station_named w.station net) || is_none (station_named w.target net)) UnknownStation
     ∷ server_row net (station_named w.station net)
     ∷ change_row net (station_named w.target net) w.change
-    ∷ row (nat_le MOST_DECISIONS c.decisions) ListFull
+    ∷ row (nat_le MAX_DECISIONS c.decisions) ListFull
     ∷ []
 
 -- the rows of a watch

@@ -1,7 +1,7 @@
 -- What holds of watches that fit.
 use Rattle.std.specs.Prelude.{◌≡◌, ◌⊎◌, ℕ, ◌+◌, ◌<◌, ◌≤◌, List, length, map, take, Some, None, Ok, slice_get, true}
 use Rattle.sim_base.specs.Clones.{Clone, clone_at, place_of}
-use Rattle.sim_base.specs.declared.lists.TheConstants.{MOST_CLONES}
+use Rattle.sim_base.specs.declared.lists.TheConstants.{MAX_CLONES}
 use Rattle.net_model.specs.Net.{Net, site_of, station_named}
 use Rattle.stations.specs.Changes.{accepts}
 use Rattle.watch_laws.specs.Branches.{HaveNewNames}
@@ -23,7 +23,7 @@ pub record FitsAfter (net : Net) (cs : List Clone) (earlier : List Watch) (w : W
 -- watches fit: the branches have new names, there is room for all, and each watch fits after the earlier ones
 pub record AreFitting (net : Net) (cs : List Clone) (ws : List Watch) : Type 0 where
   pub new_names : HaveNewNames (map (λ (c : Clone). c.name) cs) (triggers_of net ws)
-  pub clones_max : 0 < length ws → length cs + length ws ≤ MOST_CLONES
+  pub clones_max : 0 < length ws → length cs + length ws ≤ MAX_CLONES
   pub each : (j : ℕ) (w : Watch) → slice_get ws j ≡ Some w → FitsAfter net cs (take j ws) w
 
 -- watches that the table of refusals accepts fit

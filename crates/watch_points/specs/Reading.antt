@@ -2,7 +2,7 @@
 use Rattle.std.specs.Prelude.{ℕ, ◌+◌, nat_lt, if◌then◌else◌, List, [], ◌∷◌, ◌++◌, length, Option, Some, None}
 use Rattle.std.specs.Prelude.{Result, Ok, Err}
 use Rattle.sim_base.specs.Chain.{◌>>=◌}
-use Rattle.sim_base.specs.declared.limits.TheConstants.{MOST_FILE_BYTES}
+use Rattle.sim_base.specs.declared.limits.TheConstants.{MAX_FILE_BYTES}
 use Rattle.decision_script.specs.declared.fault.LineFault.{LineFault}
 use Rattle.decision_script.specs.declared.fault.LineFault.TheVariants as broken
 use Rattle.decision_script.specs.Lines.{lines}
@@ -41,4 +41,4 @@ after_lines line ws (l ∷ ls) = after_line line ws l >>= λ next. after_lines (
 
 -- the watches that a text states, or the first rule that it breaks
 abbrev pub watches : List ℕ → Result (List Watch) WatchFault
-watches text = if nat_lt MOST_FILE_BYTES (length text) then Err TooLong else after_lines 1 [] (lines text)
+watches text = if nat_lt MAX_FILE_BYTES (length text) then Err TooLong else after_lines 1 [] (lines text)

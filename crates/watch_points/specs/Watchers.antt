@@ -2,7 +2,7 @@
 use Rattle.std.specs.Prelude.{◌≡◌, ℕ, ◌+◌, ◌<◌, ◌≤◌, List, length, map, take, Some, slice_get}
 use Rattle.sim_base.specs.Clones.{Clone}
 use Rattle.sim_base.specs.declared.entry.Line.{Line}
-use Rattle.sim_base.specs.declared.lists.TheConstants.{MOST_CLONES}
+use Rattle.sim_base.specs.declared.lists.TheConstants.{MAX_CLONES}
 use Rattle.net_model.specs.Net.{Net, station_named}
 use Rattle.net_model.specs.Rules.{IsNet}
 use Rattle.stations.specs.Runs.{simulation}
@@ -56,7 +56,7 @@ pub record Follows (w : WatcherView) (net : Net) (cs : List Clone) (front : ℕ)
   pub same_net : w.net ≡ net
   pub same_front : w.front ≡ front
   pub script_max : w.script_len ≤ length cs
-  pub clones_max : 0 < length w.active → w.script_len + length w.active ≤ MOST_CLONES
+  pub clones_max : 0 < length w.active → w.script_len + length w.active ≤ MAX_CLONES
   pub stations : HaveStations net w.active
   pub can_be_followed : CanBeFollowed (simulation net) (take w.script_len cs) (active_triggers net w.active)
       (sources_of w.active)
@@ -67,7 +67,7 @@ pub record Follows (w : WatcherView) (net : Net) (cs : List Clone) (front : ℕ)
 pub record IsPassing (w : WatcherView) (world : WorldView) (i : ℕ) : Type 0 where
   pub valid : IsNet world.net
   pub same_net : w.net ≡ world.net
-  pub clones_max : 0 < length w.active → w.script_len + length w.active ≤ MOST_CLONES
+  pub clones_max : 0 < length w.active → w.script_len + length w.active ≤ MAX_CLONES
   pub stations : HaveStations world.net w.active
   -- the clones of the script
   pub script : List Clone

@@ -9,7 +9,7 @@ use std::alloc::AllocError;
 /// a rule, from 1.
 #[derive(Clone, Copy, Debug, PartialEq, Eq)]
 pub enum WatchFault {
-    /// More bytes than [`MOST_FILE_BYTES`](sim_base::MOST_FILE_BYTES).
+    /// More bytes than [`MAX_FILE_BYTES`](sim_base::MAX_FILE_BYTES).
     TooLong,
     /// A byte of 128 or more, also in a comment.
     NotAscii { line: u32 },

@@ -11,7 +11,7 @@ ghost use Rattle.watch_points.specs.Checking.{clone_rows, fit, is_server as is_s
 use crate::watch::{Watch, Watches};
 use decision_book::Reply;
 use net_model::{Kind, Model};
-use sim_base::{Lists, MOST_CLONES, MOST_DECISIONS, Name};
+use sim_base::{Lists, MAX_CLONES, MAX_DECISIONS, Name};
 use stations::change::{ChangeFault, accepts};
 
 /// The first watch that does not fit, and why.
@@ -96,7 +96,7 @@ fn reply_for(
     if is_taken(lists, earlier, watch.new) {
         return Reply::NameTaken;
     }
-    if lists.len() as usize + earlier.len() >= MOST_CLONES as usize {
+    if lists.len() as usize + earlier.len() >= MAX_CLONES as usize {
         return Reply::TooManyClones;
     }
     let Some(station) = model.find(&watch.station) else {
@@ -113,7 +113,7 @@ fn reply_for(
         Err(ChangeFault::OutOfRange) => return Reply::OutOfRange,
         Ok(()) => {}
     }
-    if clone.decisions >= u64::from(MOST_DECISIONS) {
+    if clone.decisions >= u64::from(MAX_DECISIONS) {
         return Reply::ListFull;
     }
     Reply::Accepted

@@ -1,6 +1,6 @@
 //! Reads the watches of a text.
 ghost use Rattle.std.specs.Prelude.{◌≡◌, ◌≢◌, ◌≤◌, length, [], Ok, Err, OnOk, IfOk, IfErr};
-ghost use Rattle.sim_base.specs.declared.limits.TheConstants.{MOST_FILE_BYTES};
+ghost use Rattle.sim_base.specs.declared.limits.TheConstants.{MAX_FILE_BYTES};
 ghost use Rattle.decision_script.specs.Lines.{lines};
 ghost use Rattle.watch_points.specs.Reading.{after_line, after_lines, after_saying, fault_at, watches};
 
@@ -8,7 +8,7 @@ use crate::fault::WatchFault;
 use crate::line::saying_of_line;
 use crate::watch::{MAX_WATCHES, Watch, Watches, push_watch};
 use decision_script::words::{LineFault, ends_line, without_return};
-use sim_base::MOST_FILE_BYTES;
+use sim_base::MAX_FILE_BYTES;
 use std::alloc::Global;
 
 fn fault_of_line(line: u32, broken: LineFault) -> WatchFault
@@ -59,7 +59,7 @@ impl Watches {
 }
 
 fn read_lines(alloc: Global, text: &[u8]) -> Result<Watches, WatchFault>
-    requires at_most { length text.now ≤ MOST_FILE_BYTES }
+    requires at_most { length text.now ≤ MAX_FILE_BYTES }
     ensures ok { IfOk result (λ ws. after_lines 1 [] (lines text.now) ≡ Ok ws) }
     ensures refused { IfErr result (λ e. e ≢ WatchFault.NoMemory → after_lines 1 [] (lines text.now) ≡ Err e) }
 {
@@ -82,7 +82,7 @@ pub fn read_watches(alloc: Global, text: &[u8]) -> Result<Watches, WatchFault>
     // or the first rule that it breaks; only out of memory is left open
     ensures refused { IfErr result (λ e. e ≢ WatchFault.NoMemory → watches text.now ≡ Err e) }
 {
-    if text.len() > MOST_FILE_BYTES {
+    if text.len() > MAX_FILE_BYTES {
         return Err(WatchFault::TooLong);
     }
     read_lines(alloc, text)

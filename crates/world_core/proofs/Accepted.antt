@@ -8,13 +8,13 @@ use Rattle.sim_base.specs.Decisions.{subject}
 use Rattle.sim_base.specs.declared.decision.Decision.{Decision}
 use Rattle.sim_base.specs.declared.decision.Decision.TheVariants.{Fork, Set, End}
 use Rattle.sim_base.specs.declared.message.Change.{Change}
-use Rattle.sim_base.specs.declared.lists.TheConstants.{MOST_DECISIONS}
+use Rattle.sim_base.specs.declared.lists.TheConstants.{MAX_DECISIONS}
 use Rattle.net_model.specs.Net.{Net, station_named, site_of}
 use Rattle.stations.specs.Changes.{accepts}
 use Rattle.decision_book.specs.Journal.{Situation}
 use Rattle.decision_book.specs.declared.call.Reply.TheVariants.{Accepted, Full, Closed, Ended}
 use Rattle.decision_book.specs.declared.call.Reply.TheVariants.{UnknownStation, ListFull}
-use Rattle.decision_book.specs.declared.call.TheConstants.{MOST_CALLS}
+use Rattle.decision_book.specs.declared.call.TheConstants.{MAX_CALLS}
 use Rattle.decision_book.specs.Replies.{row, first_row, reply, rows, clone_rows, time_rows, change_row, fault_row}
 use Rattle.decision_book.proofs.Planned.{station_named-low}
 use Rattle.decision_book.proofs.Rows.{first_row-Accepted, first_row-fault, first_row-times}
@@ -29,7 +29,7 @@ pub record MaySet (net : Net) (cs : List Clone) (front c at : ℕ) (station : Li
   pub low : 1 ≤ number
   pub late : front ≤ at
   pub early : at < net.horizon
-  pub short : length (clone_at cs c).plans < MOST_DECISIONS
+  pub short : length (clone_at cs c).plans < MAX_DECISIONS
 
 -- this holds for each set that no row refuses
 pub may_set : (net : Net) (cs : List Clone) (front c at : ℕ) (who station : List ℕ) (change : Change)
@@ -39,12 +39,12 @@ may_set net cs front c at who station change h = by (station_named station net) 
   where
     after : (s : ℕ) → station_named station net ≡ Some s
         → first_row (fault_row (accepts (site_of net s) change) ∷ row
-        (nat_le MOST_DECISIONS (length (clone_at cs c).plans)) ListFull ∷ time_rows net front at) ≡ Accepted
+        (nat_le MAX_DECISIONS (length (clone_at cs c).plans)) ListFull ∷ time_rows net front at) ≡ Accepted
         → MaySet net cs front c at station
     after s e h =
         let a = first_row-fault (accepts (site_of net s) change)
-        (row (nat_le MOST_DECISIONS (length (clone_at cs c).plans)) ListFull ∷ time_rows net front at) h in
-        let b = first_row-Accepted (nat_le MOST_DECISIONS (length (clone_at cs c).plans)) ListFull
+        (row (nat_le MAX_DECISIONS (length (clone_at cs c).plans)) ListFull ∷ time_rows net front at) h in
+        let b = first_row-Accepted (nat_le MAX_DECISIONS (length (clone_at cs c).plans)) ListFull
         (time_rows net front at) (λ e. absurd cc) a in
         let t = first_row-times net front at b.1 in
         record {
@@ -53,12 +53,12 @@ may_set net cs front c at who station change h = by (station_named station net) 
           low = station_named-low station net s e;
           late = t.0;
           early = t.1;
-          short = leb-false MOST_DECISIONS (length (clone_at cs c).plans) b.0;
+          short = leb-false MAX_DECISIONS (length (clone_at cs c).plans) b.0;
         }
 
     by : (o : Option ℕ) → station_named station net ≡ o
         → first_row (row (is_none o) UnknownStation ∷ change_row net o change ∷ row
-        (nat_le MOST_DECISIONS (length (clone_at cs c).plans)) ListFull ∷ time_rows net front at) ≡ Accepted
+        (nat_le MAX_DECISIONS (length (clone_at cs c).plans)) ListFull ∷ time_rows net front at) ≡ Accepted
         → MaySet net cs front c at station
     by None e h = absurd cc
     by (Some s) e h = after s e h
@@ -97,5 +97,5 @@ pub accepted_at : (s : Situation) (d : Decision) → reply s d ≡ Accepted → 
 accepted_at s d h =
     ap (λ r. first_row (row (s.front == s.net.horizon) Closed ∷ r))
     (sym (clone_rows_same s d (place_of (subject d) s.clones)))
-    ∙ (first_row-Accepted (nat_le MOST_CALLS s.calls) Full
+    ∙ (first_row-Accepted (nat_le MAX_CALLS s.calls) Full
     (row (s.front == s.net.horizon) Closed ∷ clone_rows s d (place_of (subject d) s.clones)) (λ e. absurd cc) h).1

@@ -11,14 +11,14 @@ use Rattle.std.proofs.Math.Numerals.{add-one}
 use Rattle.sim_base.specs.Clones.{Clone, clone_at}
 use Rattle.sim_base.specs.Same.{same_entry}
 use Rattle.sim_base.specs.declared.message.Msg.{Msg}
-use Rattle.sim_base.specs.declared.lists.TheConstants.{MOST_CLONES}
+use Rattle.sim_base.specs.declared.lists.TheConstants.{MAX_CLONES}
 use Rattle.sim_base.proofs.ListLaws.{all_weaker}
 use Rattle.sim_base.proofs.SameEntry.{same_entry-Decides}
 use Rattle.clone_sets.specs.Sets.{has, size}
 use Rattle.clone_sets.specs.declared.set.CloneSet.{CloneSet}
 use Rattle.clone_sets.proofs.CountLaws.{size_is_count}
 use Rattle.net_model.specs.Net.{Net}
-use Rattle.net_model.specs.declared.limits.TheConstants.{MOST_LIMIT}
+use Rattle.net_model.specs.declared.limits.TheConstants.{MAX_LIMIT}
 use Rattle.stations.specs.Runs.{simulation, copies, handled_once, handled_alone}
 use Rattle.stations.proofs.GoodLaws.{lawful-stations, stations-to_stations}
 use Rattle.run_laws.specs.Queue.{In}
@@ -230,9 +230,9 @@ module _ (net : Net) (cs : List Clone) (front i : ℕ) (p : ProcView) (here : St
 -- ---- IsCopy
 
 -- the logs of a station's copies are short
-pub all_short : (net : Net) (s : ℕ) (xs : List StationCopy) → net.limit ≤ MOST_LIMIT → AllByRecursion (IsCopy net s) xs
-    → AllByRecursion (λ (a : StationCopy). length a.log ≤ MOST_LIMIT) xs
-all_short net s xs l h = all_weaker (IsCopy net s) (λ (a : StationCopy). length a.log ≤ MOST_LIMIT) xs
+pub all_short : (net : Net) (s : ℕ) (xs : List StationCopy) → net.limit ≤ MAX_LIMIT → AllByRecursion (IsCopy net s) xs
+    → AllByRecursion (λ (a : StationCopy). length a.log ≤ MAX_LIMIT) xs
+all_short net s xs l h = all_weaker (IsCopy net s) (λ (a : StationCopy). length a.log ≤ MAX_LIMIT) xs
     (λ a is. let e = is.short in omega (arith, e, l)) h
 
 -- ---- the figures of a station of a world
@@ -244,7 +244,7 @@ module _ (net : Net) (cs : List Clone) (ended : List (ℕ × ℕ)) (front : ℕ)
     pub copies_are : length p.copies ≡ copies net cs s front
     pub once : p.handled ≡ handled_once net cs s front
     pub each_alone : handled_alone_by p.copies ≡ handled_alone net cs s front
-    pub sizes : all_sizes p.copies ≤ MOST_CLONES
+    pub sizes : all_sizes p.copies ≤ MAX_CLONES
 
   -- this holds for the copies of each station
   pub has_figures : (s : ℕ) (p : ProcView) → 1 ≤ s → slice_get procs (s - 1) ≡ Some p → HasFigures s p
@@ -275,17 +275,17 @@ alone_next (y ∷ ys) x = let h = alone_next ys x in omega (arith, h)
 
 -- the sum of some of the copies is small
 pub alone_within : (xs : List StationCopy) (i : ℕ) (x : StationCopy) → i < length xs → x ≡ get_or xs i x
-    → AllByRecursion (λ (a : StationCopy). length a.log ≤ MOST_LIMIT) xs →
-    handled_alone_by (take i xs) + size x.set * length x.log ≤ all_sizes xs * MOST_LIMIT
+    → AllByRecursion (λ (a : StationCopy). length a.log ≤ MAX_LIMIT) xs →
+    handled_alone_by (take i xs) + size x.set * length x.log ≤ all_sizes xs * MAX_LIMIT
 alone_within [] i x l e h = absurd (omega (arith, l))
 alone_within (y ∷ ys) zero x l e h =
     let m = mul-le-mul_left (size y.set) h.0 in
-    let d = add-mul (size y.set) (all_sizes ys) MOST_LIMIT in
+    let d = add-mul (size y.set) (all_sizes ys) MAX_LIMIT in
     let same : size x.set * length x.log ≡ size y.set * length y.log =
     ap (λ (a : StationCopy). size a.set * length a.log) e in
     omega (arith, m, d, same)
 alone_within (y ∷ ys) (suc i) x l e h =
     let k = alone_within ys i x (omega (arith, l)) e h.1 in
     let m = mul-le-mul_left (size y.set) h.0 in
-    let d = add-mul (size y.set) (all_sizes ys) MOST_LIMIT in
+    let d = add-mul (size y.set) (all_sizes ys) MAX_LIMIT in
     omega (arith, k, m, d)

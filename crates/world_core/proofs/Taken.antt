@@ -13,7 +13,7 @@ use Rattle.sim_base.specs.Same.{same_entry}
 use Rattle.sim_base.specs.Clones.{Clone, clone_at, clones_with_plan, clones_with_end, clones_with_fork, fork_of}
 use Rattle.sim_base.specs.declared.message.Msg.{Msg}
 use Rattle.sim_base.specs.declared.decision.Planned.{Planned}
-use Rattle.sim_base.specs.declared.lists.TheConstants.{MOST_CLONES}
+use Rattle.sim_base.specs.declared.lists.TheConstants.{MAX_CLONES}
 use Rattle.sim_base.proofs.ListLaws.{all_push}
 use Rattle.sim_base.proofs.SameEntry.{same_entry-Decides}
 use Rattle.clone_sets.specs.Sets.{has, one, with}
@@ -114,7 +114,7 @@ module _ (net : Net) (cs : List Clone) (name : List ℕ) (old : ℕ) (there : ol
       one_more c n = grind (arith, nat_tests)
 
   -- if the new clone joins the old one in all copies, the world represents the clones with the fork
-  pub world_forked : (ended : List (ℕ × ℕ)) (front : ℕ) (procs news : List ProcView) → length cs < MOST_CLONES
+  pub world_forked : (ended : List (ℕ × ℕ)) (front : ℕ) (procs news : List ProcView) → length cs < MAX_CLONES
       → WorldStands net cs ended front procs → AllForked old (length cs) procs news
       → WorldStands net (clones_with_fork cs name old) ended front news
   world_forked ended front procs news few world done = record {

@@ -2,7 +2,7 @@
 use Rattle.std.specs.Prelude.{◌≡◌, ℕ, ◌+◌, ◌<◌, ◌≤◌, List, [], ◌∷◌, length, slice_get}
 use Rattle.std.specs.Prelude.{nat_lt, Some}
 use Rattle.sim_base.specs.Clones.{Clone, base, clone_at}
-use Rattle.sim_base.specs.declared.lists.TheConstants.{MOST_CLONES}
+use Rattle.sim_base.specs.declared.lists.TheConstants.{MAX_CLONES}
 use Rattle.clone_sets.specs.Sets.{has}
 use Rattle.net_model.specs.Net.{Net}
 use Rattle.net_model.specs.Rules.{IsNet}
@@ -40,7 +40,7 @@ pub record WorldStands (net : Net) (cs : List Clone) (ended : List (ℕ × ℕ))
   pub valid : IsNet net
   pub early : front ≤ net.horizon
   pub count : length procs ≡ length net.sites
-  pub few : length cs ≤ MOST_CLONES
+  pub few : length cs ≤ MAX_CLONES
   pub ends : ends_in net.horizon ended ≡ ends_of (simulation net) cs
   pub for_stations : AllAreForStations (simulation net) cs
   pub each : (i : ℕ) (p : ProcView) → slice_get procs i ≡ Some p → StandsAt net cs front i p

@@ -2,9 +2,9 @@
 ghost use Rattle.std.specs.Prelude.{◌≡◌, ◌*◌, ◌<◌, ◌≤◌, length};
 ghost use Rattle.std.specs.List.{AllByRecursion};
 ghost use Rattle.sim_base.specs.Clones.{clone_at};
-ghost use Rattle.sim_base.specs.declared.lists.TheConstants.{MOST_CLONES};
+ghost use Rattle.sim_base.specs.declared.lists.TheConstants.{MAX_CLONES};
 ghost use Rattle.net_model.specs.Net.{HasStation};
-ghost use Rattle.net_model.specs.declared.limits.TheConstants.{MOST_LIMIT};
+ghost use Rattle.net_model.specs.declared.limits.TheConstants.{MAX_LIMIT};
 ghost use Rattle.stations.specs.Runs.{simulation, next_front, copies, handled_once, handled_alone};
 ghost use Rattle.run_laws.specs.Fronts.{least_of, least};
 ghost use Rattle.phys_proc.specs.Own.{handled_alone_by, all_sizes};
@@ -16,8 +16,8 @@ use stations::due::{earlier, window_end};
 
 // The number of messages that the clones of these copies would have handled, each alone.
 fn alone_in(copies: &[PhysCopy]) -> u64
-    requires short { AllByRecursion (λ a. length a.log ≤ MOST_LIMIT) copies.now }
-    requires few { all_sizes copies.now ≤ MOST_CLONES }
+    requires short { AllByRecursion (λ a. length a.log ≤ MAX_LIMIT) copies.now }
+    requires few { all_sizes copies.now ≤ MAX_CLONES }
     ensures value { result ≡ handled_alone_by copies.now }
 {
     let mut sum = 0;

@@ -1,7 +1,7 @@
 //! Applies decisions to a world at its front (window boundary): forks, sets and ends.
 ghost use Rattle.std.specs.Prelude.{◌≡◌, ◌<◌, ◌≤◌, None, length, IfOk, OnOk, Some};
 ghost use Rattle.sim_base.specs.Clones.{clone_at, place_of, clones_with_fork, clones_with_plan, clones_with_end};
-ghost use Rattle.sim_base.specs.declared.lists.TheConstants.{MOST_CLONES};
+ghost use Rattle.sim_base.specs.declared.lists.TheConstants.{MAX_CLONES};
 ghost use Rattle.net_model.specs.Net.{HasStation};
 ghost use Rattle.decision_book.specs.Journal.{clones_after};
 ghost use Rattle.world_core.specs.Taking.{IsAccepted, AreAccepted, clones_after_calls};
@@ -19,7 +19,7 @@ use std::alloc::Global;
 fn fork_all(procs: &mut Vec<TimedProc>, old: u32, new: u32) -> Result<(), NoMemory>
     requires old { LivesAtAll old procs.old.items }
     requires new { LivesNowhere new procs.old.items }
-    requires below { new < MOST_CLONES }
+    requires below { new < MAX_CLONES }
     ensures forked { OnOk result (AllForked old new procs.old.items procs.new.items) }
 {
     for i in 0..procs.len() {
@@ -92,7 +92,7 @@ impl World {
         requires there { old < length self.clones }
         requires open { (clone_at self.clones old).end ≡ None }
         requires unused { place_of new self.clones ≡ None }
-        requires few { length self.clones < MOST_CLONES }
+        requires few { length self.clones < MAX_CLONES }
         // the same world with the new clone
         ensures value { IfOk result (λ w. w ≡ record self { clones = clones_with_fork self.clones new old }) }
     {

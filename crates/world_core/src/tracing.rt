@@ -2,7 +2,7 @@
 ghost use Rattle.std.specs.Prelude.{◌≡◌, ◌≢◌, ◌<◌, ◌≤◌, ℕ, length, slice_index_or, IfOk, IfSome, IfNone, true, false};
 ghost use Rattle.std.specs.List.{AllByRecursion};
 ghost use Rattle.sim_base.specs.Clones.{clone_at};
-ghost use Rattle.sim_base.specs.declared.lists.TheConstants.{MOST_CLONES};
+ghost use Rattle.sim_base.specs.declared.lists.TheConstants.{MAX_CLONES};
 ghost use Rattle.clone_sets.specs.Sets.{has};
 ghost use Rattle.net_model.specs.Net.{HasStation};
 ghost use Rattle.stations.specs.Runs.{simulation};
@@ -59,7 +59,7 @@ fn merge_logs(alloc: Global, xs: &[Entry], ys: &[Entry]) -> Result<Vec<Entry>, N
 
 // The copy that represents clone c.
 fn copy_of(copies: &[PhysCopy], c: u32) -> Option<&PhysCopy>
-    requires below { c < MOST_CLONES }
+    requires below { c < MAX_CLONES }
     ensures some { IfSome result (λ copy. IsCopyOf copies.now c copy.now) }
     ensures none { IfNone result (AllByRecursion (λ a. has a.set c ≡ false) copies.now) }
 {

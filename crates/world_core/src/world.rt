@@ -1,7 +1,7 @@
 //! The world of all clones, and its time windows, none longer than the lookahead allows.
 ghost use Rattle.std.specs.Prelude.{◌≡◌, ◌+◌, ◌<◌, ◌≤◌, length, IfOk, IfErr};
-ghost use Rattle.sim_base.specs.declared.lists.TheConstants.{MOST_CLONES};
-ghost use Rattle.net_model.specs.declared.limits.TheConstants.{MOST_STATIONS};
+ghost use Rattle.sim_base.specs.declared.lists.TheConstants.{MAX_CLONES};
+ghost use Rattle.net_model.specs.declared.limits.TheConstants.{MAX_STATIONS};
 ghost use Rattle.net_model.specs.Rules.{IsNet};
 ghost use Rattle.stations.specs.Runs.{next_front};
 ghost use Rattle.world_core.specs.Worlds.{AreInNet, opening_world, total_handled};
@@ -84,7 +84,7 @@ fn open_all(alloc: Global, model: &Model) -> Result<Vec<TimedProc>, NoMemory>
 
 /// The fault of a window whose first station over the limit is at this place, from 0, with this first clone there.
 pub fn beyond_limit(model: &Model, place: u32, who: u32) -> WorldFault
-    requires few { place < MOST_STATIONS }
+    requires few { place < MAX_STATIONS }
     ensures value { result ≡ EventLimit (place + 1) who model.now.limit }
 {
     WorldFault::EventLimit {
@@ -137,7 +137,7 @@ impl World {
     pub fn lists(&self) -> &Lists
         ensures clones { result.now.clones ≡ self.now.clones }
         // what is proved of the clones of a world
-        ensures few { length self.now.clones ≤ MOST_CLONES }
+        ensures few { length self.now.clones ≤ MAX_CLONES }
         ensures in_net { AreInNet self.now.net self.now.clones }
         ensures short { NoneBeyond self.now.net self.now.clones self.now.front }
     {

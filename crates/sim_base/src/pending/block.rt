@@ -16,7 +16,7 @@ use std::collections::VecDeque;
 use std::marker::Model;
 
 /// Ranges up to this length are searched one by one, longer ones by halving.
-const MOST_ONE_BY_ONE: usize = 8;
+const MAX_ONE_BY_ONE: usize = 8;
 
 /// Messages with their marks in a ring buffer, so that removing the first shifts nothing.
 #[derive(Drop)]
@@ -291,7 +291,7 @@ fn next_look(low: usize, high: usize) -> usize
     ensures below { result < high }
 {
     let count = high - low;
-    if count <= MOST_ONE_BY_ONE {
+    if count <= MAX_ONE_BY_ONE {
         high - 1
     } else {
         low + count / 2

@@ -3,7 +3,7 @@ ghost use Rattle.std.specs.Prelude.{◌≡◌, ◌<◌, ◌≤◌, [], ◌∷◌
 ghost use Rattle.sim_base.specs.Pending.{insert_marked, spread_marks, cut_by};
 ghost use Rattle.sim_base.specs.Order.{msg_cmp};
 ghost use Rattle.sim_base.specs.Blocks.{of_blocks, block_at, halves_of, AreBlocks, AreSized, AreFilled, IsBlockOf};
-ghost use Rattle.sim_base.specs.declared.pending.blocks.TheConstants.{MOST_IN_BLOCK};
+ghost use Rattle.sim_base.specs.declared.pending.blocks.TheConstants.{MAX_IN_BLOCK};
 
 use super::block::Block;
 use crate::marks::Marks;
@@ -12,10 +12,10 @@ use crate::message::Msg;
 use std::collections::VecDeque;
 
 /// The most messages in a block.
-pub const MOST_IN_BLOCK: usize = 64;
+pub const MAX_IN_BLOCK: usize = 64;
 
 /// The number of messages in the first half of a full block.
-pub const HALF: usize = MOST_IN_BLOCK / 2;
+pub const HALF: usize = MAX_IN_BLOCK / 2;
 
 /// The block that a message belongs to: 0 for the first, and 1 + the index of a later one.
 pub(crate) fn block_of<S: Marks>(later: &VecDeque<Block<S>>, msg: &Msg) -> usize
@@ -53,7 +53,7 @@ fn halve<S: Marks>(
     at: usize,
 ) -> Result<(), NoMemory>
     requires within { at ≤ length later.old.items }
-    requires full { length (block_at first.old later.old.items at) ≡ MOST_IN_BLOCK }
+    requires full { length (block_at first.old later.old.items at) ≡ MAX_IN_BLOCK }
     ensures ok { OnOk result ((first.new ∷ later.new.items) ≡ halves_of at (first.old ∷ later.old.items)) }
     ensures err { OnErr result ((first.new ≡ first.old) × (later.new.items ≡ later.old.items)) }
 {
@@ -83,9 +83,9 @@ pub(crate) fn halve_if_full<S: Marks>(
     ensures same { of_blocks (first.new ∷ later.new.items) ≡ of_blocks (first.old ∷ later.old.items) }
     ensures blocks { AreBlocks msg_cmp first.new later.new.items }
     ensures place { IfOk result (λ to. IsBlockOf msg_cmp msg.now later.new.items to) }
-    ensures free { IfOk result (λ to. length (block_at first.new later.new.items to) < MOST_IN_BLOCK) }
+    ensures free { IfOk result (λ to. length (block_at first.new later.new.items to) < MAX_IN_BLOCK) }
 {
-    if len_at(first, later, at) < MOST_IN_BLOCK {
+    if len_at(first, later, at) < MAX_IN_BLOCK {
         return Ok(at);
     }
     halve(first, later, at)?;
@@ -106,7 +106,7 @@ pub(crate) fn put<S: Marks>(
 ) -> Result<(), NoMemory>
     requires blocks { AreBlocks msg_cmp first.old later.old.items }
     requires place { IsBlockOf msg_cmp msg later.old.items at }
-    requires free { length (block_at first.old later.old.items at) < MOST_IN_BLOCK }
+    requires free { length (block_at first.old later.old.items at) < MAX_IN_BLOCK }
     ensures blocks { AreBlocks msg_cmp first.new later.new.items }
     ensures ok { OnOk result (of_blocks (first.new ∷ later.new.items) ≡ insert_marked S.union msg_cmp msg marks
         (of_blocks (first.old ∷ later.old.items))) }
@@ -138,7 +138,7 @@ pub(crate) fn add_block<S: Marks>(
     block: Block<S>,
 ) -> Result<(), NoMemory>
     requires sized { AreSized first.old later.old.items }
-    requires small { length block ≤ MOST_IN_BLOCK }
+    requires small { length block ≤ MAX_IN_BLOCK }
     ensures all { OnOk result (of_blocks (first.new ∷ later.new.items) ≡ of_blocks (first.old ∷ later.old.items)
         ++ block) }
     ensures sized { OnOk result (AreSized first.new later.new.items) }

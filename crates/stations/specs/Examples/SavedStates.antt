@@ -91,7 +91,7 @@ unfit_sinks =
 abbrev pub routers_at_bounds : List Saved
 routers_at_bounds = saved 0 0 3 (router 3 (1 ∷ 1000 ∷ [])) ∷ []
 
--- a weight too few and one too many; weights of 0 and above MOST_WEIGHT; more passed than handled; another kind's shape
+-- a weight too few and one too many; weights of 0 and above MAX_WEIGHT; more passed than handled; another kind's shape
 abbrev pub unfit_routers : List Saved
 unfit_routers =
     saved 0 0 3 (router 0 (4 ∷ []))

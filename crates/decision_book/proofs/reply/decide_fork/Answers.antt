@@ -14,6 +14,6 @@ returns c = record {
     lists_are = search rules;
     planned = rw c.fork_in_reserved.ensures.value
         (planned_forked c.args.model.now c.args.lists.now.clones c.args.new c.args.clone c.requires.lists.planned
-        (omega (arith, c.if-len-ge-MOST_CLONES.false, c.len.ensures.value)));
+        (omega (arith, c.if-len-ge-MAX_CLONES.false, c.len.ensures.value)));
   };
 }

@@ -3,7 +3,7 @@ use Rattle.std.proofs.Common.{◌-◌}
 use Rattle.std.proofs.lemmas.List.{take_more}
 use Rattle.sim_base.proofs.ListLaws.{all_at}
 use Rattle.net_model.specs.declared.station.Link.{Link}
-use Rattle.net_model.specs.declared.limits.TheConstants.{MOST_TIME}
+use Rattle.net_model.specs.declared.limits.TheConstants.{MAX_TIME}
 use Rattle.link_clocks.specs.NetClocks.{AreLowered}
 use Rattle.link_clocks.proofs.Lowering.{lowered_more}
 use Rattle.link_clocks.proofs.clocks.lower_by_links.Goals as goal
@@ -16,7 +16,7 @@ loop-link-preserved c =
     let l : Link = get_or links k (record { to = 0; delay = 0; weight = 0 }) in
     let one : take (k + 1) links ≡ take k links ++ l ∷ [] =
     take_more links k (record { to = 0; delay = 0; weight = 0 }) c.loop-link-test.true in
-    let here = all_at (λ (l : Link). (1 ≤ l.to) × (l.to ≤ length c.args.bounds.now) × (l.delay ≤ MOST_TIME)) links k
+    let here = all_at (λ (l : Link). (1 ≤ l.to) × (l.to ≤ length c.args.bounds.now) × (l.delay ≤ MAX_TIME)) links k
     (record { to = 0; delay = 0; weight = 0 }) c.requires.links c.loop-link-test.true in
     subst (λ ls. AreLowered ls c.args.x c.args.time c.args.bounds.now c.if-link-x.bounds) (sym one)
     (lowered_more (take k links) l c.args.x c.args.time c.args.bounds.now c.loop-link.bounds c.if-link-x.bounds here.0

@@ -1,6 +1,6 @@
 use Rattle.std.proofs.Common.{◌+◌, ◌<◌, ◌≤◌, ◌∙◌, ap, arith, subst}
 use Rattle.clone_sets.specs.Sets.{size, union}
-use Rattle.stations.specs.declared.sender.TheConstants.{ALL_COUNTS}
+use Rattle.stations.specs.declared.sender.TheConstants.{MAX_COUNTS}
 use Rattle.phys_proc.specs.Ends.{ends_in}
 use Rattle.phys_proc.specs.Own.{StationCopy, may_handle}
 use Rattle.phys_proc.proofs.Finishing.{advance-settled, advance-full, advance-parts, some_fits, others_fit}
@@ -61,7 +61,7 @@ bring_to_bound-requires g t c =
     let few0 = c.requires.may_advance.few in
     let counted = o.counted in
     let handled = first.handled in
-    let few : c.handle_together.new.stage.handled + may_handle net.limit a1 ≤ ALL_COUNTS =
+    let few : c.handle_together.new.stage.handled + may_handle net.limit a1 ≤ MAX_COUNTS =
     omega (arith, both, left, few0, counted, handled) in
     λ κs within. (
       subst (λ n. size a1.set < n) c.decreases fall,
@@ -129,7 +129,7 @@ bring_to_bound-requires-in-Parts g t c =
     let handled1 = c.in_ok-bring_to_bound-in-Parts.ensures.handled in
     let counted2 = o.counted in
     let handled2 = second.handled in
-    let few : c.handle_together-in-Parts.new.stage.handled + may_handle net.limit b1 ≤ ALL_COUNTS =
+    let few : c.handle_together-in-Parts.new.stage.handled + may_handle net.limit b1 ≤ MAX_COUNTS =
     omega (arith, both, left, left1, few0, counted, handled, gained, steps, handled1, counted2, handled2) in
     λ κs within. (
       subst (λ n. size b1.set < n) c.decreases fall,

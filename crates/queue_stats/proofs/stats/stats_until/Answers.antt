@@ -1,5 +1,5 @@
 use Rattle.std.proofs.Common.{if◌then◌else◌, Some, None, subst, sym, ap, ◌∙◌, IsSome, ◌*◌, ◌≤◌, ◌≡◌}
-use Rattle.sim_base.specs.declared.limits.TheConstants.{MOST_HANDLED}
+use Rattle.sim_base.specs.declared.limits.TheConstants.{MAX_HANDLED}
 use Rattle.queue_stats.specs.declared.tally.Tally.{Tally}
 use Rattle.queue_stats.specs.declared.stats.Stats.{Stats}
 use Rattle.queue_stats.specs.Stats.{stats}
@@ -24,13 +24,13 @@ present-requires-clause-until_min c =
 
 pub present-requires-clause-in_system_max : goal.present-requires-clause-in_system_max
 present-requires-clause-in_system_max c =
-    subst (λ (t : Tally). t.in_system ≤ MOST_HANDLED) (sym c.tally_of-tally.ensures.value)
+    subst (λ (t : Tally). t.in_system ≤ MAX_HANDLED) (sym c.tally_of-tally.ensures.value)
     (may_add_all-log c.args.single c.args.until c.args.log.now c.requires.queue c.requires.until_max
     c.requires.entries_max).in_system
 
 pub present-requires-clause-area_max : goal.present-requires-clause-area_max
 present-requires-clause-area_max c =
-    subst (λ (t : Tally). t.area ≤ MOST_HANDLED * t.last_time) (sym c.tally_of-tally.ensures.value)
+    subst (λ (t : Tally). t.area ≤ MAX_HANDLED * t.last_time) (sym c.tally_of-tally.ensures.value)
     (may_add_all-log c.args.single c.args.until c.args.log.now c.requires.queue c.requires.until_max
     c.requires.entries_max).area
 

@@ -1,13 +1,13 @@
 use Rattle.std.proofs.Common.{◌*◌, ◌≤◌, length}
 use Rattle.sim_base.specs.Clones.{clone_at}
-use Rattle.net_model.specs.declared.limits.TheConstants.{MOST_LIMIT}
-use Rattle.trace_report.specs.declared.line.TheConstants.{MOST_LINE}
+use Rattle.net_model.specs.declared.limits.TheConstants.{MAX_LIMIT}
+use Rattle.trace_report.specs.declared.line.TheConstants.{MAX_LINE}
 use Rattle.rolling_text.specs.Lengths.{first_lengths}
 use Rattle.rolling_text.proofs.bounds.bound_of.Given as goal
 
 abbrev pub invariant-loop-s : goal.invariant-loop-s
 invariant-loop-s l = record {
   bound : first_lengths l.world.net (clone_at l.world.clones l.c) 0 l.s ≤ l.bound;
-  few : l.bound ≤ l.s * (MOST_LINE * MOST_LIMIT);
+  few : l.bound ≤ l.s * (MAX_LINE * MAX_LIMIT);
   within : l.s ≤ length l.world.net.sites;
 }

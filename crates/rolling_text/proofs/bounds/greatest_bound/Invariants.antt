@@ -2,12 +2,12 @@ use Rattle.std.proofs.Common.{ℕ, ◌-◌, ◌<◌, ◌≤◌, length}
 use Rattle.sim_base.specs.Clones.{clone_at}
 use Rattle.stations.specs.Runs.{trace_of}
 use Rattle.rolling_text.specs.Texts.{HaveShortLines, body}
-use Rattle.rolling_text.specs.declared.texts.TheConstants.{MOST_TEXT}
+use Rattle.rolling_text.specs.declared.texts.TheConstants.{MAX_TEXT}
 use Rattle.rolling_text.proofs.bounds.greatest_bound.Given as goal
 
 abbrev pub invariant-loop-c : goal.invariant-loop-c
 invariant-loop-c l = record {
   bound : (k : ℕ) → k < l.c → length (body l.traces.net (clone_at l.traces.clones k)) ≤ l.most;
   short : 1 ≤ l.c → HaveShortLines l.traces.net (trace_of l.traces.net (clone_at l.traces.clones (l.c - 1)));
-  few : l.most ≤ MOST_TEXT;
+  few : l.most ≤ MAX_TEXT;
 }

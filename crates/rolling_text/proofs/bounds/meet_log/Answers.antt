@@ -1,5 +1,5 @@
 use Rattle.std.proofs.Common.{◌≤◌, arith, length, subst, sym}
-use Rattle.trace_report.specs.declared.line.TheConstants.{MOST_LINE}
+use Rattle.trace_report.specs.declared.line.TheConstants.{MAX_LINE}
 use Rattle.trace_report.specs.TraceText.{entry_line}
 use Rattle.rolling_text.specs.Texts.{HaveShortLines}
 use Rattle.rolling_text.proofs.ShortLines.{short_none, short_more}
@@ -12,7 +12,7 @@ pub loop-entry-preserved : goal.loop-entry-preserved
 loop-entry-preserved c =
     let value = c.line_len-len.ensures.value in
     let short = c.line_len-len.ensures.short in
-    let here : length (entry_line c.args.model.now c.in-Some.entry) ≤ MOST_LINE = omega (arith, value, short) in
+    let here : length (entry_line c.args.model.now c.in-Some.entry) ≤ MAX_LINE = omega (arith, value, short) in
     λ h. c.loop-entry.invariant (subst (HaveShortLines c.args.model.now) (sym c.in-Some.ensures.some)
     (short_more c.args.model.now c.in-Some.entry c.next.new.self here h))
 

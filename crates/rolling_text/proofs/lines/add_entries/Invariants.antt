@@ -1,6 +1,6 @@
 use Rattle.std.proofs.Common.{◌≡◌, ◌≤◌, ◌++◌, length, drop}
 use Rattle.std.specs.List.{flat_map}
-use Rattle.trace_report.specs.declared.line.TheConstants.{MOST_LINE}
+use Rattle.trace_report.specs.declared.line.TheConstants.{MAX_LINE}
 use Rattle.trace_report.specs.TraceText.{entry_line}
 use Rattle.rolling_text.proofs.lines.add_entries.Given as goal
 
@@ -10,7 +10,7 @@ invariant-loop-left l = record {
       ≡ l.fn.bytes.items ++ flat_map (entry_line l.model) l.fn.cursor.left;
   left : l.left ≤ length l.cursor.left;
   behind : drop l.left l.cursor.left ≡ drop l.count l.fn.cursor.left;
-  piece : MOST_LINE ≤ length l.piece;
+  piece : MAX_LINE ≤ length l.piece;
 }
 
 abbrev pub decreases-loop-left : goal.decreases-loop-left

@@ -1,6 +1,6 @@
 use Rattle.std.proofs.Common.{◌≡◌, ◌*◌, ◌≤◌, length}
 use Rattle.sim_base.specs.Clones.{clone_at}
-use Rattle.net_model.specs.declared.limits.TheConstants.{MOST_LIMIT}
+use Rattle.net_model.specs.declared.limits.TheConstants.{MAX_LIMIT}
 use Rattle.stations.specs.Good.{sender_of, number_of}
 use Rattle.stations.specs.Runs.{simulation}
 use Rattle.trace_cursor.specs.Rests.{merge_of_rests}
@@ -11,7 +11,7 @@ invariant-loop-s l = record {
   left : l.cursor.left ≡ merge_of_rests (simulation l.world.net) sender_of number_of
       (clone_at l.world.clones l.c) l.time l.s;
   count : l.count ≡ length l.cursor.left;
-  few : l.count ≤ l.s * MOST_LIMIT;
+  few : l.count ≤ l.s * MAX_LIMIT;
   logs : l.cursor.logs ≡ l.s;
   most : l.cursor.most ≡ l.fn.cursor.most;
   within : l.s ≤ length l.world.net.sites;

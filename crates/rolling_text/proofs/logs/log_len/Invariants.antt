@@ -1,7 +1,7 @@
 use Rattle.std.proofs.Common.{◌≡◌, ◌+◌, ◌*◌, ◌≤◌, length, sum_by}
 use Rattle.log_chain.specs.Times.{RiseByTime, from_time}
-use Rattle.net_model.specs.declared.limits.TheConstants.{MOST_LIMIT}
-use Rattle.trace_report.specs.declared.line.TheConstants.{MOST_LINE}
+use Rattle.net_model.specs.declared.limits.TheConstants.{MAX_LIMIT}
+use Rattle.trace_report.specs.declared.line.TheConstants.{MAX_LINE}
 use Rattle.trace_report.specs.TraceText.{entry_line}
 use Rattle.rolling_text.proofs.logs.log_len.Given as goal
 
@@ -11,7 +11,7 @@ invariant-loop-entry l = record {
       (from_time l.from l.log);
   late : from_time l.until l.walk ≡ from_time l.until l.log;
   rises : RiseByTime l.walk;
-  bound : l.sum + MOST_LINE * length l.walk ≤ MOST_LINE * MOST_LIMIT;
+  bound : l.sum + MAX_LINE * length l.walk ≤ MAX_LINE * MAX_LIMIT;
 }
 
 abbrev pub decreases-loop-entry : goal.decreases-loop-entry

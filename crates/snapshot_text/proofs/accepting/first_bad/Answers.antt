@@ -2,7 +2,7 @@ use Rattle.std.proofs.Common.{rules, ℕ, ◌<◌, ◌^◌, length, refl, sym, �
 use Rattle.std.proofs.lemmas.List.{length-replicate, get_or-replicate}
 use Rattle.sim_base.specs.declared.message.Msg.{Msg}
 use Rattle.sim_base.specs.declared.message.Payload.TheVariants.{Tick}
-use Rattle.net_model.specs.declared.limits.TheConstants.{MOST_STATIONS}
+use Rattle.net_model.specs.declared.limits.TheConstants.{MAX_STATIONS}
 use Rattle.snapshot_text.proofs.Counting.{bad_here, bad_next, count_room, counts_next}
 use Rattle.snapshot_text.proofs.accepting.first_bad.Goals as goal
 
@@ -14,8 +14,8 @@ pub loop-index-init : goal.loop-index-init
 loop-index-init c = record {
   same = refl;
   counts = record {
-    stations = length-replicate {A = ℕ} MOST_STATIONS 0;
-    each = λ s less. get_or-replicate {A = ℕ} MOST_STATIONS s 0 0 less;
+    stations = length-replicate {A = ℕ} MAX_STATIONS 0;
+    each = λ s less. get_or-replicate {A = ℕ} MAX_STATIONS s 0 0 less;
   };
 }
 

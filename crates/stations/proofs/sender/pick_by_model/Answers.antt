@@ -1,5 +1,5 @@
 use Rattle.std.proofs.Common.{◌≤◌}
-use Rattle.net_model.specs.declared.limits.TheConstants.{MOST_TIME}
+use Rattle.net_model.specs.declared.limits.TheConstants.{MAX_TIME}
 use Rattle.net_model.specs.declared.station.Link.{Link}
 use Rattle.stations.proofs.Links.{are_weights}
 use Rattle.stations.proofs.Places.{AllByRecursion-slice_get}
@@ -10,5 +10,5 @@ pick_link-requires-clause-valid c = rw (c.as_slice.ensures.value, c.link_weights
     (are_weights c.args.links.now c.requires.valid)
 
 pub returns-clause-near : goal.returns-clause-near
-returns-clause-near c = AllByRecursion-slice_get (λ (l : Link). l.delay ≤ MOST_TIME) c.args.links.now _
+returns-clause-near c = AllByRecursion-slice_get (λ (l : Link). l.delay ≤ MAX_TIME) c.args.links.now _
     c.pick_link.result c.requires.valid.near c.pick_link.ensures.link

@@ -1,6 +1,6 @@
 use Rattle.std.proofs.Common.{◌≡◌, ◌+◌, length, ap, arith, length-append}
 use Rattle.sim_base.specs.Blocks.{of_blocks}
-use Rattle.log_chain.specs.declared.log.TheConstants.{MOST_SEGMENTS}
+use Rattle.log_chain.specs.declared.log.TheConstants.{MAX_SEGMENTS}
 use Rattle.log_chain.specs.Segments.{entries_in}
 use Rattle.log_chain.proofs.Chains.{halving-few, power_below}
 use Rattle.log_chain.proofs.log.Log.segments.Goals as goal
@@ -32,5 +32,5 @@ overflow_cast-result c =
 
 pub returns-clause-few : goal.returns-clause-few
 returns-clause-few c short =
-    let less = power_below c.len.result (MOST_SEGMENTS + 1) _ (returns-clause-many c) (omega (arith, short)) in
+    let less = power_below c.len.result (MAX_SEGMENTS + 1) _ (returns-clause-many c) (omega (arith, short)) in
     omega (arith, less)

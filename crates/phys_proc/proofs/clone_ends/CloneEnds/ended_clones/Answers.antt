@@ -1,5 +1,5 @@
 use Rattle.std.proofs.Common.{◌≡◌, ℕ, ◌<◌, ◌||◌, List, [], ◌∷◌, get_or, ap, ap₂, ◌∙◌, length, zero, suc, arith}
-use Rattle.sim_base.specs.declared.lists.TheConstants.{MOST_CLONES}
+use Rattle.sim_base.specs.declared.lists.TheConstants.{MAX_CLONES}
 use Rattle.clone_sets.specs.Sets.{has}
 use Rattle.clone_sets.proofs.SetLaws.{has-empty}
 use Rattle.phys_proc.specs.Ends.{has_ended, AreEndsOfClones}
@@ -7,7 +7,7 @@ use Rattle.phys_proc.proofs.clone_ends.CloneEnds.ended_clones.Goals as goal
 
 -- the number read from the ends is a valid clone number
 below : (es : List (ℕ × ℕ)) (i : ℕ) (d : ℕ × ℕ) → AreEndsOfClones es → i < length es → d ≡ get_or es i d
-    → d.0 < MOST_CLONES
+    → d.0 < MAX_CLONES
 below [] i d f l e = absurd (omega arith)
 below (x ∷ es) zero d f l e = let h = ap (λ y. y.0) e in omega (arith, f.0, h)
 below (x ∷ es) (suc i) d f l e = below es i d f.1 (omega arith) e

@@ -1,9 +1,9 @@
 use Rattle.std.proofs.Common.{◌≡◌, ℕ, ◌+◌, ◌≤◌, ◌*◌, List, arith, ap, sym, subst, ◌∙◌, eq-eqb, eqb-true}
 use Rattle.std.proofs.lemmas.Nat.{mul-le}
-use Rattle.sim_base.specs.declared.lists.TheConstants.{MOST_CLONES}
+use Rattle.sim_base.specs.declared.lists.TheConstants.{MAX_CLONES}
 use Rattle.clone_sets.specs.Sets.{has, size, empty}
 use Rattle.net_model.specs.Net.{Net}
-use Rattle.net_model.specs.declared.limits.TheConstants.{MOST_LIMIT}
+use Rattle.net_model.specs.declared.limits.TheConstants.{MAX_LIMIT}
 use Rattle.stations.specs.Runs.{simulation}
 use Rattle.run_laws.specs.Copies.{IsStepped, AreOver, GainTogether}
 use Rattle.phys_proc.specs.Own.{StationCopy, all_sizes, IsStepResult}
@@ -61,7 +61,7 @@ overflow_add-self g c =
     let a = few_handled net i.station i.handled i.copies h.copies sizes h.valid.short c.self.invariant.once in
     let b = all_few net h.valid i.station ends c.args.bound i.copies st.done st.sent.items st.over c.args.steps.now
     c.step_copies.new.steps h.copies far st.handled c.in_ok-step_copies.ensures.handled in
-    let m = mul-le (all_sizes i.copies) net.limit MOST_CLONES MOST_LIMIT sizes h.valid.short in
+    let m = mul-le (all_sizes i.copies) net.limit MAX_CLONES MAX_LIMIT sizes h.valid.short in
     omega (arith, a, b, m)
 
 pub invariant_of-self-then-is_empty : goal.invariant_of-self-then-is_empty

@@ -11,7 +11,7 @@ use Rattle.sim_base.proofs.pending.blocks.halve_if_full.Goals as goal
 pub halve-requires-clause-full : goal.halve-requires-clause-full
 halve-requires-clause-full g c =
     full_at c.args.at c.args.first.now c.args.later.now.items c.len_at.result c.requires.blocks.sized
-    c.len_at.ensures.value c.if-len_at-lt-MOST_IN_BLOCK.false
+    c.len_at.ensures.value c.if-len_at-lt-MAX_IN_BLOCK.false
 
 pub index-requires : goal.index-requires
 index-requires g c =
@@ -28,7 +28,7 @@ returns-then-starts_after-clause-same g c = ap of_blocks c.in_ok-halve.ensures.o
 pub returns-then-starts_after-clause-blocks : goal.returns-then-starts_after-clause-blocks
 returns-then-starts_after-clause-blocks g c =
     let full = full_at c.args.at c.args.first.now c.args.later.now.items c.len_at.result c.requires.blocks.sized
-    c.len_at.ensures.value c.if-len_at-lt-MOST_IN_BLOCK.false in
+    c.len_at.ensures.value c.if-len_at-lt-MAX_IN_BLOCK.false in
     AreBlocks-halves msg_cmp c.args.at c.args.first.now c.halve.new.first c.args.later.now.items c.halve.new.later.items
     c.in_ok-halve.ensures.ok full c.requires.blocks
 
@@ -44,7 +44,7 @@ returns-then-starts_after-clause-place g c =
 pub returns-then-starts_after-clause-free : goal.returns-then-starts_after-clause-free
 returns-then-starts_after-clause-free g c =
     let full = full_at c.args.at c.args.first.now c.args.later.now.items c.len_at.result c.requires.blocks.sized
-    c.len_at.ensures.value c.if-len_at-lt-MOST_IN_BLOCK.false in
+    c.len_at.ensures.value c.if-len_at-lt-MAX_IN_BLOCK.false in
     first_free c.args.at c.args.first.now c.halve.new.first c.args.later.now.items c.halve.new.later.items
     c.in_ok-halve.ensures.ok c.requires.place.within full
 
@@ -57,7 +57,7 @@ returns-else-starts_after-clause-same g c = ap of_blocks c.in_ok-halve.ensures.o
 pub returns-else-starts_after-clause-blocks : goal.returns-else-starts_after-clause-blocks
 returns-else-starts_after-clause-blocks g c =
     let full = full_at c.args.at c.args.first.now c.args.later.now.items c.len_at.result c.requires.blocks.sized
-    c.len_at.ensures.value c.if-len_at-lt-MOST_IN_BLOCK.false in
+    c.len_at.ensures.value c.if-len_at-lt-MAX_IN_BLOCK.false in
     AreBlocks-halves msg_cmp c.args.at c.args.first.now c.halve.new.first c.args.later.now.items c.halve.new.later.items
     c.in_ok-halve.ensures.ok full c.requires.blocks
 
@@ -73,6 +73,6 @@ returns-else-starts_after-clause-place g c =
 pub returns-else-starts_after-clause-free : goal.returns-else-starts_after-clause-free
 returns-else-starts_after-clause-free g c =
     let full = full_at c.args.at c.args.first.now c.args.later.now.items c.len_at.result c.requires.blocks.sized
-    c.len_at.ensures.value c.if-len_at-lt-MOST_IN_BLOCK.false in
+    c.len_at.ensures.value c.if-len_at-lt-MAX_IN_BLOCK.false in
     second_free c.args.at c.args.first.now c.halve.new.first c.args.later.now.items c.halve.new.later.items
     c.in_ok-halve.ensures.ok c.requires.place.within _ (omega arith) full

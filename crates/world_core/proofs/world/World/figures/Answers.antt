@@ -1,8 +1,8 @@
 use Rattle.std.proofs.Common.{◌≡◌, ◌-◌, ◌≤◌, sym, ◌∙◌, subst, arith, length}
 use Rattle.std.specs.List.{AllByRecursion}
-use Rattle.sim_base.specs.declared.lists.TheConstants.{MOST_CLONES}
+use Rattle.sim_base.specs.declared.lists.TheConstants.{MAX_CLONES}
 use Rattle.net_model.specs.Net.{HasStation}
-use Rattle.net_model.specs.declared.limits.TheConstants.{MOST_LIMIT}
+use Rattle.net_model.specs.declared.limits.TheConstants.{MAX_LIMIT}
 use Rattle.stations.specs.Runs.{copies, handled_once, handled_alone}
 use Rattle.phys_proc.specs.Own.{StationCopy, but_pending, handled_alone_by}
 use Rattle.sim_base.proofs.ListLaws.{all_map, all_of_map}
@@ -23,9 +23,9 @@ alone_in-requires-clause-short c =
     let got = got_at procs (c.args.station - 1) p (omega (arith, is.low, is.high, many)) c.index-proc.ensures in
     let proc = (c.self.invariant.each (c.args.station - 1) p got).station.proc in
     let short = c.self.invariant.valid.short in
-    all_of_map (λ (a : StationCopy). length a.log ≤ MOST_LIMIT) but_pending c.copies-2.result.now
-    (subst (AllByRecursion (λ (a : StationCopy). length a.log ≤ MOST_LIMIT)) (sym c.copies-2.ensures.same)
-    (all_map (λ (a : StationCopy). length a.log ≤ MOST_LIMIT) but_pending p.copies
+    all_of_map (λ (a : StationCopy). length a.log ≤ MAX_LIMIT) but_pending c.copies-2.result.now
+    (subst (AllByRecursion (λ (a : StationCopy). length a.log ≤ MAX_LIMIT)) (sym c.copies-2.ensures.same)
+    (all_map (λ (a : StationCopy). length a.log ≤ MAX_LIMIT) but_pending p.copies
     (all_short c.self.inside.model.value p.station p.copies (omega (arith, short)) proc.copies)))
 
 pub alone_in-requires-clause-few : goal.alone_in-requires-clause-few
@@ -37,7 +37,7 @@ alone_in-requires-clause-few c =
     let got = got_at procs (c.args.station - 1) p (omega (arith, is.low, is.high, many)) c.index-proc.ensures in
     let f = has_figures c.self.inside.model.value c.self.inside.lists.clones c.self.inside.ends c.self.inside.front
     procs c.self.invariant c.args.station p is.low got in
-    subst (λ n. n ≤ MOST_CLONES) (sym (like_sizes c.copies-2.result.now p.copies c.copies-2.ensures.same)) f.sizes
+    subst (λ n. n ≤ MAX_CLONES) (sym (like_sizes c.copies-2.result.now p.copies c.copies-2.ensures.same)) f.sizes
 
 -- ---- the figures
 

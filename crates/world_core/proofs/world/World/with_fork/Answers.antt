@@ -1,6 +1,6 @@
 use Rattle.std.proofs.Common.{◌≡◌, ◌<◌, None, sym, ap, ◌∙◌, subst, length}
 use Rattle.sim_base.specs.Clones.{ListsView, clone_at}
-use Rattle.sim_base.specs.declared.lists.TheConstants.{MOST_CLONES}
+use Rattle.sim_base.specs.declared.lists.TheConstants.{MAX_CLONES}
 use Rattle.world_core.specs.Worlds.{WorldView, WorldStands}
 use Rattle.station_steps.specs.Forking.{AllForked, LivesNowhere}
 use Rattle.world_core.proofs.Taken.{world_forked, LivesAtAll-stands, LivesNowhere-stands}
@@ -26,7 +26,7 @@ invariant_of-result c =
     let there = subst (λ (w : WorldView). c.args.old < length w.clones) (sym c.self.view_is) c.requires.there in
     let open_end = subst (λ (w : WorldView). (clone_at w.clones c.args.old).end ≡ None)
     (sym c.self.view_is) c.requires.open in
-    let few = subst (λ (w : WorldView). length w.clones < MOST_CLONES) (sym c.self.view_is) c.requires.few in
+    let few = subst (λ (w : WorldView). length w.clones < MAX_CLONES) (sym c.self.view_is) c.requires.few in
     subst (λ cs. WorldStands net cs c.self.inside.ends c.self.inside.front c.fork_all.new.procs.items)
     (sym c.in_ok-fork.ensures.clones)
     (world_forked net cs c.args.new c.args.old there open_end c.self.inside.ends c.self.inside.front
