@@ -136,7 +136,7 @@ module _ (net : Net) (valid : IsNet net) (c : Clone) (front : ℕ) (at : HasSnap
   early = let within = at.within in omega (arith, within)
 
   kept : RunKeepsWorld net w
-  kept = run_invariant_holds net valid c.plans front at.clone.early early
+  kept = run_invariant_holds net valid c.plans front at.clone.time_max early
 
   -- ---- the states
 
@@ -145,8 +145,8 @@ module _ (net : Net) (valid : IsNet net) (c : Clone) (front : ℕ) (at : HasSnap
 
   state_of_run : (i : ℕ) → i < length net.sites → IsRunState net (1 + i) (w.at.states (1 + i))
   state_of_run i less = subst (λ (n : ℕ). IsRunState net (1 + i) ((run (simulation net) c.plans n).at.states (1 + i)))
-      bounded (run_states_are_kept net valid c (1 + i) front (station i less) at.clone.early early
-      (at.short (1 + i) (station i less)))
+      bounded (run_states_are_kept net valid c (1 + i) front (station i less) at.clone.time_max early
+      (at.length_max (1 + i) (station i less)))
 
   fits_and_restored : (i : ℕ) → i < length net.sites →
       (fits_saved net (1 + i) (saved_of (w.at.states (1 + i))) ≡ true)
@@ -249,7 +249,7 @@ module _ (net : Net) (valid : IsNet net) (c : Clone) (front : ℕ) (at : HasSnap
       × (m.key.number < (w.at.states m.key.sender).sender.next)) →
       (m.key.sender ≤ length net.sites) × (m.key.number < next_of saved sender)
   number_used m sender is (inl a) =
-      let few = at.clone.few in
+      let few = at.clone.at_most in
       let zero_is : sender ≡ 0 = sym is ∙ a.0 in
       let who = a.0 in
       let number = a.1 in

@@ -79,7 +79,7 @@ counts-more a b (line.Sink got stay) le is =
 counts-line_of : (net : Net) (k : Kind) (handled : ℕ) (s : KindState) → GoodKind handled s →
     RunKeepsKind net k handled s → CountsJobs handled s → CountsOf handled (line_of s)
 counts-line_of net k handled (Source s) good kept jobs = good.sent
-counts-line_of net k handled (Server s) good kept jobs = (good.busy, good.short, good.done, good.lost)
+counts-line_of net k handled (Server s) good kept jobs = (good.busy, good.length_max, good.done, good.lost)
 counts-line_of net k handled (Delay s) good kept jobs = good.passed
 counts-line_of net k handled (Router s) good kept jobs = good.passed
 counts-line_of net kind.Sink handled (Sink s) good kept jobs = (jobs, kept)
@@ -240,7 +240,7 @@ module _ (net : Net) (valid : IsNet net) where
     early = let within = at.within in omega (arith, within)
 
     keeps : KeepsEntries w
-    keeps = run-keeps_entries c.plans front at.clone.early at.clone.sayable early
+    keeps = run-keeps_entries c.plans front at.clone.time_max at.clone.sayable early
 
     -- ---- pending messages
 
@@ -258,19 +258,19 @@ module _ (net : Net) (valid : IsNet net) where
         let within = at.within in
         let same : min front (end_of (simulation net) c) ≡ front = omega (arith, within) in
         subst (λ (n : ℕ). IsRunState net s ((run (simulation net) c.plans n).at.states s)) same
-        (run_states_are_kept net valid c s front is at.clone.early early (at.short s is))
+        (run_states_are_kept net valid c s front is at.clone.time_max early (at.length_max s is))
 
     -- the number of a handled message
     number-small : (m : Msg) → ((m.key.sender ≡ 0) × (m.key.number < length c.plans))
         ⊎ (IsStationOf (length net.sites) m.key.sender × (m.key.number < next_number (w.at.states m.key.sender))) →
         m.key.number ≤ 1000000000
-    number-small m (inl a) = let few = at.clone.few in let number = a.1 in omega (arith, few, number)
+    number-small m (inl a) = let few = at.clone.at_most in let number = a.1 in omega (arith, few, number)
     number-small m (inr a) =
         let is = state_of_run m.key.sender (record { low = a.0.0; high = a.0.1 }) in
         let number = a.1 in
         let next = is.fits.sender.next in
         let within = is.within in
-        let limit = valid.short in
+        let limit = valid.limit_max in
         omega (arith, number, next, within, limit)
 
     entry-small : (e : Entry Msg Line) → In e w.at.trace → IsSmallEntry net valid e
@@ -285,8 +285,8 @@ module _ (net : Net) (valid : IsNet net) where
         at.clone.stations).used e.msg (inl (message_in w.at.trace i)) in
         let state = state_of_run e.msg.to (record { low = there.0; high = there.1 }) in
         let within = state.within in
-        let limit = valid.short in
-        let far = valid.soon in
+        let limit = valid.limit_max in
+        let far = valid.horizon_max in
         let number = number-small e.msg used in
         record {
           time = omega (arith, below, early, far);

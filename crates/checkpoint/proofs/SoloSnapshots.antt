@@ -73,7 +73,7 @@ module _ (net : Net) (c : Clone) (front : ℕ) (v : SoloView) (at : IsRunAt net 
 
   -- so its logs are within the limit
   pub run-has_snapshot : HasSnapshot net c front
-  run-has_snapshot = record { clone = at.clone; within = at.within; short = short }
+  run-has_snapshot = record { clone = at.clone; within = at.within; length_max = short }
     where
       short : (s : ℕ) → HasStation net s → length (log_at net c s front) ≤ net.limit
       short zero there = absurd (let low = there.low in omega (arith, low))

@@ -43,8 +43,8 @@ snapshot_of net c front = record {
 pub record IsSayableClone (net : Net) (c : Clone) : Type 0 where
   pub name : is_name c.name ≡ true
   pub stations : AreForStations (simulation net) c.plans
-  pub early : AllByRecursion (λ p. p.at < net.horizon) c.plans
-  pub few : length c.plans ≤ MAX_DECISIONS
+  pub time_max : AllByRecursion (λ p. p.at < net.horizon) c.plans
+  pub at_most : length c.plans ≤ MAX_DECISIONS
   pub sayable : AllByRecursion (λ p. is_sayable p.change ≡ true) c.plans
   pub end : IfSome c.end (λ at. at < net.horizon)
 
@@ -52,7 +52,7 @@ pub record IsSayableClone (net : Net) (c : Clone) : Type 0 where
 pub record HasSnapshot (net : Net) (c : Clone) (front : ℕ) : Type 0 where
   pub clone : IsSayableClone net c
   pub within : front ≤ min net.horizon (end_of (simulation net) c)
-  pub short : (s : ℕ) → HasStation net s → length (log_at net c s front) ≤ net.limit
+  pub length_max : (s : ℕ) → HasStation net s → length (log_at net c s front) ≤ net.limit
 
 -- a one-thread run of such a clone has come to a front
 pub record IsRunAt (net : Net) (c : Clone) (front : ℕ) (v : SoloView) : Type 0 where

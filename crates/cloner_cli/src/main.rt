@@ -68,7 +68,7 @@ fn run<I: Inputs, O: Sink, E: Sink, L: Ledger, R: Threads + Wait + Sync>(
 ) -> ExitCode
     requires name { blank.name ≡ L.name }
     requires parts { blank.parts ≡ L.parts }
-    requires some { 0 < L.parts }
+    requires nonempty { 0 < L.parts }
     ensures answer { (n : ℕ) × IsAnswer (assignment_of words.now)
         (outside_of (I.view inputs.old) (O.view out.old) (E.view err.old) 0)
         (outside_of (I.view inputs.new) (O.view out.new) (E.view err.new) n)
@@ -108,7 +108,7 @@ fn run_or_complain<I: Inputs, O: Sink, E: Sink, L: Ledger, R: Threads + Wait + S
 ) -> ExitCode
     requires name { blank.name ≡ L.name }
     requires parts { blank.parts ≡ L.parts }
-    requires some { 0 < L.parts }
+    requires nonempty { 0 < L.parts }
     // the status of `cloner`, with its effect on the files and the sinks
     ensures answer { IfOk words (λ w. (n : ℕ) × IsAnswer (assignment_of w.items)
         (outside_of (I.view inputs.old) (O.view out.old) (E.view err.old) 0)

@@ -184,6 +184,6 @@ module _ (words : Option AssignmentView) (before after : Outside) where
   pub no_fetches : after.inputs ≡ before.inputs → AreFewFetches words before after
   no_fetches same = record {
     fetches = 0;
-    few = omega arith;
+    at_most = omega arith;
     calls = subst (λ i. AreCounted 0 before.inputs.calls i.calls) (sym same) (none_counted before.inputs.calls);
   }

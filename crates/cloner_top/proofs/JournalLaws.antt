@@ -89,7 +89,7 @@ journal_runs net s book valid stated journal short =
     let some : 0 < net.horizon = let h = valid.horizon in omega (arith, h) in
     let r : IsScriptOf net s.analysts book.events =
     journal_reads_as_script net s book.events stated journal.legal.right some
-    (let h = valid.soon in omega (arith, h)) calls in
+    (let h = valid.horizon_max in omega (arith, h)) calls in
     let none : first_refused net r.again ≡ None =
     ap (option_map (by_line (decision_lines r.again.items))) r.accepted in
     record {

@@ -34,7 +34,7 @@ module _ (net : Net) (cs : List Clone) (old_steps new_steps : ℕ) (r : LinkedWo
   pub linked_may_put : (planned : Net) → ArePlanned planned cs → MayPutRun net r.world
   linked_may_put planned plans = record {
     may_report = record { net = run.net_is; ended = run.front };
-    short = subst AreShort (sym run.clones_are) (short_planned planned cs plans);
+    length_max = subst AreShort (sym run.clones_are) (short_planned planned cs plans);
   }
 
 -- the limit is met

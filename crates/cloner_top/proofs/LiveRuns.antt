@@ -67,7 +67,7 @@ module _ (net : Net) (s : ScriptView) (old_steps new_steps : ℕ) (live : LiveRu
         record {
           may_put = record {
             may_report = record { net = net_is; ended = front_is };
-            short = subst AreShort (sym clones_are) (short_planned net (after net live.book.events).clones all);
+            length_max = subst AreShort (sym clones_are) (short_planned net (after net live.book.events).clones all);
           };
           may = subst (λ x. MayLive net s (whole_output (x ∷ run_texts net w.clones)
               (total_handled net w.clones net.horizon))) (sym (same ∙ ran.text_is))

@@ -27,7 +27,7 @@ short_planned net cs planned = of_each cs planned.each
   where
     of_each : (cs : List Clone) → AllByRecursion (IsPlanned net) cs → AreShort cs
     of_each [] each k l = absurd (omega (arith, l))
-    of_each (c ∷ cs) each zero l = let s = each.0.short in omega (arith, s)
+    of_each (c ∷ cs) each zero l = let s = each.0.length_max in omega (arith, s)
     of_each (c ∷ cs) each (suc k) l = of_each cs each.1 k (omega (arith, l))
 
 -- ---- all clones of a world
@@ -62,7 +62,7 @@ run_exceeds net told cs made texts station who old_steps new_steps name excess s
     let excess_is : limit_met_at net station (clone_at cs who).name ≡ excess =
     sym (is ∙ (ap (λ (n : Net). limit_met_at n station name) same_net ∙ ap (limit_met_at net station) same_name)) in
     subst (IsExcessOf (MayRun net cs (MeetsLimit net cs) texts) old_steps new_steps []) excess_is
-    (record { most = most_handled net (length cs); may = over station who all.meets; steps = all.few })
+    (record { most = most_handled net (length cs); may = over station who all.meets; steps = all.at_most })
 
 -- ---- one clone
 
@@ -103,7 +103,7 @@ module _ (net told : Net) (cs those : List Clone) (name : List ℕ) (k old_steps
       let excess_is : limit_met_at net station name ≡ excess =
       sym (is ∙ ap (λ (n : Net). limit_met_at n station name) same_net) in
       subst (IsExcessOf (MayRunAlone net cs name whole (solo_text net)) old_steps new_steps []) excess_is
-      (record { most = most_handled net 1; may = limit_met k station found all.meets; steps = all.few })
+      (record { most = most_handled net 1; may = limit_met k station found all.meets; steps = all.at_most })
 
 -- ---- by its mode
 

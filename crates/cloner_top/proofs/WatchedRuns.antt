@@ -153,7 +153,7 @@ branches_short net planned cs ws plans fits k there =
     initial b i =
         let from = in_map initial_branch cs b i in
         subst (λ (x : Branch). length x.clone.plans ≤ MAX_DECISIONS) (sym from.2)
-        (all_in (IsPlanned planned) cs from.0 plans.each from.1).short
+        (all_in (IsPlanned planned) cs from.0 plans.each from.1).length_max
 
     watches_max : (xs : List Watch) → (0 < length xs → length cs + length xs ≤ MAX_CLONES)
         → length xs ≤ MAX_CLONES
@@ -183,7 +183,7 @@ module _ (net : Net) (cs : List Clone) (ws : List Watch) (old_steps new_steps : 
   pub watched_may_put : (planned : Net) → ArePlanned planned cs → fit net cs ws ≡ Ok tt → MayPutRun net r.world
   watched_may_put planned plans fits = record {
     may_report = record { net = run.net_is; ended = run.front };
-    short = short_ordered net r.world.clones r.order.items run.order
+    length_max = short_ordered net r.world.clones r.order.items run.order
         (subst AreShort (sym run.clones) (branches_short net planned cs ws plans fits));
   }
 
@@ -208,5 +208,5 @@ watched_exceeds net told cs made ws station number old_steps new_steps name exce
         clone = place.1.0;
         beyond = subst (IsBeyond net station net.horizon) (sym place.1.1) stops.beyond;
       });
-      steps = stops.few;
+      steps = stops.at_most;
     })

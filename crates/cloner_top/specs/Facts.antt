@@ -216,5 +216,5 @@ fetches_for (Some a) = all_fetches a
 -- at most this number of fetches was made
 pub record AreFewFetches (words : Option AssignmentView) (before after : Outside) : Type 0 where
   pub fetches : ℕ
-  pub few : fetches ≤ fetches_for words
+  pub at_most : fetches ≤ fetches_for words
   pub calls : AreCounted fetches before.inputs.calls after.inputs.calls

@@ -12,7 +12,7 @@ use Rattle.cloner_top.specs.declared.putting.RunTexts.{RunTexts}
 -- the report of a world may be made, and its clones have few enough decisions for their traces
 pub record MayPutRun (net : Net) (world : WorldView) : Type 0 where
   pub may_report : MayReport net world
-  pub short : AreShort world.clones
+  pub length_max : AreShort world.clones
 
 -- the prepared texts are those of these clones, and their report
 pub record IsReadyRun (net : Net) (clones : List Clone) (run : RunTexts) : Type 0 where

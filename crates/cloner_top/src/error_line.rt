@@ -50,7 +50,7 @@ impl ErrorLine {
     pub fn push_number(&mut self, number: u64)
         requires free { length self.old + MAX_NUMBER_LEN ≤ MAX_ERROR_LINE }
         ensures value { self.new ≡ self.old ++ decimal number }
-        ensures short { length self.new ≤ length self.old + MAX_NUMBER_LEN }
+        ensures length_max { length self.new ≤ length self.old + MAX_NUMBER_LEN }
     {
         let mut buffer = Buffer::new();
         self.push(buffer.format(number));
@@ -61,7 +61,7 @@ impl ErrorLine {
     pub fn push_name(&mut self, name: &Name)
         requires free { length self.old + MAX_NAME_LEN ≤ MAX_ERROR_LINE }
         ensures value { self.new ≡ self.old ++ name.now }
-        ensures short { length self.new ≤ length self.old + MAX_NAME_LEN }
+        ensures length_max { length self.new ≤ length self.old + MAX_NAME_LEN }
     {
         self.push(name.text());
     }

@@ -27,7 +27,7 @@ use world_core::World;
 // Returns the world at the horizon with the text of the journal, or why there is none.
 fn world_or_halt(model: &Model, live: LiveRun, journal: Vec<u8>) -> Result<(World, Vec<u8>), Halt>
     requires net { live.book.net ≡ model.now }
-    requires there { IfErr live.run (λ e. NamesStationAndClone model.now live.book.events e) }
+    requires in_range { IfErr live.run (λ e. NamesStationAndClone model.now live.book.events e) }
     // the world at the horizon, with the text of the journal
     ensures ok { IfOk result (λ r. (live.run ≡ Ok r.0) × (r.1.items ≡ journal.items)) }
     // its clones are within the limit

@@ -104,7 +104,7 @@ fn prepare_study<I: Inputs>(
     ensures same { (I.view inputs.new).files ≡ (I.view inputs.old).files }
     ensures fetched { OnOk result (AreCounted (later_fetches (assignment_view assignment.now))
         (I.view inputs.old).calls (I.view inputs.new).calls) }
-    ensures few { (n : ℕ) × ((n ≤ later_fetches (assignment_view assignment.now))
+    ensures at_most { (n : ℕ) × ((n ≤ later_fetches (assignment_view assignment.now))
         × AreCounted n (I.view inputs.old).calls (I.view inputs.new).calls) }
 {
     let script = match fetch_script(alloc, inputs, assignment) {
@@ -134,7 +134,7 @@ fn prepare_live<I: Inputs>(
     ensures same { (I.view inputs.new).files ≡ (I.view inputs.old).files }
     ensures fetched { OnOk result (AreCounted (later_fetches (assignment_view assignment.now))
         (I.view inputs.old).calls (I.view inputs.new).calls) }
-    ensures few { (n : ℕ) × ((n ≤ later_fetches (assignment_view assignment.now))
+    ensures at_most { (n : ℕ) × ((n ≤ later_fetches (assignment_view assignment.now))
         × AreCounted n (I.view inputs.old).calls (I.view inputs.new).calls) }
 {
     match fetch_script(alloc, inputs, assignment) {
@@ -176,7 +176,7 @@ fn prepare_watch<I: Inputs>(
     ensures same { (I.view inputs.new).files ≡ (I.view inputs.old).files }
     ensures fetched { OnOk result (AreCounted (later_fetches (assignment_view assignment.now))
         (I.view inputs.old).calls (I.view inputs.new).calls) }
-    ensures few { (n : ℕ) × ((n ≤ later_fetches (assignment_view assignment.now))
+    ensures at_most { (n : ℕ) × ((n ≤ later_fetches (assignment_view assignment.now))
         × AreCounted n (I.view inputs.old).calls (I.view inputs.new).calls) }
 {
     let script = match fetch_script(alloc, inputs, assignment) {
@@ -215,7 +215,7 @@ pub(crate) fn prepare<I: Inputs>(
     ensures same { (I.view inputs.new).files ≡ (I.view inputs.old).files }
     ensures fetched { OnOk result (AreCounted (all_fetches (assignment_view assignment.now))
         (I.view inputs.old).calls (I.view inputs.new).calls) }
-    ensures few { (n : ℕ) × ((n ≤ all_fetches (assignment_view assignment.now))
+    ensures at_most { (n : ℕ) × ((n ≤ all_fetches (assignment_view assignment.now))
         × AreCounted n (I.view inputs.old).calls (I.view inputs.new).calls) }
 {
     let model = match fetch_model(alloc, inputs, assignment) {

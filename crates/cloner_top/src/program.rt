@@ -46,7 +46,7 @@ fn prepare_and_write<I: Inputs, O: Sink, G: Gate, L: Ledger, R: Threads + Wait +
     ensures same { (I.view inputs.new).files ≡ (I.view inputs.old).files }
     ensures fetched { OnOk result (AreCounted (all_fetches (request_view request.now).assignment)
         (I.view inputs.old).calls (I.view inputs.new).calls) }
-    ensures few { (n : ℕ) × ((n ≤ all_fetches (request_view request.now).assignment)
+    ensures at_most { (n : ℕ) × ((n ≤ all_fetches (request_view request.now).assignment)
         × AreCounted n (I.view inputs.old).calls (I.view inputs.new).calls) }
 {
     let workers = Workers {

@@ -73,7 +73,7 @@ fn run_world<G: Gate, L: Ledger, R: Threads + Wait + Sync>(
     ensures may_report { IfOk result (λ w. MayReport plan.now.model.value w) }
     ensures within { IfOk result (λ w. AreWithin plan.now.model.value w.clones) }
     ensures clones { IfOk result (λ w. w.clones ≡ clones_of_book plan.now.book) }
-    ensures short { IfOk result (λ w. AreShort w.clones) }
+    ensures length_max { IfOk result (λ w. AreShort w.clones) }
     ensures steps { IfOk result (λ w.
         steps.new ≡ steps.old + total_handled plan.now.model.value w.clones plan.now.model.value.horizon) }
     ensures err { IfErr result (λ r. (texts : List (List ℕ))

@@ -48,7 +48,7 @@ fn line_of_model(fault: &ModelFault) -> ErrorLine
 fn push_key(line: &mut ErrorLine, fault: &ModelFault)
     requires free { length line.old + 5 + MAX_KEY_TEXT_LEN ≤ MAX_ERROR_LINE }
     ensures value { line.new ≡ line.old ++ key_part (fault_key fault.now) }
-    ensures short { length line.new ≤ length line.old + 5 + MAX_KEY_TEXT_LEN }
+    ensures length_max { length line.new ≤ length line.old + 5 + MAX_KEY_TEXT_LEN }
 {
     if let Some(key) = fault.key() {
         line.push(" key ");

@@ -67,7 +67,7 @@ has_row-same id v (r ∷ rs) same = or_right (bytes_eq r.id id) _ (has_row-same 
 -- the value that the rows have for a name, and that there is no row without one
 pub record Tells (rows : List Row) (id : Text) (value : Option Text) : Type 0 where
   pub first_value : first_of id rows ≡ value
-  pub there : has_row id rows ≡ is_some value
+  pub present : has_row id rows ≡ is_some value
 
 -- a first use changes nothing for other names
 tells-other : (id other v : Text) (rows : List Row) (value : Option Text) → has_row id rows ≡ false
@@ -76,7 +76,7 @@ tells-other id other v rows value none differs t =
     let after : Tells (rows ++ (new id v ∷ [])) other value = record {
       first_value = ap (λ f. option_and_then (λ r. slice_get r.values 0) f) (find-other id other v rows differs)
           ∙ t.first_value;
-      there = has_row-other id other v rows differs ∙ t.there;
+      present = has_row-other id other v rows differs ∙ t.present;
     } in
     subst (λ x. Tells x other value) (sym (added id v rows none)) after
 
@@ -85,10 +85,10 @@ tells-same : (id v : Text) (rows : List Row) → bytes_eq id id ≡ true → Tel
     → Tells (used id v rows) id (Some v)
 tells-same id v rows same t =
     let after : Tells (rows ++ (new id v ∷ [])) id (Some v) = record {
-      first_value = ap (λ f. option_and_then (λ r. slice_get r.values 0) f) (find-same id v rows same t.there);
-      there = has_row-same id v rows same;
+      first_value = ap (λ f. option_and_then (λ r. slice_get r.values 0) f) (find-same id v rows same t.present);
+      present = has_row-same id v rows same;
     } in
-    subst (λ x. Tells x id (Some v)) (sym (added id v rows t.there)) after
+    subst (λ x. Tells x id (Some v)) (sym (added id v rows t.present)) after
 
 -- ---- the rows of all options and positionals
 
@@ -155,13 +155,13 @@ pub at_start : HaveValues [] no_options none
 at_start = record { options = λ name. of_option name; places = λ k. of_place k }
   where
     of_option : (name : OptionName) → Tells [] (option_text name) None
-    of_option name = record { first_value = refl; there = refl }
+    of_option name = record { first_value = refl; present = refl }
 
     of_place : (k : Place) → Tells [] (positional_name k) (at_place k none)
-    of_place mode = record { first_value = refl; there = refl }
-    of_place first = record { first_value = refl; there = refl }
-    of_place second = record { first_value = refl; there = refl }
-    of_place third = record { first_value = refl; there = refl }
+    of_place mode = record { first_value = refl; present = refl }
+    of_place first = record { first_value = refl; present = refl }
+    of_place second = record { first_value = refl; present = refl }
+    of_place third = record { first_value = refl; present = refl }
 
 -- the four places as a list
 positionals_of-stage : (s : Stage)
@@ -210,12 +210,12 @@ place_or_option third clone = refl
 -- an option without a value has no row
 pub not_given : (rows : List Row) (o : OptionValues) (s : Stage) (name : OptionName) → HaveValues rows o s
     → o name ≡ None → has_row (option_text name) rows ≡ false
-not_given rows o s name h unused = (h.options name).there ∙ ap is_some unused
+not_given rows o s name h unused = (h.options name).present ∙ ap is_some unused
 
 -- an option with a value has one
 pub is_given : (rows : List Row) (o : OptionValues) (s : Stage) (name : OptionName) (w : Text) → HaveValues rows o s
     → o name ≡ Some w → has_row (option_text name) rows ≡ true
-is_given rows o s name w h some = (h.options name).there ∙ ap is_some some
+is_given rows o s name w h some = (h.options name).present ∙ ap is_some some
 
 -- a first use of an option
 pub option_used : (name : OptionName) (v : Text) (rows : List Row) (o : OptionValues) (s : Stage) → HaveValues rows o s
@@ -291,7 +291,7 @@ next_place v _ _ _ (at_third a b c) = refl
 -- the place has no row
 pub free_place : (v : Text) (k : Place) (s t : Stage) (rows : List Row) (o : OptionValues) → Follows v k s t
     → HaveValues rows o s → has_row (positional_name k) rows ≡ false
-free_place v k s t rows o follows h = (h.places k).there ∙ ap is_some (not_there v k s t follows)
+free_place v k s t rows o follows h = (h.places k).present ∙ ap is_some (not_there v k s t follows)
 
 -- a use of a positional
 pub place_used : (k : Place) (v : Text) (rows : List Row) (o : OptionValues) (s t : Stage) → Follows v k s t

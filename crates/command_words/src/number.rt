@@ -21,8 +21,8 @@ fn is_positive_number(word: &[u8]) -> bool
 #[tactic(auto, using(crate::proofs::Digits::positive_digits))]
 pub(crate) fn number_to(most: u32, word: &[u8]) -> Option<u32>
     ensures value { result ≡ number_in most word.now }
-    ensures some { IfSome result (λ n. 1 ≤ n) }
-    ensures few { IfSome result (λ n. n ≤ most) }
+    ensures at_least { IfSome result (λ n. 1 ≤ n) }
+    ensures at_most { IfSome result (λ n. n ≤ most) }
 {
     if !is_positive_number(word) || word.len() > MAX_GIVEN_NUMBER_LEN {
         return None;

@@ -26,8 +26,8 @@ fn is_text(text: &str) -> bool
 // The number of workers in an option; 1 without it.
 fn workers_of(word: Option<&str>) -> Option<u32>
     ensures value { result ≡ workers_in (option_map (λ s. s.now) word.entry) }
-    ensures some { IfSome result (λ n. 1 ≤ n) }
-    ensures few { IfSome result (λ n. n ≤ MAX_WORKERS) }
+    ensures at_least { IfSome result (λ n. 1 ≤ n) }
+    ensures at_most { IfSome result (λ n. n ≤ MAX_WORKERS) }
 {
     match word {
         None => Some(1),
@@ -38,8 +38,8 @@ fn workers_of(word: Option<&str>) -> Option<u32>
 // The number of workers, if there is no other option.
 fn workers_alone(given: &Given) -> Option<u32>
     ensures value { result ≡ workers_alone_of (given_view given.now).workers (given_view given.now).clone }
-    ensures some { IfSome result (λ n. 1 ≤ n) }
-    ensures few { IfSome result (λ n. n ≤ MAX_WORKERS) }
+    ensures at_least { IfSome result (λ n. 1 ≤ n) }
+    ensures at_most { IfSome result (λ n. n ≤ MAX_WORKERS) }
 {
     match given.clone {
         None => workers_of(given.workers),

@@ -63,7 +63,7 @@ pub struct Request<'a> {
     /// The number of workers, from 1 to [`MAX_WORKERS`].
     pub workers: u32,
     ghost some: { 1 ≤ workers },
-    ghost few: { workers ≤ MAX_WORKERS },
+    ghost at_most: { workers ≤ MAX_WORKERS },
 }
 
 /// Why there is no request.

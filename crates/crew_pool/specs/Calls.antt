@@ -72,7 +72,7 @@ pub record IsDealt {X A P : Type 0} (takes : ℕ → X → Type 0) (out : ℕ) (
     (owner : Worker (ℕ × X) A (SeatView X) P) : Type 0 where
   pub fifo : worker_flavor owner ≡ 0
   pub dealt : worker_view owner ≡ seat_view (MAX_PARTS - out) items []
-  pub few : out < MAX_WORKERS
+  pub at_most : out < MAX_WORKERS
   pub tasks : length items ≤ MAX_TASKS
   pub ready : EachAt takes items
 

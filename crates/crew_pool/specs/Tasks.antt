@@ -12,7 +12,7 @@ AnswersTo {X} answers items i out = (d : X) → answers i (slice_index_or items 
 
 -- all tasks may be run on these items: no more than a call may have, each ready for the task of its place
 pub record MayRunAll {X : Type 0} (takes : ℕ → X → Type 0) (items : List X) : Type 0 where
-  pub few : length items ≤ MAX_TASKS
+  pub at_most : length items ≤ MAX_TASKS
   pub ready : EachAt takes items
 
 -- all tasks have run on these items: there is an answer for each, at its place, and the counter has grown by their cost

@@ -98,7 +98,7 @@ fn run_slots<W: Work, G: Gate, R: Threads + Wait + Sync>(
     workers: Workers,
     slots: &mut [Slot<W::In, W::Out>],
 )
-    requires few { length slots.old ≤ MAX_TASKS }
+    requires at_most { length slots.old ≤ MAX_TASKS }
     requires ready { EachSlotReady (W.ready work.now) slots.old }
     ensures answers { EachSlotAnswers (W.answers work.now) slots.old slots.new }
 {

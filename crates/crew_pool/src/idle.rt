@@ -54,7 +54,7 @@ fn give_job<W: Work + Send + Drop>(
 ) -> Result<JobCaller<W>, NoMemory>
     requires idle { caller ≡ None }
     requires dealt { IsDealt (W.ready work.now.value) out (worker_view deque.old).dealt deque.old }
-    requires few { out + 1 < MAX_WORKERS }
+    requires at_most { out + 1 < MAX_WORKERS }
     ensures same { SameDeque deque.old deque.new }
     ensures dealt { OnOk result (IsDealt (W.ready work.now.value) (out + 1) (worker_view deque.old).dealt deque.new) }
     ensures given { IfOk result (λ c. c ≡ Some (record {
@@ -83,7 +83,7 @@ fn give_jobs<W: Work + Send + Drop>(
     most: usize,
 ) -> Result<(Vec<JobCaller<W>>, Vec<JobCaller<W>>), NoMemory>
     requires idle { AreIdle callers.items }
-    requires few { length callers.items < MAX_WORKERS }
+    requires at_most { length callers.items < MAX_WORKERS }
     requires dealt { IsDealt (W.ready work.now.value) 0 (worker_view deque.old).dealt deque.old }
     ensures same { SameDeque deque.old deque.new }
     ensures dealt { IfOk result (λ r. IsDealt (W.ready work.now.value) (length r.0.items) (worker_view deque.old).dealt

@@ -18,7 +18,7 @@ pub fn run_with_own_counter<W: Work, L: Ledger>(
     requires ready { W.ready work.now i item }
     requires name { blank.name ≡ L.name }
     requires parts { blank.parts ≡ L.parts }
-    requires some { 0 < L.parts }
+    requires nonempty { 0 < L.parts }
     ensures answer { IfOk result (λ out. W.answers work.now i item out) }
 {
     let mut steps = Steps::<L>::new(blank);

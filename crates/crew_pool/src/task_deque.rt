@@ -142,7 +142,7 @@ pub(crate) fn forget<X: Send + Drop>(owner: &mut Owner<X>)
 
 /// Deals a task for each item. Tasks are numbered from 0.
 pub(crate) fn deal<X: Send + Drop>(owner: &mut Owner<X>, items: Vec<X>) -> Result<(), NoMemory>
-    requires few { length items.items ≤ MAX_TASKS }
+    requires at_most { length items.items ≤ MAX_TASKS }
     requires fresh { worker_view owner.old ≡ seat_view MAX_PARTS [] [] }
     ensures same { SameDeque owner.old owner.new }
     ensures dealt { OnOk result (worker_view owner.new ≡ seat_view MAX_PARTS items.items []) }

@@ -11,7 +11,7 @@ pub struct Workers {
     /// The number.
     pub count: u32,
     ghost some: { 1 ≤ count },
-    ghost few: { count ≤ MAX_WORKERS },
+    ghost at_most: { count ≤ MAX_WORKERS },
 }
 
 impl Workers {

@@ -70,7 +70,7 @@ not_many h = cc
 -- the rows of an accepted fork
 record IsFresh (clones : List Clone) (new : List ℕ) : Type 0 where
   pub fresh : place_of new clones ≡ None
-  pub few : nat_le MAX_CLONES (length clones) ≡ false
+  pub at_most : nat_le MAX_CLONES (length clones) ≡ false
 
 -- the rows of an accepted fork hold nowhere, so its name is new and there is a free place
 fresh_from : (clones : List Clone) (new : List ℕ) → first_row (fork_rows clones new) ≡ Accepted → IsFresh clones new
@@ -78,14 +78,14 @@ fresh_from clones new h =
     let one = first_row-Accepted (is_some (place_of new clones)) NameTaken
     (row (nat_le MAX_CLONES (length clones)) TooManyClones ∷ []) not_taken h in
     let two = first_row-Accepted (nat_le MAX_CLONES (length clones)) TooManyClones [] not_many one.1 in
-    record { fresh = is_none_from (place_of new clones) one.0; few = two.0 }
+    record { fresh = is_none_from (place_of new clones) one.0; at_most = two.0 }
 
 -- and this is so in a state with no other clones, and no more of them
 fresh_again : {t : List ℕ} (full own : List Clone) (new : List ℕ) → HasSameClone t full own → IsFresh full new
     → IsFresh own new
 fresh_again full own new s f = record {
   fresh = place_of-none new own (s.fewer new (clone_named-none new full f.fresh));
-  few = (let few = f.few in let less = s.shorter in grind (arith, nat_tests));
+  at_most = (let few = f.at_most in let less = s.shorter in grind (arith, nat_tests));
 }
 
 -- ---- reply, in another state
@@ -96,7 +96,7 @@ rows_again : (net : Net) (n m : ℕ) (full own : List Clone) (d : Decision) (i k
     → first_row (rows (at_opening net n full) i d) ≡ Accepted → first_row (rows (at_opening net m own) k d) ≡ Accepted
 rows_again net n m full own (Fork new old) i k s e h =
     let f = fresh_again full own new s (fresh_from full new h) in
-    rw (f.fresh, f.few) refl
+    rw (f.fresh, f.at_most) refl
 rows_again net n m full own (Set who at station change) i k s e h = rw e h
 rows_again net n m full own (End who at) i k s e h = h
 
@@ -107,7 +107,7 @@ reply-again : (net : Net) (n m : ℕ) (full own : List Clone) (d : Decision) →
 reply-again net n m full own d less s h =
     let b = in_both (at_opening net n full) (at_opening net m own) d h s in
     reply-IsOpen (at_opening net m own) d (record {
-      few = (let few = b.found.few in grind (arith, nat_tests));
+      at_most = (let few = b.found.at_most in grind (arith, nat_tests));
       running = b.found.running;
       clone = b.place;
       place = b.placed;

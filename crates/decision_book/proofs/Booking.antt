@@ -59,9 +59,9 @@ IsBook-call net lists then calls fronts last call h n e planned =
       right = rw more (each_push (MayFollow net) [] before (NewCall call) h.right
           (answered_in net lists calls fronts last call h n));
       stamps = AreInOrder-push 0 (length fronts.items) calls.items call n.stamp h.stamps;
-      few = h.few;
-      early = h.early;
-      soon = h.soon;
+      at_most = h.at_most;
+      time_max = h.time_max;
+      horizon_max = h.horizon_max;
       lists_are = record {
         planned = planned;
         reserved_clones = ap (λ l. l.reserved_clones) e ∙ h.lists_are.reserved_clones;
@@ -102,9 +102,9 @@ IsBook-front net lists calls fronts last front h above within =
       situation = rw (more, fold_push) (ap (λ s. after_event s (NewFront front)) h.situation);
       right = rw more (each_push (MayFollow net) [] before (NewFront front) h.right (rw h.situation above, within));
       stamps = rw longer (AreInOrder-front 0 (length fronts.items) calls.items h.stamps);
-      few = omega (arith, longer, h.few, above);
-      early = within;
-      soon = h.soon;
+      at_most = omega (arith, longer, h.at_most, above);
+      time_max = within;
+      horizon_max = h.horizon_max;
       lists_are = h.lists_are;
       reserved_calls = h.reserved_calls;
     }

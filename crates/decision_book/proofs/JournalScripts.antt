@@ -61,9 +61,9 @@ accepted_at_start : (s : Situation) (m : ℕ) (d : Decision) → 0 < s.net.horiz
 accepted_at_start s m d some_time few h =
     let o = IsOpen-accepted s d h in
     let running : (0 == s.net.horizon) ≡ false = grind (arith, some_time) in
-    let free : nat_le MAX_CALLS m ≡ false = grind (arith, few, o.few) in
+    let free : nat_le MAX_CALLS m ≡ false = grind (arith, few, o.at_most) in
     reply-IsOpen (at_start s m) d (record {
-      few = free;
+      at_most = free;
       running = running;
       clone = o.clone;
       place = o.place;

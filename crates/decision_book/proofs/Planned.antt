@@ -21,7 +21,7 @@ use Rattle.decision_book.specs.Plans.{IsPlan, IsPlanned, ArePlanned}
 -- each clone is planned, and so is the default one
 pub planned_at : (net : Net) (clones : List Clone) (c : ℕ) → AllByRecursion (IsPlanned net) clones
     → IsPlanned net (clone_at clones c)
-planned_at net [] c h = record { plans = tt; short = omega arith; end = tt }
+planned_at net [] c h = record { plans = tt; length_max = omega arith; end = tt }
 planned_at net (k ∷ ks) zero h = h.0
 planned_at net (k ∷ ks) (suc c) h = planned_at net ks c h.1
 
@@ -32,15 +32,16 @@ planned_forked net clones new old h few =
     let from = planned_at net clones old h.each in
     let fork : Clone = fork_of (clone_at clones old) new in
     record {
-      few = omega (arith, few, length_push clones fork);
-      each = all_push (IsPlanned net) clones fork h.each (record { plans = from.plans; short = from.short; end = tt });
+      at_most = omega (arith, few, length_push clones fork);
+      each = all_push (IsPlanned net) clones fork h.each (record
+          { plans = from.plans; length_max = from.length_max; end = tt });
     }
 
 -- planned clones stay so if one is replaced by a planned one
 planned_replaced : (net : Net) (clones : List Clone) (c : ℕ) (k : Clone) → ArePlanned net clones → IsPlanned net k
     → ArePlanned net (slice_set clones c k)
 planned_replaced net clones c k h p =
-    record { few = rw length-set h.few; each = all_set (IsPlanned net) clones c k h.each p }
+    record { at_most = rw length-set h.at_most; each = all_set (IsPlanned net) clones c k h.each p }
 
 -- so does an end before the horizon
 pub planned_ended : (net : Net) (clones : List Clone) (c at : ℕ) → ArePlanned net clones → at < net.horizon
@@ -48,7 +49,7 @@ pub planned_ended : (net : Net) (clones : List Clone) (c at : ℕ) → ArePlanne
 planned_ended net clones c at h early =
     let from = planned_at net clones c h.each in
     planned_replaced net clones c (record (clone_at clones c) { end = Some at }) h
-    (record { plans = from.plans; short = from.short; end = early })
+    (record { plans = from.plans; length_max = from.length_max; end = early })
 
 -- and so does one more set that may be planned, if the clone's list has a free place
 pub planned_added : (net : Net) (clones : List Clone) (c : ℕ) (plan : Planned) → ArePlanned net clones
@@ -59,7 +60,7 @@ planned_added net clones c plan h s p =
     planned_replaced net clones c (with_plan (clone_at clones c) plan) h
     (record {
       plans = all_push (IsPlan net) (clone_at clones c).plans plan from.plans p;
-      short = omega (arith, s, length_push (clone_at clones c).plans plan);
+      length_max = omega (arith, s, length_push (clone_at clones c).plans plan);
       end = from.end;
     })
 
@@ -84,7 +85,7 @@ pub plan_taken : (net : Net) (at s : ℕ) (station : List ℕ) (change : Change)
     → station_named station net ≡ Some s → s ≤ length net.sites → accepts (site_of net s) change ≡ Ok u
     → at < net.horizon → IsPlan net (record { at = at; station = s; change = change })
 plan_taken net at s station change u number last taken early = record {
-  early = early;
+  time_max = early;
   is_station = record { low = station_named-low station net s number; high = last };
   taken = taken_from (accepts (site_of net s) change) u taken;
 }

@@ -141,7 +141,7 @@ module _ (P : Reply → Type 0) (s : Situation) (of : OfClone P s.front) where
 
 -- the findings of an accepted decision
 pub record IsOpen (j : Situation) (d : Decision) : Type 0 where
-  pub few : nat_le MAX_CALLS j.calls ≡ false
+  pub at_most : nat_le MAX_CALLS j.calls ≡ false
   pub running : (j.front == j.net.horizon) ≡ false
   pub clone : ℕ
   pub place : place_of (subject d) j.clones ≡ Some clone
@@ -162,7 +162,7 @@ open_clone : (j : Situation) (d : Decision) → nat_le MAX_CALLS j.calls ≡ fal
 open_clone j d few running None e h = absurd cc
 open_clone j d few running (Some clone) e h =
     let going = first_row-end (clone_at j.clones clone).end (rows j clone d) h in
-    record { few = few; running = running; clone = clone; place = e; going = going.0; rest = going.1 }
+    record { at_most = few; running = running; clone = clone; place = e; going = going.0; rest = going.1 }
 
 -- an accepted decision found a free place in the journal, a front before the horizon, and its clone without an end
 pub IsOpen-accepted : (j : Situation) (d : Decision) → reply j d ≡ Accepted → IsOpen j d
@@ -175,4 +175,4 @@ IsOpen-accepted j d h =
 
 -- and one that finds all this is accepted
 pub reply-IsOpen : (j : Situation) (d : Decision) → IsOpen j d → reply j d ≡ Accepted
-reply-IsOpen j d o = rw (o.few, o.running, o.place, o.going) o.rest
+reply-IsOpen j d o = rw (o.at_most, o.running, o.place, o.going) o.rest

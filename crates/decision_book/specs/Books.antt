@@ -59,9 +59,9 @@ pub record IsBook (net : Net) (lists : ListsView) (calls : ReservedView Call) (f
   }
   pub right : IsRight net (journal_of calls.items fronts.items)
   pub stamps : AreInOrder 0 (length fronts.items) calls.items
-  pub few : length fronts.items ≤ last
-  pub early : last ≤ net.horizon
-  pub soon : net.horizon ≤ MAX_HORIZON
+  pub at_most : length fronts.items ≤ last
+  pub time_max : last ≤ net.horizon
+  pub horizon_max : net.horizon ≤ MAX_HORIZON
   pub lists_are : AreBookLists net lists
   pub reserved_calls : calls.reserved ≡ MAX_CALLS
 

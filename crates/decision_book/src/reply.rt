@@ -13,7 +13,7 @@ use stations::change::{ChangeFault, accepts};
 
 #[tactic(auto, using(crate::proofs::Planned::planned_forked))]
 fn decide_fork(model: &Model, lists: &mut Lists, clone: u32, new: Name) -> Reply
-    requires there { clone < length lists.old.clones }
+    requires in_range { clone < length lists.old.clones }
     requires lists { AreBookLists model.now lists.old }
     ensures reply { HasReply model.now (first_row (fork_rows lists.old.clones new))
         (clones_with_fork lists.old.clones new clone) result lists.old lists.new }
@@ -42,7 +42,7 @@ fn time_reply(model: &Model, front: u64, at: u64) -> Reply
 
 #[tactic(auto, using(crate::proofs::Planned::planned_ended))]
 fn decide_end(model: &Model, lists: &mut Lists, front: u64, clone: u32, at: u64) -> Reply
-    requires there { clone < length lists.old.clones }
+    requires in_range { clone < length lists.old.clones }
     requires once { (clone_at lists.old.clones clone).end ≡ None }
     requires planned { ArePlanned model.now lists.old.clones }
     ensures reply { HasReply model.now (first_row (time_rows model.now front at))
@@ -65,7 +65,7 @@ fn decide_set(
     station: &Name,
     change: &Change,
 ) -> Reply
-    requires there { clone < length lists.old.clones }
+    requires in_range { clone < length lists.old.clones }
     requires lists { AreBookLists model.now lists.old }
     ensures reply { HasReply model.now
         (first_row (set_rows model.now lists.old.clones front clone at station.now change.now))

@@ -53,7 +53,7 @@ has_turn m m1 m2 a t j rest drew begins few right turn rises =
         begins = subst (λ (x : Hand). IsPrefix x.0.seen j) e begins;
         rises = subst (λ (x : Hand). front_of x.0.seen ≤ front_of j) e rises;
         right = subst (λ (x : Hand). AreAccounts j x.0.accounts) e right;
-        few = few;
+        at_most = few;
       };
       is = comes_to_turn m m1 m2 a t j rest drew turn;
     }

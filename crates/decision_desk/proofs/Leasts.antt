@@ -265,7 +265,7 @@ next_is net helm cs valid right = ap (λ t. window_end (simulation net) t)
 -- it is later than a front below the horizon
 next_is-later : (net : Net) (cs : List Clone) (front : ℕ) → IsNet net → front < net.horizon
     → front < next_front (simulation net) cs front
-next_is-later net cs front valid below = next_front-rises (lawful-stations net valid) cs front valid.ahead below
+next_is-later net cs front valid below = next_front-rises (lawful-stations net valid) cs front valid.lookahead_min below
 
 -- and it is not past the horizon
 next_is-within : (net : Net) (cs : List Clone) (front : ℕ) → next_front (simulation net) cs front ≤ net.horizon

@@ -76,7 +76,7 @@ Allows-front slots id m idle still some_part plain a mine s k one at small =
         next = k.next;
         serve = k.serve;
         words = ap (λ ws. slice_set ws 0 (slice_index ws 0)) k.words;
-        few = k.few;
+        at_most = k.at_most;
         rising = k.rising;
         parts = parts_stay s k id v w at same;
         line = omega (arith, total_set ticket_count s.views id v w at, k.line);
@@ -154,7 +154,7 @@ Allows-full slots id v some_part turn a mine whole s k one at small =
         words = ap (λ ws. slice_set ws 2 ((slice_index ws 2 + 1) % 2 ^ 64)) k.words
             ∙ ap (λ (z : ℕ). front_of k.journal ∷ k.next % 2 ^ 64 ∷ z ∷ length (calls_of k.journal) ∷ [])
             (mod-add-mod k.serve (2 ^ 64) 1);
-        few = k.few;
+        at_most = k.at_most;
         rising = k.rising;
         parts = parts_stay s k id v w at same;
         line = omega (arith, total_set ticket_count s.views id v w at, k.line, was_waiting);
@@ -275,7 +275,7 @@ Splits-pass id v idle still steers two s k at =
       next = k.next;
       serve = k.serve;
       words = k.words;
-      few = k.few;
+      at_most = k.at_most;
       rising = k.rising;
       parts = omega (arith, total_set (λ u. u.parts) s.views id v l at, total_more (λ u. u.parts) vs r, k.parts, two);
       line = omega (
@@ -377,7 +377,7 @@ Joins-pass id v other u idle still some_part idle' still' plain s k at apart at'
       next = k.next;
       serve = k.serve;
       words = k.words;
-      few = k.few;
+      at_most = k.at_most;
       rising = k.rising;
       parts = omega (
         arith,
@@ -460,7 +460,7 @@ IsDesk-opening net = record {
   next = 0;
   serve = 0;
   words = refl;
-  few = omega arith;
+  at_most = omega arith;
   rising = tt;
   parts = refl;
   line = refl;

@@ -266,7 +266,7 @@ Allows-draw slots id m idle still some_part s k one at small =
         words = ap (λ ws. slice_set ws 1 ((slice_index ws 1 + 1) % 2 ^ 64)) k.words
             ∙ ap (λ (z : ℕ). front_of k.journal ∷ z ∷ k.serve % 2 ^ 64 ∷ length (calls_of k.journal) ∷ [])
             (mod-add-mod k.next (2 ^ 64) 1);
-        few = k.few;
+        at_most = k.at_most;
         rising = k.rising;
         parts = parts_stay s k id v w at same;
         line = omega (arith, total_set ticket_count s.views id v w at, k.line, none_waiting v idle);
@@ -323,7 +323,7 @@ serves_at id m some_part waits still s k at false is = (
     next = k.next;
     serve = k.serve;
     words = ap (λ ws. slice_set ws 2 (slice_index ws 2)) k.words;
-    few = k.few;
+    at_most = k.at_most;
     rising = k.rising;
     parts = ap (total (λ u. u.parts)) (set_again s.views id m.0 at) ∙ k.parts;
     line = ap (λ vs. k.serve + total ticket_count vs) (set_again s.views id m.0 at) ∙ k.line;
@@ -369,7 +369,7 @@ serves_at id m some_part waits still s k at true is =
         next = k.next;
         serve = k.serve;
         words = ap (λ ws. slice_set ws 2 (slice_index ws 2)) k.words;
-        few = k.few;
+        at_most = k.at_most;
         rising = k.rising;
         parts = parts_stay s k id v w at same;
         line = omega (arith, total_set ticket_count s.views id v w at, k.line, was_waiting);
@@ -394,7 +394,7 @@ serves_at id m some_part waits still s k at true is =
         some_helm = some_helm_stays s k id v w at same;
         one_helm = one_helm_stays s k id v w at same;
       },
-      (k.journal, f.seen, k.few, f.helm, f.accounts, refl, front_of-prefix v.seen k.journal f.seen k.rising),
+      (k.journal, f.seen, k.at_most, f.helm, f.accounts, refl, front_of-prefix v.seen k.journal f.seen k.rising),
     )
 
 -- a waiting seat may check which ticket is served, and has the turn and the book if it is its own
@@ -479,7 +479,7 @@ Allows-call said a c slots id m is_said mine by turn free s k one at small =
     let as_before : (y : ℕ) → has_ticket y v ≡ has_ticket y w = λ y. refl in
     let was_waiting : ticket_count v ≡ 1 = one_waiting v t.0 in
     let longer : (length (calls_of k.journal) + 1) % 2 ^ 64 ≡ length (calls_of (j ++ NewCall c ∷ [])) =
-    mod-eq_of_lt (omega (arith, k.few)) ∙ (ap (λ l. length (calls_of l) + 1) (sym is)
+    mod-eq_of_lt (omega (arith, k.at_most)) ∙ (ap (λ l. length (calls_of l) + 1) (sym is)
     ∙ sym (calls_of-push_length j c)) in
     let front : front_of k.journal ≡ front_of (j ++ NewCall c ∷ []) = ap front_of (sym is) ∙ sym (front_asked j c) in
     let fits_j : EachFits k.net k.serve j s.views = subst (λ (l : List Event). EachFits k.net k.serve l s.views)
@@ -496,7 +496,7 @@ Allows-call said a c slots id m is_said mine by turn free s k one at small =
             ∙ (ap (λ (z : ℕ). front_of k.journal ∷ k.next % 2 ^ 64 ∷ k.serve % 2 ^ 64 ∷ z ∷ []) longer
             ∙ ap (λ (z : ℕ). z ∷ k.next % 2 ^ 64 ∷ k.serve % 2 ^ 64 ∷ length (calls_of (j ++ NewCall c ∷ [])) ∷ [])
             front);
-        few = omega (arith, calls_of-push_length j c, free);
+        at_most = omega (arith, calls_of-push_length j c, free);
         rising = rises_asked j c (subst (RisesFrom 0) (sym is) k.rising);
         parts = parts_stay s k id v w at same;
         line = omega (arith, total_set ticket_count s.views id v w at, k.line);
@@ -562,7 +562,7 @@ Allows-raise_front g slots id m turn steers above s k one at small =
             ∙ (ap (λ (z : ℕ). g ∷ k.next % 2 ^ 64 ∷ k.serve % 2 ^ 64 ∷ z ∷ []) calls_same
             ∙ ap (λ (z : ℕ). z ∷ k.next % 2 ^ 64 ∷ k.serve % 2 ^ 64 ∷ length (calls_of (j ++ NewFront g ∷ [])) ∷ [])
             (sym (front_raised j g)));
-        few = omega (arith, k.few, calls_same);
+        at_most = omega (arith, k.at_most, calls_same);
         rising = rises_raised j g (subst (RisesFrom 0) (sym is) k.rising) above;
         parts = parts_stay s k id v w at same;
         line = omega (arith, total_set ticket_count s.views id v w at, k.line);
@@ -615,7 +615,7 @@ Allows-leave slots id v some_part turn s k one at small =
         words = ap (λ ws. slice_set ws 2 ((slice_index ws 2 + 1) % 2 ^ 64)) k.words
             ∙ ap (λ (z : ℕ). front_of k.journal ∷ k.next % 2 ^ 64 ∷ z ∷ length (calls_of k.journal) ∷ [])
             (mod-add-mod k.serve (2 ^ 64) 1);
-        few = k.few;
+        at_most = k.at_most;
         rising = k.rising;
         parts = parts_stay s k id v w at same;
         line = omega (arith, total_set ticket_count s.views id v w at, k.line, was_waiting);

@@ -85,7 +85,7 @@ pub record ComesBehind (seen : List Event) (a : Account) (j : List Event) : Type
   pub begins : IsPrefix seen j
   pub rises : front_of seen ≤ front_of j
   pub right : AreAccounts j (a ∷ [])
-  pub few : length (calls_of j) ≤ MAX_CALLS
+  pub at_most : length (calls_of j) ≤ MAX_CALLS
 
 -- a pass that has come to its turn, after the events j
 pub record PassHasTurn (net : Net) (seen : List Event) (a : Account) (me : Me Slot View) (j : List Event) : Type 0 where

@@ -130,7 +130,7 @@ pub record IsDesk (s : State Slot View) : Type 0 where
   pub next : ℕ
   pub serve : ℕ
   pub words : s.words ≡ front_of journal ∷ next % 2 ^ 64 ∷ serve % 2 ^ 64 ∷ length (calls_of journal) ∷ []
-  pub few : length (calls_of journal) ≤ MAX_CALLS
+  pub at_most : length (calls_of journal) ≤ MAX_CALLS
   pub rising : RisesFrom 0 journal
   pub parts : total (λ v. v.parts) s.views ≡ MAX_PARTS
   pub line : serve + total ticket_count s.views ≡ next

@@ -44,8 +44,8 @@ impl Desk {
         model: Arc<Model>,
         analysts: u32,
     ) -> Result<(Desk, Vec<Pass>, Helm), NoMemory>
-        requires some { 1 ≤ analysts }
-        requires few { analysts ≤ MAX_PASSES }
+        requires at_least { 1 ≤ analysts }
+        requires at_most { analysts ≤ MAX_PASSES }
         ensures passes { IfOk result (λ r. r.1.items ≡ new_passes (desk_id r.0) model.value analysts) }
         ensures helm { IfOk result (λ r. r.2 ≡ new_helm (desk_id r.0) model.value analysts) }
     {
@@ -84,7 +84,7 @@ impl Desk {
     fn make_pass(&self, alloc: Global, helm: &mut Helm) -> Result<Pass, NoMemory>
         requires desk { helm.old.desk ≡ desk_id self.now }
         requires parts { 1 < helm.old.parts }
-        requires few { helm.old.made < MAX_PASSES }
+        requires at_most { helm.old.made < MAX_PASSES }
         ensures pass { IfOk result (λ p. p ≡ record {
           desk = helm.old.desk;
           net = helm.old.net;

@@ -112,7 +112,7 @@ impl LegalBook {
         least: &[Option<u64>],
     ) -> Result<Turn, NoMemory>
         requires since { IsSince self.now known least.now }
-        ensures ahead { IfOk result (λ turn. IsTurnAhead self.now
+        ensures is_next { IfOk result (λ turn. IsTurnAhead self.now
             (helm_at known self.now.events) (calls_at known self.now.events) turn.fresh.items turn.front) }
     {
         let book = self.book();

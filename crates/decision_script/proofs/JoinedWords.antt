@@ -20,9 +20,9 @@ is_letter b = nat_le 33 b && nat_le b 126
 
 -- text that is written as a word
 pub record IsWord (word : List ℕ) : Type 0 where
-  pub some : has_bytes word ≡ true
+  pub nonempty : has_bytes word ≡ true
   pub letters : list_all is_letter word ≡ true
-  pub short : nat_le (length word) MAX_NAME_LEN ≡ true
+  pub length_max : nat_le (length word) MAX_NAME_LEN ≡ true
 
 -- a letter or a space
 abbrev pub is_printed : ℕ → Bool
@@ -70,10 +70,10 @@ filter_yes word rest h = ap (λ b. cond b (word ∷ filter has_bytes rest) (filt
 words-join : (ws : List (List ℕ)) → AllByRecursion IsWord ws → words (join_with_byte 32 ws) ≡ ws
 words-join [] h = refl
 words-join (w ∷ []) h = ap (filter has_bytes) (split_none is_letter is_blank w blank_passes h.0.letters)
-    ∙ filter_yes w [] h.0.some
+    ∙ filter_yes w [] h.0.nonempty
 words-join (w ∷ v ∷ ws) h =
     ap (filter has_bytes) (split_at is_letter is_blank w (join_with_byte 32 (v ∷ ws)) 32 blank_passes h.0.letters refl)
-    ∙ filter_yes w (slice_split is_blank (join_with_byte 32 (v ∷ ws))) h.0.some
+    ∙ filter_yes w (slice_split is_blank (join_with_byte 32 (v ∷ ws))) h.0.nonempty
     ∙ ap (λ rest. w ∷ rest) (words-join (v ∷ ws) h.1)
 
 -- ---- list_all

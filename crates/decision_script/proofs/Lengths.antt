@@ -24,9 +24,9 @@ use Rattle.decision_script.proofs.JoinedWords.{IsWord}
 -- words of at most `MAX_NAME_LEN` bytes, each followed by one byte
 joined_length : (ws : List (List ℕ)) → AllByRecursion IsWord ws → length (join_with_byte 32 ws) ≤ 17 * length ws
 joined_length [] h = omega arith
-joined_length (w ∷ []) h = let short = h.0.short in grind (arith, nat_tests)
+joined_length (w ∷ []) h = let short = h.0.length_max in grind (arith, nat_tests)
 joined_length (w ∷ v ∷ ws) h =
-    let short : length w ≤ MAX_NAME_LEN = (let s = h.0.short in grind (arith, nat_tests)) in
+    let short : length w ≤ MAX_NAME_LEN = (let s = h.0.length_max in grind (arith, nat_tests)) in
     omega (arith, length-append w (32 ∷ join_with_byte 32 (v ∷ ws)), joined_length (v ∷ ws) h.1)
 
 -- and the line feed

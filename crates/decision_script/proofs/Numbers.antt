@@ -78,7 +78,7 @@ decimal_is_word n h =
     let some = decimal_nonempty n wide in
     let short = length-decimal-le 10 n (omega arith) (omega arith) wide in
     record {
-      some = grind (arith, nat_tests);
+      nonempty = grind (arith, nat_tests);
       letters = list_all-weaker is_digit is_letter digit_is_letter (decimal n) (digits_decimal digit_numerals n wide);
-      short = grind (arith, nat_tests);
+      length_max = grind (arith, nat_tests);
     }

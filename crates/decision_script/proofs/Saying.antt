@@ -82,59 +82,64 @@ name_is_word (b ∷ bs) h =
     let (lower, rest) = and_parts (is_lower b) (list_all is_name_byte bs) named in
     let letter : is_letter b ≡ true = grind (arith, nat_tests) in
     record {
-      some = grind (arith, nat_tests);
+      nonempty = grind (arith, nat_tests);
       letters = rw (letter, list_all-weaker is_name_byte is_letter name_byte_is_letter bs rest) refl;
-      short = grind (arith, nat_tests);
+      length_max = grind (arith, nat_tests);
     }
 
 -- the text of a change consists of words
 change_words : (param : Param) (a b : ℕ) → IsChange param a b → AllByRecursion IsWord (words_of_change param a b)
 change_words Every a b h = (
-  record { some = refl; letters = refl; short = refl },
+  record { nonempty = refl; letters = refl; length_max = refl },
   (decimal_is_word a (omega arith), (decimal_is_word b (omega arith), tt)),
 )
 change_words Service a b h = (
-  record { some = refl; letters = refl; short = refl },
+  record { nonempty = refl; letters = refl; length_max = refl },
   (decimal_is_word a (omega arith), (decimal_is_word b (omega arith), tt)),
 )
 change_words Hold a b h = (
-  record { some = refl; letters = refl; short = refl },
+  record { nonempty = refl; letters = refl; length_max = refl },
   (decimal_is_word a (omega arith), (decimal_is_word b (omega arith), tt)),
 )
 change_words Servers a b h = (
-  record { some = refl; letters = refl; short = refl },
+  record { nonempty = refl; letters = refl; length_max = refl },
   (decimal_is_word a (omega arith), tt),
 )
-change_words Room a b h = (record { some = refl; letters = refl; short = refl }, (decimal_is_word a (omega arith), tt))
+change_words Room a b h = (
+  record { nonempty = refl; letters = refl; length_max = refl },
+  (decimal_is_word a (omega arith), tt),
+)
 change_words Weight a b h = (
-  record { some = refl; letters = refl; short = refl },
+  record { nonempty = refl; letters = refl; length_max = refl },
   (decimal_is_word a (omega arith), (decimal_is_word b (omega arith), tt)),
 )
 
 -- so does the text of an act
 pub act_words : (act : Act) → IsAct act → AllByRecursion IsWord (words_of_act act)
-act_words (Look who station) h =
-    (record { some = refl; letters = refl; short = refl }, (name_is_word who h.0, (name_is_word station h.1, tt)))
+act_words (Look who station) h = (
+  record { nonempty = refl; letters = refl; length_max = refl },
+  (name_is_word who h.0, (name_is_word station h.1, tt)),
+)
 act_words (Decide (Fork new old)) h = (
-  record { some = refl; letters = refl; short = refl },
-  (name_is_word new h.0, (record { some = refl; letters = refl; short = refl }, (name_is_word old h.1, tt))),
+  record { nonempty = refl; letters = refl; length_max = refl },
+  (name_is_word new h.0, (record { nonempty = refl; letters = refl; length_max = refl }, (name_is_word old h.1, tt))),
 )
 act_words (Decide (Set who at station change)) h = (
-  record { some = refl; letters = refl; short = refl },
+  record { nonempty = refl; letters = refl; length_max = refl },
   (
     name_is_word who h.0,
     (
-      record { some = refl; letters = refl; short = refl },
+      record { nonempty = refl; letters = refl; length_max = refl },
       (decimal_is_word at (omega arith), (name_is_word station h.2, change_words change.param change.a change.b h.3)),
     ),
   ),
 )
 act_words (Decide (End who at)) h = (
-  record { some = refl; letters = refl; short = refl },
+  record { nonempty = refl; letters = refl; length_max = refl },
   (
     name_is_word who h.0,
     (
-      record { some = refl; letters = refl; short = refl },
+      record { nonempty = refl; letters = refl; length_max = refl },
       (decimal_is_word at (omega arith), tt),
     ),
   ),
@@ -142,4 +147,4 @@ act_words (Decide (End who at)) h = (
 
 -- and of a section
 pub section_words : (name : List ℕ) → IsName name → AllByRecursion IsWord (words_of_section name)
-section_words name h = (record { some = refl; letters = refl; short = refl }, (name_is_word name h, tt))
+section_words name h = (record { nonempty = refl; letters = refl; length_max = refl }, (name_is_word name h, tt))

@@ -162,7 +162,7 @@ fn push_section_before(
     force: u32,
     item: &Item,
 ) -> Result<(), NoMemory>
-    requires there { IsAnalyst (length analysts.now) item.now.analyst }
+    requires in_range { IsAnalyst (length analysts.now) item.now.analyst }
     ensures value { OnOk result (out.new.items ≡ out.old.items
         ++ flat_map line_text (section_before analysts.now force item.now)) }
 {
@@ -173,8 +173,8 @@ fn push_section_before(
 }
 
 fn push_items(out: &mut Vec<u8>, analysts: &[Name], items: &[Item]) -> Result<(), NoMemory>
-    requires few { length analysts.now ≤ MAX_ANALYSTS }
-    requires there { All (λ i. IsAnalyst (length analysts.now) i.analyst) items.now }
+    requires at_most { length analysts.now ≤ MAX_ANALYSTS }
+    requires in_range { All (λ i. IsAnalyst (length analysts.now) i.analyst) items.now }
     ensures value { OnOk result (out.new.items ≡ out.old.items
         ++ flat_map line_text (item_lines analysts.now (length analysts.now) items.now)) }
 {

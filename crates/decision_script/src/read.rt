@@ -161,7 +161,7 @@ pub fn ends_line(byte: u8) -> bool
 }
 
 fn read_lines(alloc: Global, text: &[u8]) -> Result<Reader, ScriptFault>
-    requires short { length text.now ≤ MAX_FILE_BYTES }
+    requires length_max { length text.now ≤ MAX_FILE_BYTES }
     ensures ok { IfOk result (λ r. after_lines 1 new_reader (lines text.now) ≡ Ok r) }
     ensures refused { IfErr result (λ e. e ≢ ScriptFault.NoMemory → after_lines 1 new_reader (lines text.now) ≡ Err e) }
 {

@@ -50,7 +50,7 @@ impl Script {
 
     /// The item with this index, from 0.
     pub fn item(&self, i: u32) -> Item
-        requires there { i < length self.now.items }
+        requires in_range { i < length self.now.items }
         ensures value { slice_get self.now.items i ≡ Some result }
         ensures valid { IsScript self.now }
     {
@@ -67,7 +67,7 @@ impl Script {
 
     /// The name of the analyst with this number, from 1; analyst 1 is `main`.
     pub fn analyst(&self, a: u32) -> Name
-        requires there { IsAnalyst (length self.now.analysts) a }
+        requires in_range { IsAnalyst (length self.now.analysts) a }
         ensures value { result ≡ analyst_name self.now.analysts a }
         ensures valid { IsScript self.now }
     {

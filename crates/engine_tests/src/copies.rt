@@ -124,9 +124,9 @@ fn step_counted<L: Ledger>(
 ) -> Option<Flow>
     requires name { blank.name ≡ L.name }
     requires parts { blank.parts ≡ L.parts }
-    requires some { 0 < L.parts }
+    requires nonempty { 0 < L.parts }
     requires proc { IsProc model.now proc }
-    requires early { bound ≤ model.now.horizon }
+    requires time_max { bound ≤ model.now.horizon }
     ensures proc { IfSome result (λ f. IsProc model.now f.done) }
 {
     let mut done = proc;
@@ -146,7 +146,7 @@ fn step_counted<L: Ledger>(
 /// The same with a new step counter.
 fn step_to(alloc: Global, proc: Proc, model: &Model, ends: &CloneEnds, bound: u64) -> Option<Flow>
     requires proc { IsProc model.now proc }
-    requires early { bound ≤ model.now.horizon }
+    requires time_max { bound ≤ model.now.horizon }
     ensures proc { IfSome result (λ f. IsProc model.now f.done) }
 {
     step_counted::<Brand>(alloc, proc, model, ends, bound, Blank::new(1))
@@ -268,7 +268,7 @@ fn three_clones(alloc: Global, model: &Model) -> Option<Proc>
 
 /// They handle the first job together up to 8.
 fn at_eight(alloc: Global, model: &Model, ends: &CloneEnds) -> Option<Proc>
-    requires early { 20 ≤ model.now.horizon }
+    requires time_max { 20 ≤ model.now.horizon }
     ensures proc { IfSome result (λ p. IsProc model.now p) }
 {
     let proc = three_clones(alloc, model)?;
@@ -282,7 +282,7 @@ fn at_eight(alloc: Global, model: &Model, ends: &CloneEnds) -> Option<Proc>
 
 /// From there to the end one of them is alone in its copy.
 fn split_from_eight(alloc: Global, model: &Model) -> Option<bool>
-    requires early { 20 ≤ model.now.horizon }
+    requires time_max { 20 ≤ model.now.horizon }
 {
     let ends = CloneEnds::none(alloc);
     let proc = at_eight(alloc, model, &ends)?;

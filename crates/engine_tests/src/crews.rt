@@ -166,7 +166,7 @@ fn call<L: Ledger, R: Wait>(
     tasks: u32,
     steps: &mut Steps<L>,
 ) -> Result<Vec<u64>, NoMemory>
-    requires few { tasks ≤ MAX_TASKS }
+    requires at_most { tasks ≤ MAX_TASKS }
     ensures steps { IfOk result (λ _. steps.new ≡ steps.old + tasks) }
 {
     let items = items(alloc, tasks)?;
@@ -184,7 +184,7 @@ fn call_forked<L: Ledger, R: Threads + Wait + Sync>(
     tasks: u32,
     steps: &mut Steps<L>,
 ) -> Result<Vec<u64>, NoMemory>
-    requires few { tasks ≤ MAX_TASKS }
+    requires at_most { tasks ≤ MAX_TASKS }
     ensures steps { IfOk result (λ _. steps.new ≡ steps.old + tasks) }
 {
     let items = items(alloc, tasks)?;
@@ -211,7 +211,7 @@ fn have_answers<L: Ledger, R: Threads + Wait + Sync>(
     tasks: u32,
     steps: &mut Steps<L>,
 ) -> bool
-    requires few { tasks ≤ MAX_TASKS }
+    requires at_most { tasks ≤ MAX_TASKS }
 {
     let gate = crew.gate();
     let Ok(outs) = call(rt, alloc, crew, None, tasks, steps) else {
@@ -314,7 +314,7 @@ fn lead_counted<L: Ledger, R: Threads + Wait + Sync>(
 ) -> bool
     requires name { blank.name ≡ L.name }
     requires parts { blank.parts ≡ L.parts }
-    requires some { 0 < L.parts }
+    requires nonempty { 0 < L.parts }
 {
     let mut steps = Steps::<L>::new(blank);
     let right = follow(rt, alloc, crew, plan, &mut steps);

@@ -71,8 +71,8 @@ fn begin_desk(
     text: &str,
     analysts: u32,
 ) -> Result<(Desk, Vec<Pass>, Helm, Option<u64>), NoMemory>
-    requires some { 1 ≤ analysts }
-    requires few { analysts ≤ MAX_PASSES }
+    requires at_least { 1 ≤ analysts }
+    requires at_most { analysts ≤ MAX_PASSES }
     ensures passes { IfOk result (λ r. r.1.items ≡ new_passes (desk_id r.0) r.2.net analysts) }
     ensures helm { IfOk result (λ r. r.2 ≡ new_helm (desk_id r.0) r.2.net analysts) }
     ensures least { IfOk result (λ r. r.3 ≡ least_of (simulation r.2.net) base 0) }
@@ -297,8 +297,8 @@ fn begin_world_with_desk(
     alloc: Global,
     analysts: u32,
 ) -> Result<(Desk, Vec<Pass>, Helm, World), NoMemory>
-    requires some { 1 ≤ analysts }
-    requires few { analysts ≤ MAX_PASSES }
+    requires at_least { 1 ≤ analysts }
+    requires at_most { analysts ≤ MAX_PASSES }
     ensures passes { IfOk result (λ r. r.1.items ≡ new_passes (desk_id r.0) r.2.net analysts) }
     ensures desk { IfOk result (λ r. r.2.desk ≡ desk_id r.0) }
     ensures in_step { IfOk result (λ r. InStep r.2 r.3) }
@@ -333,7 +333,7 @@ fn raise_front<R: Wait>(
 ) -> Result<(World, u64), NoMemory>
     requires may_turn { MayTurn (desk_id desk.now) helm.old world }
     ensures desk { helm.new.desk ≡ helm.old.desk }
-    ensures ahead { IfOk result (λ r. IsAhead helm.new r.0 r.1) }
+    ensures raised { IfOk result (λ r. IsAhead helm.new r.0 r.1) }
 {
     let leasts = least_alone(alloc, &world)?;
     let turn = helm.next(rt, alloc, desk, leasts.as_slice())?;
@@ -355,7 +355,7 @@ fn take_turn_counted<L: Ledger, R: Wait>(
     requires may_turn { MayTurn (desk_id desk.now) helm.old world }
     requires name { blank.name ≡ L.name }
     requires parts { blank.parts ≡ L.parts }
-    requires some { 0 < L.parts }
+    requires nonempty { 0 < L.parts }
     ensures desk { helm.new.desk ≡ helm.old.desk }
     ensures in_step { IfOk result (λ w. InStep helm.new w) }
 {

@@ -29,7 +29,7 @@ fn run_counted<L: Ledger, R: Threads + Wait + Sync>(
 ) -> Option<LiveRun>
     requires name { blank.name ≡ L.name }
     requires parts { blank.parts ≡ L.parts }
-    requires some { 0 < L.parts }
+    requires nonempty { 0 < L.parts }
 {
     let mut steps = Steps::<L>::new(blank);
     let model = read_model(alloc, ONE_DESK.as_bytes()).ok()?;

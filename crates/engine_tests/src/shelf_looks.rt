@@ -45,7 +45,7 @@ fn two_racks(alloc: Global, world: &mut World) -> Result<(Rack, Rack), NoMemory>
 fn opening_two(alloc: Global) -> Result<(World, Vec<Rack>), NoMemory>
     ensures two { IfOk result (λ p. AreTwoAt p.0.net p.0.front p.1.items) }
     ensures opening { IfOk result (λ p. MayOpen p.1.items) }
-    ensures few { IfOk result (λ p. length p.1.items ≤ MAX_STATIONS) }
+    ensures at_most { IfOk result (λ p. length p.1.items ≤ MAX_STATIONS) }
     ensures gate { IfOk result (λ p. HasRack 1 p.1.items) }
     ensures desk { IfOk result (λ p. HasRack 2 p.1.items) }
 {
@@ -119,7 +119,7 @@ fn publish_third<J: Naming, W: Wait + Drop>(
 
 /// Whether a look at the station finds this of the clone, one of two at front 10.
 fn finds_at<J: Naming>(seat: &mut Seat<J>, station: u32, who: &Name, found: Option<Found>) -> bool
-    requires there { HasRack station seat.old }
+    requires has_rack { HasRack station seat.old }
     requires gate { HasRack 1 seat.old }
     requires desk { HasRack 2 seat.old }
     ensures gate { HasRack 1 seat.new }

@@ -56,9 +56,9 @@ fn first(alloc: Global) -> Result<World, NoMemory>
 /// The same world, and the gate's rack.
 fn opening(alloc: Global) -> Result<(World, Vec<Rack>), NoMemory>
     ensures opening { IfOk result (λ p. MayOpen p.1.items) }
-    ensures few { IfOk result (λ p. length p.1.items ≤ MAX_STATIONS) }
+    ensures at_most { IfOk result (λ p. length p.1.items ≤ MAX_STATIONS) }
     ensures seen { IfOk result (λ p. AreSeenUpTo p.0.net p.0.front p.1.items) }
-    ensures there { IfOk result (λ p. HasRack 1 p.1.items) }
+    ensures has_rack { IfOk result (λ p. HasRack 1 p.1.items) }
 {
     let mut world = first(alloc)?;
     let gate = world.rack(alloc, GATE)?;
@@ -74,7 +74,7 @@ fn begin_shelf<J: Naming, W: Wait + Drop>(
 ) -> Result<(World, Stocker<J, W>, Vec<Seat<J>>), NoMemory>
     requires name { (opened.seen.book ≡ J.book) × (opened.pen.nib.key ≡ J.start) }
     ensures seen { IfOk result (λ r. AreSeenUpTo r.0.net r.0.front r.1.published) }
-    ensures there { IfOk result (λ r. HasRack 1 r.1.published) }
+    ensures has_rack { IfOk result (λ r. HasRack 1 r.1.published) }
     ensures quiet { IfOk result (λ r. r.1.has_published ≡ false) }
     ensures seats { IfOk result (λ r. All (λ s. HasRack 1 s) r.2.items) }
 {
@@ -85,8 +85,8 @@ fn begin_shelf<J: Naming, W: Wait + Drop>(
 
 /// Takes a seat.
 fn take_seat<J: Naming>(seats: &mut Vec<Seat<J>>) -> Result<Seat<J>, NoMemory>
-    requires there { All (λ s. HasRack 1 s) seats.old.items }
-    ensures there { All (λ s. HasRack 1 s) seats.new.items }
+    requires has_rack { All (λ s. HasRack 1 s) seats.old.items }
+    ensures has_rack { All (λ s. HasRack 1 s) seats.new.items }
     ensures seat { IfOk result (λ s. HasRack 1 s) }
 {
     let Some(seat) = seats.pop() else {
@@ -97,7 +97,7 @@ fn take_seat<J: Naming>(seats: &mut Vec<Seat<J>>) -> Result<Seat<J>, NoMemory>
 
 /// Two seats, removed from the list.
 fn two_of<J: Naming>(seats: Vec<Seat<J>>) -> Result<(Seat<J>, Seat<J>), NoMemory>
-    requires there { All (λ s. HasRack 1 s) seats.items }
+    requires has_rack { All (λ s. HasRack 1 s) seats.items }
     ensures one { IfOk result (λ p. HasRack 1 p.0) }
     ensures two { IfOk result (λ p. HasRack 1 p.1) }
 {
@@ -135,9 +135,9 @@ fn publish_window<J: Naming, W: Wait + Drop>(
     stocker: &mut Stocker<J, W>,
 ) -> Result<World, NoMemory>
     requires seen { AreSeenUpTo world.net world.front stocker.old.published }
-    requires there { HasRack 1 stocker.old.published }
+    requires has_rack { HasRack 1 stocker.old.published }
     ensures seen { IfOk result (λ w. AreSeenUpTo w.net w.front stocker.new.published) }
-    ensures there { IfOk result (λ w. HasRack 1 stocker.new.published) }
+    ensures has_rack { IfOk result (λ w. HasRack 1 stocker.new.published) }
 {
     let Some((world, rack)) = step_window(alloc, world) else {
         return Err(NoMemory);
@@ -153,7 +153,7 @@ fn publish_all<J: Naming, W: Wait + Drop>(
     stocker: &mut Stocker<J, W>,
 ) -> Result<(), NoMemory>
     requires seen { AreSeenUpTo world.net world.front stocker.old.published }
-    requires there { HasRack 1 stocker.old.published }
+    requires has_rack { HasRack 1 stocker.old.published }
 {
     let mut world = world;
     for _ in 0..HORIZON {
@@ -167,16 +167,16 @@ fn publish_all<J: Naming, W: Wait + Drop>(
 
 /// Looks at the gate. Returns the front.
 fn look_once<J: Naming>(seat: &mut Seat<J>, who: &Name) -> u64
-    requires there { HasRack 1 seat.old }
-    ensures there { HasRack 1 seat.new }
+    requires has_rack { HasRack 1 seat.old }
+    ensures has_rack { HasRack 1 seat.new }
 {
     seat.look(GATE, who).front
 }
 
 /// Learns of a publish, and looks.
 fn look_told<J: Naming>(seat: &mut Seat<J>, told: Told<J>, who: &Name) -> u64
-    requires there { HasRack 1 seat.old }
-    ensures there { HasRack 1 seat.new }
+    requires has_rack { HasRack 1 seat.old }
+    ensures has_rack { HasRack 1 seat.new }
 {
     seat.learn(told);
     look_once(seat, who)
@@ -191,8 +191,8 @@ struct Reader<J: Naming> {
 
 /// Looks at the gate until the run is at its end.
 fn look_often<J: Naming>(seat: Seat<J>, who: &Name) -> Reader<J>
-    requires there { HasRack 1 seat }
-    ensures there { HasRack 1 result.seat }
+    requires has_rack { HasRack 1 seat }
+    ensures has_rack { HasRack 1 result.seat }
 {
     let mut seat = seat;
     let mut rises = true;
@@ -245,7 +245,7 @@ fn run_beside<J: Naming + Send + Sync, W: Wait + Drop + Send, R: Threads + Wait 
     who: &Name,
 ) -> (Stocker<J, W>, (Reader<J>, Reader<J>))
     requires seen { AreSeenUpTo world.net world.front stocker.published }
-    requires there { HasRack 1 stocker.published }
+    requires has_rack { HasRack 1 stocker.published }
     requires one { HasRack 1 one }
     requires two { HasRack 1 two }
     ensures one { HasRack 1 result.1.0.seat }
@@ -275,7 +275,7 @@ fn sees_told<J: Naming, W: Wait + Drop>(
     who: &Name,
     front: u64,
 ) -> bool
-    requires there { HasRack 1 seat.old }
+    requires has_rack { HasRack 1 seat.old }
     ensures published { stocker.new.published ≡ stocker.old.published }
 {
     if stocker.spares.len() == 0 {
@@ -350,7 +350,7 @@ fn looks_are_right<J: Naming, W: Wait + Drop>(
     who: &Name,
 ) -> Result<bool, NoMemory>
     requires seen { AreSeenUpTo world.net world.front stocker.published }
-    requires there { HasRack 1 stocker.published }
+    requires has_rack { HasRack 1 stocker.published }
     requires quiet { stocker.has_published ≡ false }
     requires one { HasRack 1 one }
     requires two { HasRack 1 two }

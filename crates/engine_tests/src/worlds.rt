@@ -159,7 +159,7 @@ fn window_counted<L: Ledger>(
 ) -> Result<World, WorldFault>
     requires name { blank.name ≡ L.name }
     requires parts { blank.parts ≡ L.parts }
-    requires some { 0 < L.parts }
+    requires nonempty { 0 < L.parts }
     ensures net { IfOk result (λ w. w.net ≡ world.net) }
 {
     let bound = bound.min(world.bound());
@@ -187,7 +187,7 @@ fn crew_window_counted<L: Ledger, R: Wait>(
 ) -> Result<World, WorldFault>
     requires name { blank.name ≡ L.name }
     requires parts { blank.parts ≡ L.parts }
-    requires some { 0 < L.parts }
+    requires nonempty { 0 < L.parts }
 {
     let bound = world.bound();
     if world.front() >= bound {

@@ -149,7 +149,7 @@ fn desk_log_is<L: Ledger>(alloc: Global, steps: &mut Steps<L>) -> Option<bool> {
 fn with_steps<L: Ledger>(alloc: Global, blank: Blank) -> bool
     requires name { blank.name ≡ L.name }
     requires parts { blank.parts ≡ L.parts }
-    requires some { 0 < L.parts }
+    requires nonempty { 0 < L.parts }
 {
     let mut steps = Steps::<L>::new(blank);
     whole_models(alloc, &mut steps)

@@ -106,7 +106,7 @@ fn begins<L: Ledger>(
 fn every_kind<L: Ledger>(alloc: Global, blank: Blank) -> bool
     requires name { blank.name ≡ L.name }
     requires parts { blank.parts ≡ L.parts }
-    requires some { 0 < L.parts }
+    requires nonempty { 0 < L.parts }
 {
     let mut steps = Steps::<L>::new(blank);
     let Ok(model) = read_model(alloc, FIVE_KINDS.as_bytes()) else {
@@ -142,7 +142,7 @@ fn copy_goes_its_way<L: Ledger>(
 fn original_and_copy<L: Ledger>(alloc: Global, blank: Blank) -> bool
     requires name { blank.name ≡ L.name }
     requires parts { blank.parts ≡ L.parts }
-    requires some { 0 < L.parts }
+    requires nonempty { 0 < L.parts }
 {
     let mut steps = Steps::<L>::new(blank);
     let Ok(model) = read_model(alloc, FIVE_KINDS.as_bytes()) else {

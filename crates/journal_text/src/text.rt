@@ -132,7 +132,7 @@ fn push_look(out: &mut Vec<u8>, script: &Script, look: &Looked) -> Result<(), No
 }
 
 fn push_look_lines(out: &mut Vec<u8>, script: &Script, looks: &[Looked]) -> Result<(), NoMemory>
-    requires there { All (λ l. IsAnalyst (length script.now.analysts) l.analyst) looks.now }
+    requires in_range { All (λ l. IsAnalyst (length script.now.analysts) l.analyst) looks.now }
     ensures value { OnOk result (out.new.items ≡ out.old.items ++ flat_map (look_line script.now.analysts) looks.now) }
 {
     'looks: for look in looks {
@@ -142,7 +142,7 @@ fn push_look_lines(out: &mut Vec<u8>, script: &Script, looks: &[Looked]) -> Resu
 }
 
 fn push_looks(out: &mut Vec<u8>, script: &Script, looks: &[Looked]) -> Result<(), NoMemory>
-    requires there { All (λ l. IsAnalyst (length script.now.analysts) l.analyst) looks.now }
+    requires in_range { All (λ l. IsAnalyst (length script.now.analysts) l.analyst) looks.now }
     ensures value { OnOk result (out.new.items ≡ out.old.items ++ looks_text script.now.analysts looks.now) }
 {
     push_count(out, b"looks ", looks.len() as u64)?;

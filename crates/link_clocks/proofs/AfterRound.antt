@@ -129,7 +129,7 @@ module _ (net : Net) (cs : List Clone) (k : ℕ) (procs : List ProcView) (flows 
       let a = st.carried c there in
       let copy = all_in (IsCopy net p.0.station) p.0.copies a.0 (world.stood i p.0 p.1).station.proc.copies a.1 in
       let short : length (log_at (simulation net) (clone_at cs c) (i + 1) (cut (i + 1))) ≤ net.limit =
-      subst (λ k. length k ≤ net.limit) (st.log a.0 c a.1 a.2) copy.short in
+      subst (λ k. length k ≤ net.limit) (st.log a.0 c a.1 a.2) copy.length_max in
       omega (arith, short, long)
 
   -- what the copies of a station gained

@@ -34,7 +34,7 @@ unfolding clocks.clock
 link_begins net cs ended procs now next world are = record {
   valid = world.valid;
   count = world.count;
-  few = world.few;
+  at_most = world.at_most;
   ends = world.ends;
   for_stations = world.for_stations;
   clocks_are = are;
@@ -67,9 +67,9 @@ pub link_ends : (net : Net) (cs : List Clone) (ended : List (ℕ × ℕ)) (k : �
     WorldStands net cs ended net.horizon procs
 link_ends net cs ended k now next procs world done = record {
   valid = world.valid;
-  early = omega arith;
+  time_max = omega arith;
   count = world.count;
-  few = world.few;
+  at_most = world.at_most;
   ends = world.ends;
   for_stations = world.for_stations;
   each = λ i p got.
@@ -116,7 +116,8 @@ module _ (net : Net) (cs : List Clone) (ended : List (ℕ × ℕ)) (k : ℕ) (no
 
   -- one more round can be counted
   pub round-fits : ¬ (AreAllDone net k) → k < MAX_HORIZON
-  round-fits going = let b = rounds-below net k world.valid going in let h = world.valid.soon in omega (arith, b, h)
+  round-fits going = let b = rounds-below net k world.valid going in let h = world.valid.horizon_max in omega
+      (arith, b, h)
 
 -- ---- after a round
 
@@ -142,7 +143,7 @@ module _ (net : Net) (cs : List Clone) (ended : List (ℕ × ℕ)) (k : ℕ) (no
   link_after none news after later given are = record {
     valid = world.valid;
     count = given.count ∙ length-map flows (λ (f : Flow). f.done) ∙ count ∙ world.count;
-    few = world.few;
+    at_most = world.at_most;
     ends = world.ends;
     for_stations = world.for_stations;
     clocks_are = are;

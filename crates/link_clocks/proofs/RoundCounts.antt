@@ -17,14 +17,14 @@ pub rounds-below : (net : Net) (k : ℕ) → IsNet net → ¬ (AreAllDone net k)
 rounds-below net k valid going = elim (cases_lt k net.horizon) [
   | inl l ↦ l
   | inr l ↦ absurd (going (λ s is. clock-done (delays_of net) (length net.sites) net.horizon 1
-      (λ x r d i. let m = delay-min net valid x r d i in let a = valid.ahead in omega (arith, m, a)) k s
+      (λ x r d i. let m = delay-min net valid x r d i in let a = valid.lookahead_min in omega (arith, m, a)) k s
       (let e : k * 1 ≡ k = omega arith in omega (arith, l, e))))
 ]
 
 -- the rounds are at most the horizon over the lookahead, plus one
 pub rounds-few : (net : Net) (k : ℕ) → IsNet net → AreAllRounds net k → k ≤ net.horizon / net.lookahead + 1
 rounds-few net k valid are = rounds-at_most (delays_of net) (length net.sites) net.horizon net.lookahead
-    (delay-min net valid) k (let a = valid.ahead in omega (arith, a)) are
+    (delay-min net valid) k (let a = valid.lookahead_min in omega (arith, a)) are
 
 -- a run that stops at the first done round has made the rounds
 pub rounds-made : (net : Net) (k : ℕ) → AreAllDone net k → ((j : ℕ) → k ≡ suc j → ¬ (AreAllDone net j)) →

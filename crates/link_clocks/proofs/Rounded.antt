@@ -31,7 +31,7 @@ pub record HasRounded (net : Net) (cs : List Clone) (ended : List (ℕ × ℕ)) 
       → rounds ≡ suc k → HasClocks net rounds after later → LinkStands net cs ended rounds after later given
   pub steps : over ≡ None → steps1 + total_after w.net w.clones w.rounds
       ≡ steps0 + total_after w.net w.clones (suc w.rounds)
-  pub short : over ≡ None → NoneBeyondAfter w.net w.clones (suc w.rounds)
+  pub length_max : over ≡ None → NoneBeyondAfter w.net w.clones (suc w.rounds)
 
 module _ (net : Net) (cs : List Clone) (ended : List (ℕ × ℕ)) (k : ℕ) (now next : List ℕ) (procs : List ProcView)
     (w : LinkView) (world : LinkStands net cs ended k now next procs)
@@ -48,7 +48,7 @@ module _ (net : Net) (cs : List Clone) (ended : List (ℕ × ℕ)) (k : ℕ) (no
     where
       stations : AreStations net procs
       stations = record {
-        few = let n = world.count in let few = world.valid.few in omega (arith, n, few);
+        at_most = let n = world.count in let few = world.valid.at_most in omega (arith, n, few);
         procs_in_order = λ i p got. (world.each i p got).station;
       }
 
@@ -60,7 +60,7 @@ module _ (net : Net) (cs : List Clone) (ended : List (ℕ × ℕ)) (k : ℕ) (no
       bounded : AreBounds net procs bounds
       bounded = record {
         count = count;
-        early = λ i d l. let c = bound-clock i (omega (arith, l, count)) in
+        time_max = λ i d l. let c = bound-clock i (omega (arith, l, count)) in
             let b = clock-within (delays_of net) (length net.sites) net.horizon (suc k) (i + 1) in
             let r = get_or_default bounds i d 0 l in
             omega (arith, c, b, r);
@@ -104,7 +104,7 @@ module _ (net : Net) (cs : List Clone) (ended : List (ℕ × ℕ)) (k : ℕ) (no
           (subst (λ n. HasClocks net n after later) one are));
       steps = λ o. let grown = total_grows net cs k procs flows stepped (none o) in
           let taken = s.steps_are in omega (arith, grown, taken);
-      short = λ o. none_beyond net cs k procs flows stepped (none o);
+      length_max = λ o. none_beyond net cs k procs flows stepped (none o);
     }
 
   -- after the step, this holds

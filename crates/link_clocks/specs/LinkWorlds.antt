@@ -36,7 +36,7 @@ pub record LinkStands (net : Net) (cs : List Clone) (ended : List (ℕ × ℕ)) 
     (procs : List ProcView) : Type 0 where
   pub valid : IsNet net
   pub count : length procs ≡ length net.sites
-  pub few : length cs ≤ MAX_CLONES
+  pub at_most : length cs ≤ MAX_CLONES
   pub ends : ends_in net.horizon ended ≡ ends_of (simulation net) cs
   pub for_stations : AllAreForStations (simulation net) cs
   pub clocks_are : HasClocks net k now next

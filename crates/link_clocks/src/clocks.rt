@@ -36,7 +36,7 @@ fn lower_by_links(links: &[Link], x: u32, time: u64, bounds: &mut [u64])
 // Sets each bound to the next clock of its station. It allocates nothing.
 fn set_to_next(model: &Model, clocks: &[u64], bounds: &mut [u64])
     requires clocks { length clocks.now ≡ length model.now.sites }
-    requires early { AllByRecursion (λ t. t ≤ model.now.horizon) clocks.now }
+    requires time_max { AllByRecursion (λ t. t ≤ model.now.horizon) clocks.now }
     requires bounds { length bounds.old ≡ length model.now.sites }
     ensures next { AreNextClocks model.now clocks.now bounds.new }
 {

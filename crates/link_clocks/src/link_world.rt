@@ -155,7 +155,7 @@ impl LinkWorld {
         ensures steps { IfOk result (λ w. steps.new + total_after self.net self.clones self.rounds
             ≡ steps.old + total_after self.net self.clones (suc self.rounds)) }
         // no log is beyond the limit, or the fault names the first that is
-        ensures short { IfOk result (λ w. NoneBeyondAfter self.net self.clones (suc self.rounds)) }
+        ensures length_max { IfOk result (λ w. NoneBeyondAfter self.net self.clones (suc self.rounds)) }
         ensures fault { IfErr result (λ e. IsRoundFault self.net self.clones self.rounds steps.old steps.new e) }
     {
         let LinkWorld {
@@ -201,7 +201,7 @@ impl LinkWorld {
         ensures value { IfOk result (λ w. w ≡ record self { rounds = suc self.rounds }) }
         ensures steps { IfOk result (λ w. steps.new + total_after self.net self.clones self.rounds
             ≡ steps.old + total_after self.net self.clones (suc self.rounds)) }
-        ensures short { IfOk result (λ w. NoneBeyondAfter self.net self.clones (suc self.rounds)) }
+        ensures length_max { IfOk result (λ w. NoneBeyondAfter self.net self.clones (suc self.rounds)) }
         ensures fault { IfErr result (λ e. IsRoundFault self.net self.clones self.rounds steps.old steps.new e) }
     {
         let LinkWorld {
@@ -257,7 +257,7 @@ impl LinkWorld {
         ensures steps { IfOk result (λ w. steps.new + total_after self.net self.clones self.rounds
             ≡ steps.old + total_after self.net self.clones (suc self.rounds)) }
         // no log is beyond the limit, or the fault names the first that is
-        ensures short { IfOk result (λ w. NoneBeyondAfter self.net self.clones (suc self.rounds)) }
+        ensures length_max { IfOk result (λ w. NoneBeyondAfter self.net self.clones (suc self.rounds)) }
         ensures fault { IfErr result (λ e. IsRoundFault self.net self.clones self.rounds steps.old steps.new e) }
     {
         let shares = self.wants_crew() || crew.gate().shares_small_work();

@@ -50,11 +50,11 @@ module _ {S M N : Type 0} {sim : Simulation S M N} {Good : ℕ → S → Type 0}
                 known = (accounted law c front).pending m b.0;
                 here = a.1;
                 late = omega arith;
-                early = soon;
+                time_max = soon;
               }),
           (λ w.
               let late = w.late in
-              let soon = w.early in
+              let soon = w.time_max in
               elim ((accounted law c front).all m w.known) [
                 | inl a ↦
                     let t : sim.time a.0.msg < low =
@@ -105,7 +105,7 @@ module _ {S M N : Type 0} {sim : Simulation S M N} {Good : ℕ → S → Type 0}
       ];
       here = w.here;
       late = subst (λ t. t ≤ sim.time m) (e s here) w.late;
-      early = w.early;
+      time_max = w.time_max;
     }
 
 -- ---- Stands, StandsAtCut

@@ -80,7 +80,7 @@ module _ {S M N : Type 0} {sim : Simulation S M N} {Good : ℕ → S → Type 0}
           | inl a ↦ a
           | inr a ↦
               let late = g.late a.entry a.is_entry in
-              let early = g.early a.entry a.is_entry in
+              let early = g.time_max a.entry a.is_entry in
               let far : next (sim.to z) ≤ sim.time z =
               round.apart x a.state a.entry.msg z a.good a.is_sent (λ e. n (sym e ∙ here))
               (omega (arith, late, early)) in
@@ -185,12 +185,12 @@ module _ {S M N : Type 0} {sim : Simulation S M N} {Good : ℕ → S → Type 0}
         subst (In e) (sym (gains s).is) (append_new (log_at sim c s (cut s)) more e i) in
         let here : sim.to e.msg ≡ s = (of_log law c s (next s) e j).1 in
         let late = (gains s).late e i in
-        let early = (gains s).early e i in
+        let early = (gains s).time_max e i in
         let waits : IsKnown sim c cut e.msg → In e.msg q = λ k. (waiting.exact e.msg).1 (record {
           known = k;
           here = here;
           late = omega (arith, late, early);
-          early = omega (arith, early);
+          time_max = omega (arith, early);
         }) in
         elim (log_known law c s (next s) e j) [
           | inl a ↦ inl (waits (inl a))
@@ -256,7 +256,7 @@ module _ {S M N : Type 0} {sim : Simulation S M N} {Good : ℕ → S → Type 0}
         let there : Outcome S M N = sim.handle s now e.msg in
         let in_it : In e more = subst (In e) (sym is) (append_new done (e ∷ todo) e (inl refl)) in
         let middle = sorted_middle (by_msg sim) done e todo (subst (Sorted (by_msg sim)) is more_rises) in
-        let early = (gains s).early e in_it in
+        let early = (gains s).time_max e in_it in
         -- no earlier entry has this message
         let unhandled : (d : Entry M N) → In d done → d.msg ≡ e.msg → ⊥ = λ d i same.
         not_below_itself o.total e.msg (subst (λ u. sim.order u e.msg ≡ Less) same
@@ -362,7 +362,7 @@ module _ {S M N : Type 0} {sim : Simulation S M N} {Good : ℕ → S → Type 0}
           m = e.msg;
           q = rest;
           pending = is_head;
-          early = early;
+          time_max = early;
           is = same_station after
               (replay-push sim s st done e)
               (sym (append_assoc (log_at sim c s (cut s)) done (e ∷ []))
@@ -427,7 +427,7 @@ module _ {S M N : Type 0} {sim : Simulation S M N} {Good : ℕ → S → Type 0}
         let late = w.late in
         let later = round.later s in
         let unhandled : (e : Entry M N) → In e (gains s).more → e.msg ≡ m → ⊥ = λ e i same.
-        let early = (gains s).early e i in
+        let early = (gains s).time_max e i in
         let t = ap sim.time same in
         omega (arith, early, t, late) in
         let was : IsKnown sim c cut m → In m (window_from sim c cut next s (q s)).pending = λ k.
@@ -436,7 +436,7 @@ module _ {S M N : Type 0} {sim : Simulation S M N} {Good : ℕ → S → Type 0}
             known = k;
             here = w.here;
             late = omega (arith, late, later);
-            early = w.early;
+            time_max = w.time_max;
           })),
           unhandled,
         ) in
@@ -493,13 +493,13 @@ module _ {S M N : Type 0} {sim : Simulation S M N} {Good : ℕ → S → Type 0}
                   ];
                   here = w.here;
                   late = omega (arith, late, early);
-                  early = early;
+                  time_max = early;
                 }
             | inr k ↦ record {
               known = known_next s m k.0;
               here = k.1;
               late = omega (arith, late, early);
-              early = early;
+              time_max = early;
             }
           ]
       | inr a ↦
@@ -509,14 +509,14 @@ module _ {S M N : Type 0} {sim : Simulation S M N} {Good : ℕ → S → Type 0}
           let b = in_others sim.to r sends m (subst (In m) (aside_is r) a.1.1) in
           let d = sent_with_entry law c r (state_at sim c r (cut r)) (gains r).more m (good_at law c r (cut r)) b.0 in
           let late = (gains r).late d.entry d.is_entry in
-          let soon = (gains r).early d.entry d.is_entry in
+          let soon = (gains r).time_max d.entry d.is_entry in
           let far : next (sim.to m) ≤ sim.time m =
           round.apart r d.state d.entry.msg m d.good d.is_sent b.1 (omega (arith, late, soon)) in
           record {
             known = known_next r m b.0;
             here = here;
             late = subst (λ x. next x ≤ sim.time m) here far;
-            early = early;
+            time_max = early;
           }
     ]
 
@@ -529,5 +529,5 @@ module _ {S M N : Type 0} {sim : Simulation S M N} {Good : ℕ → S → Type 0}
           ∙ replay-append sim s (sim.setup s).state (log_at sim c s (cut s)) (gains s).more
           ∙ ap (λ u. replay sim.to sim.handle s u (gains s).more) (sym (state_is_replay law c s (cut s)))
           ∙ ap (λ u. u.at.state) (window_is s (q s) (waiting s));
-      waiting = λ s m. (λ w. (w.early, waits_next s m w), λ g. next_waits s m g.0 g.1);
+      waiting = λ s m. (λ w. (w.time_max, waits_next s m w), λ g. next_waits s m g.0 g.1);
     }

@@ -33,7 +33,7 @@ module _ {S M N : Type 0} (sim : Simulation S M N) where
     pub known : IsKnown c cut m
     pub here : sim.to m ≡ s
     pub late : cut s ≤ sim.time m
-    pub early : sim.time m < end_of sim c
+    pub time_max : sim.time m < end_of sim c
 
   -- q has exactly the messages that wait at station s, in order
   pub record AreWaiting (c : Clone) (cut : ℕ → ℕ) (s : ℕ) (q : List M) : Type 0 where

@@ -71,7 +71,7 @@ fn finish_beside<G: Gate, L: Ledger, R: Wait>(
     bell: &Bell,
     steps: &mut Steps<L>,
 ) -> Result<LinkWorld, StudyFault>
-    requires there { (w : LinkView) × (given.old ≡ Some (tt, w)) }
+    requires is_given { (w : LinkView) × (given.old ≡ Some (tt, w)) }
     ensures goes { IfOk result (λ w. IfSome given.old (λ g. HasGoneOn g.1 w steps.old steps.new)) }
     ensures stops { IfErr result (λ e. IfSome given.old (λ g. HasStopped g.1 steps.old steps.new e)) }
     ensures done { IfOk result (λ w. AreAllDone w.net w.rounds) }

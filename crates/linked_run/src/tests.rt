@@ -84,7 +84,7 @@ fn clocks_are<L: Ledger>(
 ) -> Option<bool>
     requires name { blank.name ≡ L.name }
     requires parts { blank.parts ≡ L.parts }
-    requires some { 0 < L.parts }
+    requires nonempty { 0 < L.parts }
 {
     let mut steps = Steps::<L>::new(blank);
     if model.len() < 2 {
@@ -111,7 +111,7 @@ fn run_base<L: Ledger>(
 ) -> Result<LinkedWorld, StudyFault>
     requires name { blank.name ≡ L.name }
     requires parts { blank.parts ≡ L.parts }
-    requires some { 0 < L.parts }
+    requires nonempty { 0 < L.parts }
 {
     let mut steps = Steps::<L>::new(blank);
     run_linked_sequentially(alloc, model, &[], &mut steps)
@@ -151,7 +151,7 @@ fn four_workers_make_the_rounds<L: Ledger, R: Threads + Wait + Sync>(
 ) -> Option<bool>
     requires name { blank.name ≡ L.name }
     requires parts { blank.parts ≡ L.parts }
-    requires some { 0 < L.parts }
+    requires nonempty { 0 < L.parts }
 {
     let mut steps = Steps::<L>::new(blank);
     let model = model_of(alloc, ONE_DESK)?;

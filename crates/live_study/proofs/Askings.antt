@@ -23,7 +23,12 @@ with_one : (ds : List Decision) (a : Account) (j : List Event) (c : Call) → Ar
     → AreAsked (ds ++ c.decision ∷ []) (with_call a j c)
 with_one ds a j c s = record {
   all = λ e. decisions_in-push a.calls (length (calls_of j), c) ∙ ap (λ l. l ++ c.decision ∷ []) (s.all e);
-  few = omega (arith, length-append a.calls ((length (calls_of j), c) ∷ []), length-append ds (c.decision ∷ []), s.few);
+  at_most = omega (
+    arith,
+    length-append a.calls ((length (calls_of j), c) ∷ []),
+    length-append ds (c.decision ∷ []),
+    s.at_most,
+  );
   fewer = λ e. omega (
     arith,
     length-append a.calls ((length (calls_of j), c) ∷ []),
@@ -36,8 +41,8 @@ with_one ds a j c s = record {
 with_full : (ds : List Decision) (a : Account) (d : Decision) → AreAsked ds a → AreAsked (ds ++ d ∷ []) (full_account a)
 with_full ds a d s = record {
   all = λ e. absurd (true≢false e);
-  few = omega (arith, length-append ds (d ∷ []), s.few);
-  fewer = λ e. omega (arith, length-append ds (d ∷ []), s.few);
+  at_most = omega (arith, length-append ds (d ∷ []), s.at_most);
+  fewer = λ e. omega (arith, length-append ds (d ∷ []), s.at_most);
 }
 
 -- ---- IsAsked

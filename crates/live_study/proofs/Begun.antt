@@ -141,7 +141,7 @@ many_analysts desk net n passes analysts are new = sym (length-map analysts (λ 
 ready_new : (desk : TableId) (net : Net) (x : ℕ) (p : PassView) → p ≡ new_pass desk net x
     → (p.desk ≡ desk) × AreAsked [] p.account
 ready_new desk net x p is = subst (λ (q : PassView). (q.desk ≡ desk) × AreAsked [] q.account) (sym is)
-    (refl, record { all = λ e. refl; few = omega arith; fewer = λ e. absurd cc })
+    (refl, record { all = λ e. refl; at_most = omega arith; fewer = λ e. absurd cc })
 
 -- analysts with new passes of a desk have asked nothing there yet
 pub all_ready : (desk : TableId) (net : Net) (n : ℕ) (passes : List PassView) (analysts : List SeatedAnalyst)

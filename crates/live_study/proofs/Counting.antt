@@ -95,7 +95,7 @@ few_calls : (desk : TableId) (others' : List SeatedAnalyst) → AllDone desk oth
     → total_calls others' ≤ total_todo others'
 few_calls desk [] all = omega arith
 few_calls desk (a ∷ others') all =
-    omega (arith, all.0.all.few, length-decisions_asked a.0.todo.items, few_calls desk others' all.1)
+    omega (arith, all.0.all.at_most, length-decisions_asked a.0.todo.items, few_calls desk others' all.1)
 
 -- ---- AllAsked, AllDone
 -- if all calls together are as many as a journal holds, none of these was answered Full
@@ -118,7 +118,7 @@ asked_each desk events before (a ∷ others') all right whole few =
     ))) in (
       ap decisions_in (sym right.0.calls) ∙ all.0.all.all not,
       asked_each desk events (before + length a.0.todo.items) others' all.1 right.1
-          (λ e. omega (arith, whole e, all.0.all.few, length-decisions_asked a.0.todo.items)) (omega (arith, few)),
+          (λ e. omega (arith, whole e, all.0.all.at_most, length-decisions_asked a.0.todo.items)) (omega (arith, few)),
     )
 
 -- if all have asked all, few enough for a journal, each one's calls in it are that one's decisions

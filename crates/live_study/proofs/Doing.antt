@@ -120,7 +120,7 @@ looked_next net acts who station old new xs ys l h p there r later a w s items n
       r);
   rise = subst NeverFall (sym items) (never_fall-with old.looks.items l h.rise
       (all_weaker (IsReadLook net xs) (λ k. IsNoEarlier k l) old.looks.items later h.read));
-  there = there;
+  has_rack = there;
 }
 
 -- no act asks for more than one look

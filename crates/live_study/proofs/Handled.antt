@@ -46,7 +46,7 @@ module _ (net : Net) (valid : IsNet net) (front : ℕ) where
       let o = IsOpen-accepted (situation net clones front) (Fork new old) accepted in
       ap (λ i. handled_once net (clones_with_fork clones new i) s front) (ap (λ p. unwrap_or p 0) o.place)
       ∙ handled-forked (simulation net) same_entry same_entry-Decides clones new o.clone s front
-      (record { there = place_of-bounds old clones o.clone o.place; going = o.going })
+      (record { in_range = place_of-bounds old clones o.clone o.place; going = o.going })
   handled_once-decided clones (Set who at station change) accepted s =
       let o = IsOpen-accepted (situation net clones front) (Set who at station change) accepted in
       let plan : Planned = plan_of_set net at station change in
@@ -54,7 +54,7 @@ module _ (net : Net) (valid : IsNet net) (front : ℕ) where
       ap (λ i. handled_once net (clones_with_plan clones i plan) s front) (ap (λ p. unwrap_or p 0) o.place)
       ∙ handled-added (lawful-stations net valid) same_entry clones front s o.clone plan
       (set_message (length (clone_at clones o.clone).plans) plan)
-      (record { there = place_of-bounds who clones o.clone o.place; is = refl; late = m.late })
+      (record { in_range = place_of-bounds who clones o.clone o.place; is = refl; late = m.late })
   handled_once-decided clones (End who at) accepted s =
       let o = IsOpen-accepted (situation net clones front) (End who at) accepted in
       let m = may_end net clones front o.clone at who o.rest in

@@ -93,9 +93,9 @@ shown_first net many p published h e = subst (AreShownOf p.helm p.world) (sym e)
       k.clones ∙ ap (λ (w : WorldView). w.clones) h.world,
     );
   }) h.racks.now;
-  early = all_weaker (IsRackNow p.world) (λ (q : RackView). q.front ≤ p.world.front) p.racks.items
+  time_max = all_weaker (IsRackNow p.world) (λ (q : RackView). q.front ≤ p.world.front) p.racks.items
       (λ r k. omega (arith, k.front)) h.racks.now;
-  there = subst (λ (n : Net). HasRacks n p.racks.items) (sym (world_net net many p h)) (has_racks net many p h);
+  has_rack = subst (λ (n : Net). HasRacks n p.racks.items) (sym (world_net net many p h)) (has_racks net many p h);
   last = λ at s low high.
       let own : s ≤ length net.sites = subst (λ (n : Net). s ≤ length n.sites) (world_net net many p h) high in
       let has = has_racks net many p h s (record { low = low; high = own }) in
@@ -120,7 +120,7 @@ none_made net a opening f there = (
     asked = ap (map look_of) f.quiet;
     read = subst (AllByRecursion (IsReadLook net a.1)) (sym f.quiet) tt;
     rise = subst NeverFall (sym f.quiet) tt;
-    there = subst (HasRacks net) (sym f.seat) there;
+    has_rack = subst (HasRacks net) (sym f.seat) there;
   },
   omega (arith, f.reserved),
 )

@@ -61,13 +61,13 @@ round_begins old new w v published h net r same rises = record {
         (λ q k. subst (λ (n : Net). IsRackOf n new.helm q) (sym net)
         (rack_later old.net old.helm new.helm q (raises_prefix old new v.front r) k))
         h.racks;
-    early = all_weaker (λ (q : RackView). q.front ≤ w.front) (λ (q : RackView). q.front ≤ v.front) published
-        (λ q k. omega (arith, k, rises)) h.early;
-    there = subst (λ (n : Net). HasRacks n published) (sym same) h.there;
+    time_max = all_weaker (λ (q : RackView). q.front ≤ w.front) (λ (q : RackView). q.front ≤ v.front) published
+        (λ q k. omega (arith, k, rises)) h.time_max;
+    has_rack = subst (λ (n : Net). HasRacks n published) (sym same) h.has_rack;
     last = λ e s low high. absurd (omega (arith, low, high));
   };
   below = all_weaker (λ (q : RackView). q.front ≤ w.front)
-      (λ (q : RackView). 0 < q.station → q.front < v.front) published (λ q k s. omega (arith, k, rises)) h.early;
+      (λ (q : RackView). 0 < q.station → q.front < v.front) published (λ q k s. omega (arith, k, rises)) h.time_max;
 }
 
 -- a rack of the next station at the front of the world may follow those that are published
@@ -108,8 +108,8 @@ round_goes_on h w done r published shown at net clones station front = record {
       at = subst (λ f. AreAtFront h.net h.helm f r.clones) (sym front)
           (subst (λ cs. AreAtFront h.net h.helm w.front cs) (sym clones) at);
     });
-    early = all_push (λ (q : RackView). q.front ≤ w.front) published r shown.up_to.early (omega (arith, front));
-    there = λ s is. HasRack-push s published r (shown.up_to.there s is);
+    time_max = all_push (λ (q : RackView). q.front ≤ w.front) published r shown.up_to.time_max (omega (arith, front));
+    has_rack = λ s is. HasRack-push s published r (shown.up_to.has_rack s is);
     last = λ e s low high. ⊎_elim
         (λ (k : s < done + 1).
         let b = shown.up_to.last e s low (omega (arith, k)) in
@@ -133,8 +133,8 @@ pub round_skips : (h : HelmView) (w : WorldView) (done : ℕ) (published : List 
 round_skips h w done published shown not = record {
   up_to = record {
     racks = shown.up_to.racks;
-    early = shown.up_to.early;
-    there = shown.up_to.there;
+    time_max = shown.up_to.time_max;
+    has_rack = shown.up_to.has_rack;
     last = λ e. absurd (not e);
   };
   below = all_weaker (λ (q : RackView). done < q.station → q.front < w.front)
@@ -151,7 +151,7 @@ pub may_show : (h : HelmView) (w : WorldView) (station : ℕ) (r : RackView) (pu
 may_show h w station r published is shown of within net own front =
     let low = is.low in
     let next : r.station ≡ station - 1 + 1 = omega (arith, own, low) in (
-      subst (λ s. HasRack s published) (sym own) (shown.up_to.there station is),
+      subst (λ s. HasRack s published) (sym own) (shown.up_to.has_rack station is),
       may_publish h w (station - 1) r published shown (net ∙ of) next front
           (let same = ap (λ (n : Net). n.horizon) net in omega (arith, within, front, same)),
     )

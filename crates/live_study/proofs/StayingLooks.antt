@@ -96,7 +96,7 @@ looks_stay_true net valid events s who g right t =
     let keep = logs_stay net valid events g.front t.clones right t.at in
     let many : length t.clones ≡ g.clones = sym t.many in
     record {
-      few = omega (arith, keep.many, many);
+      at_most = omega (arith, keep.many, many);
       found = subst (λ (n : ℕ). FindsClone net (take n final) s g.front who g.found) many
           (first_found net g.front t.clones final keep s who g.found t.found);
     }
@@ -116,7 +116,7 @@ pub glances_stay_true : (net : Net) → IsNet net → GlancesStayTrue net
 glances_stay_true net valid old new ds s who g come many found =
     let keep = come_of-keep net valid g.front ds old new come in
     record {
-      few = omega (arith, keep.many, many);
+      at_most = omega (arith, keep.many, many);
       found = subst (λ (n : ℕ). FindsClone net (take n new) s g.front who g.found) (sym many)
           (first_found net g.front old new keep s who g.found found);
     }

@@ -157,8 +157,8 @@ goes_ahead h w turn new cs fresh w2 i t e taken valid none =
       bound_is = sym (front_raised j turn.front);
       above = omega (arith, of_front, calls, above);
       within = omega (arith, next);
-      early = omega (arith, within, horizon);
-      short = λ f there less.
+      time_max = omega (arith, within, horizon);
+      length_max = λ f there less.
           let early = before_last h.net j turn.front f t.over.right there less in
           none_earlier w2.net w2.clones f w2.front valid (omega (arith, early, of_front, calls)) none;
     })
@@ -174,7 +174,7 @@ stops_ahead h w bound old_steps new_steps (EventLimit station who kept) ahead fa
           (subst (λ l. IsFirstBeyond h.net l bound station who) ahead.clones
           (subst (λ (n : Net). IsFirstBeyond n w.clones bound station who) ahead.net fault.0));
       none_before = λ f there less. subst (λ l. NoneBeyond h.net l f) ahead.clones
-          (subst (λ (n : Net). NoneBeyond n w.clones f) ahead.net (ahead.short f there (omega (arith, less, is))));
+          (subst (λ (n : Net). NoneBeyond n w.clones f) ahead.net (ahead.length_max f there (omega (arith, less, is))));
     }
 
 -- the front is raised after calls

@@ -23,7 +23,7 @@ decisions_asked acts = flat_map (λ act. decisions_onto act []) acts
 -- these decisions were asked: all are in the journal, or some was answered Full, and so is not
 pub record AreAsked (ds : List Decision) (a : Account) : Type 0 where
   pub all : a.full ≡ false → decisions_in a.calls ≡ ds
-  pub few : length a.calls ≤ length ds
+  pub at_most : length a.calls ≤ length ds
   pub fewer : a.full ≡ true → length a.calls < length ds
 
 -- an analyst that has asked what is to be decided in these acts, at this desk

@@ -21,7 +21,7 @@ pub record MayDrive (table : TableId) (h : HelmView) (w : WorldView) (published 
   -- what is published is of this journal and this world
   pub shown : AreShownOf h w published
   -- the world is before the horizon
-  pub ahead : w.front < w.net.horizon
+  pub below_horizon : w.front < w.net.horizon
 
 -- the helm may take a turn: it is one of the desk with this table, and the world is where its journal has led,
 -- before the horizon

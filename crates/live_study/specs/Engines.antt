@@ -24,8 +24,8 @@ pub record IsAhead (h : HelmView) (w : WorldView) (bound : ℕ) : Type 0 where
   pub bound_is : bound ≡ front_of h.helm
   pub above : w.front < bound
   pub within : bound ≤ next_front w.net w.clones w.front
-  pub early : bound ≤ w.net.horizon
-  pub short : (f : ℕ) → In f (fronts_of h.helm) → f < bound → NoneBeyond w.net w.clones f
+  pub time_max : bound ≤ w.net.horizon
+  pub length_max : (f : ℕ) → In f (fronts_of h.helm) → f < bound → NoneBeyond w.net w.clones f
 
 -- what the engine leaves of its helm as it was
 pub record Steers (old new : HelmView) : Type 0 where

@@ -43,7 +43,7 @@ pub record IsTrueLook (net : Net) (events : List Event) (l : Looked) : Type 0 wh
 -- name is one of these exactly where one was found, and its log before the front has so many messages and is that of so
 -- many of them
 pub record IsTrueOf (net : Net) (clones : List Clone) (s : ℕ) (who : List ℕ) (g : Glance) : Type 0 where
-  pub few : g.clones ≤ length clones
+  pub at_most : g.clones ≤ length clones
   pub found : FindsClone net (take g.clones clones) s g.front who g.found
 
 -- a later look of the same analyst at the same station is at no earlier front

@@ -20,7 +20,7 @@ pub record HasLooked (net : Net) (acts : List Act) (a : SeatedAnalyst) : Type 0 
   pub asked : map look_of a.0.looks.items ≡ looks_in a.0.number acts
   pub read : AllByRecursion (IsReadLook net a.1) a.0.looks.items
   pub rise : NeverFall a.0.looks.items
-  pub there : HasRacks net a.1
+  pub has_rack : HasRacks net a.1
 
 -- with memory reserved for the looks of all its acts
 abbrev pub HasReserved : Analyst → Type 0
@@ -46,8 +46,8 @@ pub record HaveActed (desk : TableId) (net : Net) (old new : List SeatedAnalyst)
 -- the horizon, for this number of stations, is at the horizon
 pub record AreShownUpTo (h : HelmView) (w : WorldView) (done : ℕ) (published : List RackView) : Type 0 where
   pub racks : AllByRecursion (IsRackOf h.net h.helm) published
-  pub early : AllByRecursion (λ q. q.front ≤ w.front) published
-  pub there : HasRacks w.net published
+  pub time_max : AllByRecursion (λ q. q.front ≤ w.front) published
+  pub has_rack : HasRacks w.net published
   pub last : w.front ≡ w.net.horizon → AreAllAt done w.front published
 
 -- the same for all stations

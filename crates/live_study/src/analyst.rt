@@ -18,5 +18,5 @@ pub struct Analyst {
     pub todo: Vec<Act>,
     /// What it saw at its looks, in order.
     pub looks: Reserved<Looked>,
-    pub ghost few: { length todo.items ≤ MAX_ITEMS },
+    pub ghost at_most: { length todo.items ≤ MAX_ITEMS },
 }

@@ -40,9 +40,9 @@ fn see<J: Naming>(
     who: Name,
     station: Name,
 ) -> Looked
-    requires there { HasRacks model.now seat.old }
+    requires has_rack { HasRacks model.now seat.old }
     ensures begins { IsPrefix seat.old seat.new }
-    ensures there { HasRacks model.now seat.new }
+    ensures has_rack { HasRacks model.now seat.new }
     ensures read { IsReadLook model.now seat.new result }
     // no earlier look was at a later front
     ensures later { (l : _) → IsReadLook model.now seat.old l → IsNoEarlier l result }
@@ -70,7 +70,7 @@ fn look<J: Naming>(
     who: Name,
     station: Name,
 )
-    requires there { HasRacks model.now seat.old }
+    requires has_rack { HasRacks model.now seat.old }
     requires free { length analyst.old.looks.items < analyst.old.looks.reserved }
     ensures looked { (acts : List OfAct) → HasLooked model.now acts (analyst.old, seat.old) →
         HasLooked model.now (acts ++ Look who station ∷ []) (analyst.new, seat.new) }
@@ -93,7 +93,7 @@ fn act_once<J: Naming, R: Wait>(
     act: Act,
 )
     requires desk { analyst.old.pass.desk ≡ desk_id desk.now }
-    requires there { HasRacks model.now seat.old }
+    requires has_rack { HasRacks model.now seat.old }
     requires free { length analyst.old.looks.items < analyst.old.looks.reserved }
     ensures asked { (acts : List OfAct) → HasAsked (desk_id desk.now) acts analyst.old →
         HasAsked (desk_id desk.now) (acts ++ act ∷ []) analyst.new }

@@ -28,7 +28,7 @@ fn push_own(own: &mut Vec<Act>, item: &Item, a: u32) -> Result<(), NoMemory>
 // The acts of an analyst, in order.
 fn acts_of(alloc: Global, script: &Script, a: u32) -> Result<Vec<Act>, NoMemory>
     ensures value { IfOk result (λ v. v.items ≡ acts_by a script.now.items) }
-    ensures few { IfOk result (λ v. length v.items ≤ MAX_ITEMS) }
+    ensures at_most { IfOk result (λ v. length v.items ≤ MAX_ITEMS) }
 {
     let mut own = Vec::new(alloc);
     for i in 0..script.len() {
@@ -44,7 +44,7 @@ pub(crate) fn analysts_of<J: Naming>(
     passes: Vec<Pass>,
     seats: Vec<Seat<J>>,
 ) -> Result<Vec<(Analyst, Seat<J>)>, NoMemory>
-    requires few { length passes.items ≤ MAX_ANALYSTS }
+    requires at_most { length passes.items ≤ MAX_ANALYSTS }
     requires seats { length seats.items ≡ length passes.items }
     ensures passes { IfOk result (λ v. map (λ a. a.0.pass) v.items ≡ passes.items) }
     ensures numbers { IfOk result (λ v. map (λ a. a.0.number) v.items ≡ numbers_to (length passes.items)) }

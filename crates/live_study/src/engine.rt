@@ -43,7 +43,7 @@ fn take_turn<R: Wait>(
 ) -> Result<(World, u64), NoMemory>
     requires may_turn { MayTurn (desk_id desk.now) helm.old world }
     ensures steers { Steers helm.old helm.new }
-    ensures ahead { IfOk result (λ r. IsAhead helm.new r.0 r.1) }
+    ensures raised { IfOk result (λ r. IsAhead helm.new r.0 r.1) }
     ensures raises { IfOk result (λ r. Raises helm.old helm.new r.1) }
     ensures same { IfOk result (λ r. r.0.front ≡ world.front) }
     ensures handled { IfOk result (λ r. total_handled r.0.net r.0.clones r.0.front
@@ -127,7 +127,7 @@ fn run_window<G: Gate, L: Ledger, R: Wait>(
     ensures value { IfOk result (λ w. w ≡ record world { front = bound }) }
     ensures steps { IfOk result (λ w. steps.new + total_handled world.net world.clones world.front
         ≡ steps.old + total_handled world.net world.clones bound) }
-    ensures short { IfOk result (λ w. NoneBeyond world.net world.clones bound) }
+    ensures length_max { IfOk result (λ w. NoneBeyond world.net world.clones bound) }
     ensures fault { IfErr result (λ e. IsFault world.net world.clones world.front bound steps.old steps.new e) }
 {
     match crew {
@@ -154,7 +154,7 @@ fn take_window<G: Gate, L: Ledger, R: Wait>(
     ensures stops { IfErr result (λ e. StopsEngine helm.new.net helm.new.helm e) }
     // what is counted: each message that is handled, once for all clones that share it
     ensures steps { IfOk result (λ w. CountsOnce world w steps.old steps.new) }
-    ensures few { IfErr result (λ e. CountsFew helm.new world steps.old steps.new e) }
+    ensures at_most { IfErr result (λ e. CountsFew helm.new world steps.old steps.new e) }
 {
     let Ok((world, bound)) = take_turn(rt, alloc, desk, helm, world) else {
         return Err(StudyFault::NoMemory);
@@ -192,7 +192,7 @@ fn take_window_and_show<G: Gate, J: Naming, L: Ledger, W: Wait + Drop, R: Wait>(
     ensures stops { IfErr result (λ e. StopsEngine helm.new.net helm.new.helm e) }
     // what is counted
     ensures steps { IfOk result (λ w. CountsOnce world w steps.old steps.new) }
-    ensures few { IfErr result (λ e. CountsFew helm.new world steps.old steps.new e) }
+    ensures at_most { IfErr result (λ e. CountsFew helm.new world steps.old steps.new e) }
 {
     let mut world = take_window(rt, alloc, crew, desk, helm, world, steps)?;
     match show(alloc, helm, &mut world, stocker, watched) {
@@ -219,7 +219,7 @@ fn drive<G: Gate, J: Naming, L: Ledger, W: Wait + Drop, R: Wait>(
     ensures tells { IfOk result.1 (λ _.
         TellsEach stocker.new.readers stocker.new.has_published (length stocker.new.spares.items)) }
     ensures steps { IfOk result.1 (λ w. CountsOnce world w steps.old steps.new) }
-    ensures few { IfErr result.1 (λ e. CountsFew result.0 world steps.old steps.new e) }
+    ensures at_most { IfErr result.1 (λ e. CountsFew result.0 world steps.old steps.new e) }
 {
     'turns: while world.front() < world.model().horizon() {
         world = match take_window_and_show(
@@ -247,7 +247,7 @@ fn drive_counted<G: Gate, J: Naming, L: Ledger, W: Wait + Drop, R: Wait>(
     requires may_drive { MayDrive (desk_id desk.now) helm world stocker.old.published }
     requires name { blank.name ≡ L.name }
     requires parts { blank.parts ≡ L.parts }
-    requires some { 0 < L.parts }
+    requires nonempty { 0 < L.parts }
     ensures driven { HasDriven helm result.0 stocker.new.published result.1 }
     ensures readers { stocker.new.readers ≡ stocker.old.readers }
     ensures tells { IfOk result.1 (λ _.

@@ -151,7 +151,7 @@ pub(crate) fn run_live<
     requires parts { helm.parts + length seated.items ≡ MAX_PARTS }
     requires fresh { helm.accounts ≡ [] }
     requires ready { AreReadyAll (desk_id desk) model.now seated.items }
-    requires few { total_todo seated.items ≤ MAX_CALLS }
+    requires at_most { total_todo seated.items ≤ MAX_CALLS }
     requires reserve { HasReservedFor (length seated.items) reserve }
     requires readers { stocker.readers ≡ length seated.items }
     // however it ends: each analyst has asked all its decisions and made all its looks

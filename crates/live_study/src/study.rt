@@ -95,7 +95,7 @@ fn take_seats<J: Naming, W: Wait + Drop>(
 ) -> Result<(Stocker<J, W>, Vec<(Analyst, Seat<J>)>), NoMemory>
     requires name { (opened.seen.book ≡ J.book) × (opened.pen.nib.key ≡ J.start) }
     requires opening { MayOpen racks.items }
-    requires few { length racks.items ≤ MAX_STATIONS }
+    requires at_most { length racks.items ≤ MAX_STATIONS }
     requires many { length passes.items ≡ length script.now.analysts }
     // what it returns: a stocker that has published these racks
     ensures published { IfOk result (λ r. r.0.published ≡ racks.items) }

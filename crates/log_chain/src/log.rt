@@ -125,7 +125,7 @@ impl Log {
 
     /// The entry at a place.
     pub fn get(&self, i: u64) -> Entry
-        requires there { i < length self.now }
+        requires in_range { i < length self.now }
         ensures value { result ≡ slice_index_or self.now i result }
     {
         let mut walk = self.walk_from(i);
@@ -177,7 +177,7 @@ impl Log {
 
     // The time of the entry at a place.
     fn time_at(&self, i: u64) -> u64
-        requires there { i < length self.now }
+        requires in_range { i < length self.now }
         ensures value { result ≡ slice_index (times_of self.now) i }
     {
         match self.walk_from(i).key() {
@@ -196,7 +196,7 @@ impl Log {
     /// The number of segments. Allocates nothing.
     pub fn segments(&self) -> u32
         ensures many { 2 ^ result ≤ length self.now + 1 }
-        ensures few { length self.now ≤ MAX_HANDLED → result ≤ MAX_SEGMENTS }
+        ensures at_most { length self.now ≤ MAX_HANDLED → result ≤ MAX_SEGMENTS }
     {
         self.segments.len() as u32
     }

@@ -59,7 +59,7 @@ impl<'a> Walk<'a> {
     /// The next entry as the log stores it. The walk must not be at its end.
     #[inline(always)]
     pub fn take(&mut self) -> StoredEntry<'a>
-        requires some { 1 ≤ length self.old }
+        requires nonempty { 1 ≤ length self.old }
         ensures value { self.old ≡ entry_in result ∷ self.new }
     {
         let Some((packed, rest)) = self.packed.split_first() else {
@@ -137,7 +137,7 @@ fn walk_along_blocks<'a>(blocks: &'a [EntryList]) -> Walk<'a>
 
 /// A walk from a place among the segments' entries.
 pub fn from_segment<'a>(segments: &'a [Segment], blocks: &'a [EntryList], at: usize) -> Walk<'a>
-    requires there { at < length (entries_in segments.now) }
+    requires in_range { at < length (entries_in segments.now) }
     ensures value { result ≡ drop at (entries_in segments.now ++ of_blocks blocks.now) }
 {
     let mut left = at;

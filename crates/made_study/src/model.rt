@@ -15,8 +15,8 @@ pub const MAX_WARDS: u32 = 8;
 // The number of wards.
 fn ward_count(n: u32) -> u32
     ensures value { result ≡ wards n }
-    ensures some { 1 ≤ result }
-    ensures few { result ≤ MAX_WARDS }
+    ensures at_least { 1 ≤ result }
+    ensures at_most { result ≤ MAX_WARDS }
 {
     1 + n % MAX_WARDS
 }
@@ -48,8 +48,8 @@ fn write_way(text: &mut String, i: u32) -> Result<(), NoMemory>
 
 // The links to all wards.
 fn write_ways(text: &mut String, wards: u32) -> Result<(), NoMemory>
-    requires some { 1 ≤ wards }
-    requires few { wards ≤ MAX_WARDS }
+    requires at_least { 1 ≤ wards }
+    requires at_most { wards ≤ MAX_WARDS }
     ensures value { OnOk result (string_bytes text.new ≡
         string_bytes text.old ++ join_by way_text (codes ", ") (range_with_len 1 wards)) }
 {
@@ -62,8 +62,8 @@ fn write_ways(text: &mut String, wards: u32) -> Result<(), NoMemory>
 }
 
 fn write_triage(text: &mut String, wards: u32) -> Result<(), NoMemory>
-    requires some { 1 ≤ wards }
-    requires few { wards ≤ MAX_WARDS }
+    requires at_least { 1 ≤ wards }
+    requires at_most { wards ≤ MAX_WARDS }
     ensures value { OnOk result (string_bytes text.new ≡ string_bytes text.old ++ triage_text wards) }
 {
     text.push_str("[[station]]\nname = \"triage\"\nkind = \"router\"\nby = \"weights\"\nlink = [")?;
@@ -73,7 +73,7 @@ fn write_triage(text: &mut String, wards: u32) -> Result<(), NoMemory>
 }
 
 fn write_ward(text: &mut String, i: u32) -> Result<(), NoMemory>
-    requires few { i ≤ MAX_WARDS }
+    requires at_most { i ≤ MAX_WARDS }
     ensures value { OnOk result (string_bytes text.new ≡ string_bytes text.old ++ ward_text i) }
 {
     let servers = 1 + i % 3;
@@ -88,7 +88,7 @@ fn write_ward(text: &mut String, i: u32) -> Result<(), NoMemory>
 }
 
 fn write_wards(text: &mut String, wards: u32) -> Result<(), NoMemory>
-    requires few { wards ≤ MAX_WARDS }
+    requires at_most { wards ≤ MAX_WARDS }
     ensures value { OnOk result (string_bytes text.new ≡
         string_bytes text.old ++ flat_map ward_text (range_with_len 1 wards)) }
 {

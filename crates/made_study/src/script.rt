@@ -34,7 +34,7 @@ fn write_fork(text: &mut String, j: u32) -> Result<(), NoMemory>
 }
 
 fn write_set(text: &mut String, j: u32) -> Result<(), NoMemory>
-    requires few { j ≤ PLANS }
+    requires at_most { j ≤ PLANS }
     ensures value { OnOk result (string_bytes text.new ≡
         string_bytes text.old ++ line_text (words_of_decision (set_of_plan j))) }
 {

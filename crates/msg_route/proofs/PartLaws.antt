@@ -27,10 +27,10 @@ module _ (s : ℕ) where
   -- the part is that of the receiver at some place i
   record Among (n : ℕ) (rs : List ℕ) (p : Part) : Type 0 where
     i : ℕ
-    there : i < length rs
+    in_range : i < length rs
     number : p.receiver ≡ n + i
     set : p.set ≡ meet_at s rs i
-    some : p.set ≢ empty
+    nonempty : p.set ≢ empty
 
   -- ---- Among
 
@@ -39,10 +39,10 @@ module _ (s : ℕ) where
       → AllByRecursion (Among (n + 1) rs) parts → AllByRecursion (Among n (r ∷ rs)) parts
   among_later n r rs parts h = all_weaker (Among (n + 1) rs) (Among n (r ∷ rs)) parts (λ p f. record {
     i = suc f.i;
-    there = omega (arith, f.there);
+    in_range = omega (arith, f.in_range);
     number = omega (arith, f.number);
     set = f.set;
-    some = f.some;
+    nonempty = f.nonempty;
   }) h
 
   -- a part that is not empty is that of the first receiver
@@ -51,7 +51,7 @@ module _ (s : ℕ) where
       → AllByRecursion (Among n (r ∷ rs)) (part_before b n (meet s r) parts)
   among_before true n r rs parts e h = h
   among_before false n r rs parts e h =
-      (record { i = 0; there = omega arith; number = omega arith; set = refl; some = e refl }, h)
+      (record { i = 0; in_range = omega arith; number = omega arith; set = refl; nonempty = e refl }, h)
 
   -- each part is that of some receiver
   among_parts : (n : ℕ) (rs : List ℕ) → AllByRecursion (Among n rs) (parts_from n rs)
@@ -123,9 +123,9 @@ module _ (s : ℕ) where
   shared_from : (rs : List ℕ) (p : Part) → Among 0 rs p → IsShared s rs p
   shared_from rs p h =
       let e : h.i ≡ p.receiver = omega (arith, h.number) in record {
-        there = omega (arith, h.there, h.number);
+        in_range = omega (arith, h.in_range, h.number);
         set = h.set ∙ ap (meet_at s rs) e;
-        some = h.some;
+        nonempty = h.nonempty;
       }
 
   -- the parts are exactly the meets that are not empty

@@ -20,9 +20,9 @@ meet_at senders receivers i = meet senders (slice_index receivers i)
 
 -- the part has the clones that its receiver shares with the senders, and is not empty
 pub record IsShared (senders : CloneSet) (receivers : List CloneSet) (part : Part) : Type 0 where
-  pub there : part.receiver < length receivers
+  pub in_range : part.receiver < length receivers
   pub set : part.set ≡ meet_at senders receivers part.receiver
-  pub some : part.set ≢ empty
+  pub nonempty : part.set ≢ empty
 
 -- exactly the nonempty intersections, in rising order of receiver
 pub record IsCut (senders : CloneSet) (receivers : List CloneSet) (parts : List Part) : Type 0 where

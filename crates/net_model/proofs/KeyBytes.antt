@@ -85,7 +85,7 @@ module _ (key : List ℕ) (len : ℕ) (copied prefix : List ℕ)
   pub key_text_padded : IsKeyText (prefix ++ drop len (copied ++ drop len (replicate MAX_KEY_TEXT_LEN 0))) len
   key_text_padded = record {
     behind = record {
-      short = len-bounds;
+      length_max = len-bounds;
       size = length-append prefix _ ∙ rw (prefix-length, drop-copied, length-replicate) (omega (arith, len-bounds));
       zeros = drop-append prefix _ len prefix-length ∙ drop-copied;
     };

@@ -80,7 +80,7 @@ source_of-holds format station d kind h =
     subst (λ (k : Kind). KindHolds format false k) {x = does} (Ok-injective does kind h3) (
       record {
         every = span_at-IsRange station Every 1 d every e1;
-        few = (integer_at-required station Jobs 0 MAX_JOBS d jobs e2).1;
+        at_most = (integer_at-required station Jobs 0 MAX_JOBS d jobs e2).1;
         first = bounds.0;
         last = bounds.1;
       },
@@ -110,8 +110,8 @@ server_of-holds format station d kind h =
     let does : Kind = Server servers room service.lo service.hi by_class in
     subst (λ (k : Kind). KindHolds format false k) {x = does} (Ok-injective does kind h4) (
       record {
-        some = bounds.0;
-        few = bounds.1;
+        at_least = bounds.0;
+        at_most = bounds.1;
         small = (integer_at-required station Room 0 MAX_ROOM d room e2).1;
         service = span_at-IsRange station Service 1 d service e3;
       },
@@ -234,7 +234,7 @@ pub record IsDraft (format : ℕ) (draft : DraftSite) : Type 0 where
   pub stream : draft.stream ≤ MAX_SEED
   pub kind : IsKind draft.kind
   pub of_format : format ≡ 1 → IsOfFormat1 draft.kind
-  pub few : length draft.links ≤ MAX_LINKS
+  pub at_most : length draft.links ≤ MAX_LINKS
   pub links : AllByRecursion IsNamedLink draft.links
   pub closed : is_sink draft.kind ≡ true → length draft.links ≡ 0
 
@@ -308,7 +308,7 @@ draft_of-holds format earlier station d draft near h =
         stream = omega (arith, drawn.1);
         kind = does.0;
         of_format = does.1;
-        few = leads.1;
+        at_most = leads.1;
         links = leads.0;
         closed = links-same_test (is_sink kind) (is_sink_word word) (length links) does.2 leads.2;
       },

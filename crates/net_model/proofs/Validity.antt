@@ -44,7 +44,7 @@ use Rattle.net_model.specs.declared.limits.TheConstants.{MAX_STATIONS, MAX_TIME,
 record IsResolved (lookahead : ℕ) (all : List DraftSite) (link : Link) : Type 0 where
   pub others : ℕ
   pub number : link.to ≡ others + 1
-  pub there : others < length all
+  pub in_range : others < length all
   pub receives : is_source (kind_after others all) ≡ false
   pub slow : lookahead ≤ link.delay
   pub small : link.delay ≤ MAX_TIME
@@ -68,7 +68,7 @@ link_along-holds lookahead all station link (Some i) l is named h =
     (record {
       others = i;
       number = refl;
-      there = there;
+      in_range = there;
       receives = receives;
       slow = ltb-false link.delay lookahead slow;
       small = named.small;
@@ -119,7 +119,7 @@ record IsResolvedSite (format lookahead : ℕ) (all : List DraftSite) (site : Si
   pub stream : site.stream ≤ MAX_SEED
   pub kind : IsKind site.kind
   pub of_format : format ≡ 1 → IsOfFormat1 site.kind
-  pub few : length site.links ≤ MAX_LINKS
+  pub at_most : length site.links ≤ MAX_LINKS
   pub links : AllByRecursion (IsResolved lookahead all) site.links
   pub way : HasWayOut site.kind site.links
 
@@ -147,7 +147,7 @@ site_of_draft-holds format lookahead all station draft site is h =
         stream = is.stream;
         kind = is.kind;
         of_format = is.of_format;
-        few = omega (arith, count, is.few);
+        at_most = omega (arith, count, is.at_most);
         links = holds;
         way = HasWayOut-tested draft.kind found some (λ e. count ∙ is.closed e);
       },
@@ -216,7 +216,7 @@ module _ (top : Top) (drafts : List DraftSite) (sites : List Site)
   link_is : (link : Link) → IsResolved top.lookahead drafts link → IsLink (with_sites top sites) link
   link_is link r =
       record {
-        is_station = record { low = omega (arith, r.number); high = omega (arith, r.number, r.there, length-sites) };
+        is_station = record { low = omega (arith, r.number); high = omega (arith, r.number, r.in_range, length-sites) };
         receives = ap is_source (site_of-kind link.to r.others (omega (arith, r.number))) ∙ r.receives;
         slow = r.slow;
         small = r.small;
@@ -232,7 +232,7 @@ module _ (top : Top) (drafts : List DraftSite) (sites : List Site)
         stream = p.stream;
         kind = p.kind;
         format = p.of_format;
-        few = p.few;
+        at_most = p.at_most;
         links = all_weaker (IsResolved top.lookahead drafts) (IsLink (with_sites top sites)) site.links link_is p.links;
         way = p.way;
       }
@@ -247,13 +247,13 @@ module _ (top : Top) (drafts : List DraftSite) (sites : List Site)
 -- the numbers at the top
 record IsTop (top : Top) : Type 0 where
   pub format : (top.format ≡ 1) ⊎ (top.format ≡ 2)
-  pub ahead : 1 ≤ top.lookahead
-  pub near : top.lookahead ≤ MAX_TIME
+  pub lookahead_min : 1 ≤ top.lookahead
+  pub lookahead_max : top.lookahead ≤ MAX_TIME
   pub horizon : 1 ≤ top.horizon
-  pub soon : top.horizon ≤ MAX_HORIZON
+  pub horizon_max : top.horizon ≤ MAX_HORIZON
   pub seed : top.seed ≤ MAX_SEED
   pub limit : 1 ≤ top.limit
-  pub short : top.limit ≤ MAX_LIMIT
+  pub limit_max : top.limit ≤ MAX_LIMIT
 
 -- a number from 1 to 2 is one of them
 one_or_two : (n : ℕ) → 1 ≤ n → n ≤ 2 → (n ≡ 1) ⊎ (n ≡ 2)
@@ -324,13 +324,13 @@ top_of-holds root top h =
     subst (λ (t : Top). IsTop t) {x = made} (Ok-injective made top h5)
     (record {
       format = one_or_two format formats.0 formats.1;
-      ahead = aheads.0;
-      near = aheads.1;
+      lookahead_min = aheads.0;
+      lookahead_max = aheads.1;
       horizon = horizons.0;
-      soon = horizons.1;
+      horizon_max = horizons.1;
       seed = seeds.1;
       limit = limits.0;
-      short = limits.1;
+      limit_max = limits.1;
     })
 
 -- a number other than 0 is 1 or more
@@ -363,15 +363,15 @@ sites_of_tables-holds top ds sites is count h =
     let size : length sites ≡ length drafts = length-sites top drafts sites placed in
     record {
       format = is.format;
-      ahead = is.ahead;
-      near = is.near;
+      lookahead_min = is.lookahead_min;
+      lookahead_max = is.lookahead_max;
       horizon = is.horizon;
-      soon = is.soon;
+      horizon_max = is.horizon_max;
       seed = is.seed;
       limit = is.limit;
-      short = is.short;
-      some = omega (arith, size, read.count, count.0);
-      few = omega (arith, size, read.count, count.1);
+      limit_max = is.limit_max;
+      nonempty = omega (arith, size, read.count, count.0);
+      at_most = omega (arith, size, read.count, count.1);
       distinct = subst (λ (names : List (List ℕ)). AreDistinct names) (sym placed.names) read.distinct;
       sites = sites_are top drafts sites placed;
     }

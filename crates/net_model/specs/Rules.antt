@@ -28,14 +28,14 @@ pub record IsRange (low lo hi : ℕ) : Type 0 where
 -- a source has a range of times from 1 on, at most MAX_JOBS jobs, and an existing class
 pub record IsSource (lo hi jobs class : ℕ) : Type 0 where
   pub every : IsRange 1 lo hi
-  pub few : jobs ≤ MAX_JOBS
+  pub at_most : jobs ≤ MAX_JOBS
   pub first : 1 ≤ class
   pub last : class ≤ MAX_CLASS
 
 -- a server has at least 1 server, at most MAX_SERVERS, at most MAX_ROOM room, and a range of times from 1 on
 pub record IsServer (servers room lo hi : ℕ) : Type 0 where
-  pub some : 1 ≤ servers
-  pub few : servers ≤ MAX_SERVERS
+  pub at_least : 1 ≤ servers
+  pub at_most : servers ≤ MAX_SERVERS
   pub small : room ≤ MAX_ROOM
   pub service : IsRange 1 lo hi
 
@@ -73,21 +73,21 @@ pub record IsSite (net : Net) (site : Site) : Type 0 where
   pub stream : site.stream ≤ MAX_SEED
   pub kind : IsKind site.kind
   pub format : net.format ≡ 1 → IsOfFormat1 site.kind
-  pub few : length site.links ≤ MAX_LINKS
+  pub at_most : length site.links ≤ MAX_LINKS
   pub links : AllByRecursion (IsLink net) site.links
   pub way : HasWayOut site.kind site.links
 
 -- a network keeps the rules: its numbers are within bounds, and its stations have different names and keep theirs
 pub record IsNet (net : Net) : Type 0 where
   pub format : (net.format ≡ 1) ⊎ (net.format ≡ 2)
-  pub ahead : 1 ≤ net.lookahead
-  pub near : net.lookahead ≤ MAX_TIME
+  pub lookahead_min : 1 ≤ net.lookahead
+  pub lookahead_max : net.lookahead ≤ MAX_TIME
   pub horizon : 1 ≤ net.horizon
-  pub soon : net.horizon ≤ MAX_HORIZON
+  pub horizon_max : net.horizon ≤ MAX_HORIZON
   pub seed : net.seed ≤ MAX_SEED
   pub limit : 1 ≤ net.limit
-  pub short : net.limit ≤ MAX_LIMIT
-  pub some : 1 ≤ length net.sites
-  pub few : length net.sites ≤ MAX_STATIONS
+  pub limit_max : net.limit ≤ MAX_LIMIT
+  pub nonempty : 1 ≤ length net.sites
+  pub at_most : length net.sites ≤ MAX_STATIONS
   pub distinct : AreDistinct (map (λ site. site.name) net.sites)
   pub sites : AllByRecursion (IsSite net) net.sites

@@ -88,7 +88,7 @@ impl ModelFault {
     /// The key that it names, or None if it names none. Of an unknown key its text.
     pub fn key(&self) -> Option<&str>
         ensures value { option_copied result ≡ fault_key self.now }
-        ensures short { IfSome result (λ key. length key.now ≤ MAX_KEY_TEXT_LEN) }
+        ensures length_max { IfSome result (λ key. length key.now ≤ MAX_KEY_TEXT_LEN) }
     {
         match self {
             ModelFault::Missing { field, .. }

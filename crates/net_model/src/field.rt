@@ -58,7 +58,7 @@ impl Field {
     /// The key as it is written in a file.
     pub fn key(&self) -> &'static str
         ensures value { result.now ≡ key_of self.now }
-        ensures short { length result.now ≤ MAX_KEY_TEXT_LEN }
+        ensures length_max { length result.now ≤ MAX_KEY_TEXT_LEN }
     {
         match self {
             Field::Format => "format",

@@ -67,7 +67,7 @@ impl KeyText {
     fn as_bytes(&self) -> &[u8]
         ensures value { result.now ≡ self.now }
         ensures shown { list_all is_shown result.now ≡ true }
-        ensures short { length result.now ≤ MAX_KEY_TEXT_LEN }
+        ensures length_max { length result.now ≤ MAX_KEY_TEXT_LEN }
     {
         &self.bytes[..self.len]
     }
@@ -76,7 +76,7 @@ impl KeyText {
     pub fn text(&self) -> &str
         ensures value { result.now ≡ self.now }
         ensures shown { list_all is_shown result.now ≡ true }
-        ensures short { length result.now ≤ MAX_KEY_TEXT_LEN }
+        ensures length_max { length result.now ≤ MAX_KEY_TEXT_LEN }
     {
         match str::from_utf8(self.as_bytes()) {
             Ok(text) => text,

@@ -70,7 +70,7 @@ fn read_each(station: u32, tables: &[Value]) -> Result<ArrayVec<NamedLink, MAX_L
 fn link_values(station: u32, table: &Value) -> Result<&[Value], ModelFault>
     ensures value { result_map_both (λ vs. map view vs.now) (λ e. e) result ≡ link_tables station
         (get (key_of Field.Link) (view table.now)) }
-    ensures few { IfOk result (λ vs. length vs.now ≤ MAX_LINKS) }
+    ensures at_most { IfOk result (λ vs. length vs.now ≤ MAX_LINKS) }
 {
     let field = Field::Link;
     let Some(value) = table.get(field.key()) else {

@@ -64,7 +64,7 @@ impl Model {
     /// The number of the station with this name, or None if there is none.
     pub fn find(&self, name: &Name) -> Option<u32>
         ensures value { result ≡ station_named name.now self.now }
-        ensures there { IfSome result (λ s. s ≤ length self.now.sites) }
+        ensures in_range { IfSome result (λ s. s ≤ length self.now.sites) }
     {
         match place(&self.stations, name) {
             Some(i) => Some(i as u32 + 1),
@@ -113,7 +113,7 @@ impl Model {
 
 fn place(stations: &[Station], name: &Name) -> Option<usize>
     ensures value { result ≡ position (λ station. bytes_eq station.name name.now) stations.now }
-    ensures there { IfSome result (λ i. i < length stations.now) }
+    ensures in_range { IfSome result (λ i. i < length stations.now) }
 {
     stations
         .iter()

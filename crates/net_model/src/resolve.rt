@@ -18,7 +18,7 @@ use std::alloc::Global;
 
 fn named_draft(drafts: &[Draft], name: &Name) -> Option<usize>
     ensures value { result ≡ position (λ draft. bytes_eq draft.name name.now) drafts.now }
-    ensures there { IfSome result (λ i. i < length drafts.now) }
+    ensures in_range { IfSome result (λ i. i < length drafts.now) }
 {
     drafts
         .iter()
@@ -69,8 +69,8 @@ fn resolve_links(
     station: u32,
     links: &[NamedLink],
 ) -> Result<ArrayVec<Link, MAX_LINKS>, ModelFault>
-    requires some { length drafts.now ≤ MAX_STATIONS }
-    requires few { length links.now ≤ MAX_LINKS }
+    requires drafts_max { length drafts.now ≤ MAX_STATIONS }
+    requires at_most { length links.now ≤ MAX_LINKS }
     ensures { result_map_both (λ v. v.items) (λ e. e) result ≡ links_of_named lookahead
         (map as_draft drafts.now) station links.now }
 {

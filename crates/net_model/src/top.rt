@@ -45,7 +45,7 @@ pub fn top_numbers(root: &Value) -> Result<Top, ModelFault>
 }
 
 fn counted_tables(tables: &[Value]) -> Result<&[Value], ModelFault>
-    ensures few { IfOk result (λ vs. length vs.now ≤ MAX_STATIONS) }
+    ensures at_most { IfOk result (λ vs. length vs.now ≤ MAX_STATIONS) }
     ensures value { result_map_both (λ vs. map view vs.now) (λ e. e) result ≡ in_number (map view tables.now) }
 {
     if tables.is_empty() {
@@ -59,7 +59,7 @@ fn counted_tables(tables: &[Value]) -> Result<&[Value], ModelFault>
 
 /// The tables of the stations, 1 to `MAX_STATIONS`.
 pub fn station_tables(root: &Value) -> Result<&[Value], ModelFault>
-    ensures few { IfOk result (λ vs. length vs.now ≤ MAX_STATIONS) }
+    ensures at_most { IfOk result (λ vs. length vs.now ≤ MAX_STATIONS) }
     ensures value { result_map_both (λ vs. map view vs.now) (λ e. e) result ≡ stations_at (view root.now) }
 {
     match value_key(spot_at(0, Field::Station), root) {

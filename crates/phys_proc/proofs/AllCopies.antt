@@ -53,7 +53,7 @@ module _ (net : Net) (valid : IsNet net) (s : ℕ) (ends : ℕ → ℕ) (bound :
     gained = refl;
     counted = omega arith;
     fits = tt;
-    few = omega arith;
+    at_most = omega arith;
     shared = λ none. omega arith;
   }
 
@@ -81,13 +81,13 @@ module _ (net : Net) (valid : IsNet net) (s : ℕ) (ends : ℕ → ℕ) (bound :
         counted = omega (arith, c0, c1);
         fits = subst (AllByRecursion (IsCopy net s)) (sym a.done)
             (all_append (IsCopy net s) done a.results f.fits a.fits);
-        few =
+        at_most =
             let h = all_sizes-append ys (x ∷ []) in
             let d = add-mul (all_sizes ys) (size x.set) net.limit in
             let e = ap (λ n. n * net.limit) h in
             let m = mul-le-mul_left (size x.set) (less net.limit (length x.log)) in
-            let f0 = f.few in
-            let a0 = a.few in
+            let f0 = f.at_most in
+            let a0 = a.at_most in
             let z : all_sizes (x ∷ []) ≡ size x.set = omega arith in
             let e1 = ap (λ n. (all_sizes ys + n) * net.limit) z in
             omega (arith, d, e, e1, m, f0, a0);
@@ -165,7 +165,7 @@ module _ (net : Net) (valid : IsNet net) (s : ℕ) (ends : ℕ → ℕ) (bound :
 
     -- and at most the limit for each of their clones
     pub all_few : (n : ℕ) → n + steps0 ≡ steps → n ≤ all_sizes xs * net.limit
-    all_few n h = let k = far.counted in let f = far.few in omega (arith, h, k, f)
+    all_few n h = let k = far.counted in let f = far.at_most in omega (arith, h, k, f)
 
     -- with the number that the clones had handled alone, at most the number afterwards, if none is over the limit
     pub all_shared : (n : ℕ) → n + steps0 ≡ steps → over ≡ empty → handled_alone_by xs + n ≤ handled_alone_by done

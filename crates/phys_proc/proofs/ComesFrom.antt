@@ -125,7 +125,7 @@ module _ (net : Net) (s : ℕ) (ends : ℕ → ℕ) (bound : ℕ) where
         → Comes first [] start sent over (union over new.set) (0 + o.taken)
     comes-over e full over = comes_from-new.next [] sent over (union over new.set) 0
         (comes_to-over (lawful-stations net o.fits.valid) sets_join ends s bound new m d.marks d.rest sent over
-        (let h = comes_from-new.fits.short in omega arith) d.pending (all_take e) d.early)
+        (let h = comes_from-new.fits.length_max in omega arith) d.pending (all_take e) d.time_max)
 
     -- if all take it and the log is not full, the copy that handles it has advanced by one step
     pub comes_from-handle : (next : StationCopy) (after : MarkedMessages) (steps1 : ℕ) → takers ≡ new.set
@@ -147,7 +147,7 @@ module _ (net : Net) (s : ℕ) (ends : ℕ → ℕ) (bound : ℕ) where
               (n0.next results last over over_after (n + 1)
               (comes_to-handle (lawful-stations net o.fits.valid) sets_join ends s bound new m d.marks d.rest sent
               results last over over_after n n0.fits.inhabited (good_state net s new n0.fits) less d.pending
-              n0.fits.sorted (all_take e) d.early
+              n0.fits.sorted (all_take e) d.time_max
               (subst (λ u. Comes u results (sent ++ sends_aside (simulation net) s new m) last over over_after n) x.0
               (subst (λ u. Comes next results u last over over_after n) x.1 h))));
         }
@@ -163,7 +163,7 @@ module _ (net : Net) (s : ℕ) (ends : ℕ → ℕ) (bound : ℕ) where
     comes-split mid after e1 e2 over over1 over2 x1 x2 f g = comes_from-new.next (e1 ++ e2) after over over2 (x1 + x2)
         (comes_to-split (lawful-stations net o.fits.valid) sets_join ends s bound new (half new takers)
         (half new (minus new.set takers)) m d.marks d.rest sent mid after e1 e2 over over1 over2 x1 x2
-        comes_from-new.fits.short d.pending comes_from-new.fits.sorted d.early
+        comes_from-new.fits.length_max d.pending comes_from-new.fits.sorted d.time_max
         (narrowed_half ends net s new takers (λ c i. (takes_of c i).0))
         (narrowed_half ends net s new (minus new.set takers) (λ c i. (in_others c i).0))
         (λ c i. (takes_of c i).1)
@@ -230,8 +230,8 @@ module _ (net : Net) (s : ℕ) (ends : ℕ → ℕ) (bound : ℕ) where
       comes = subst (λ u. Comes first [] start sent over0 u (0 + o.taken)) (sym (is ∙ ap (λ u. union u new.set) over))
           (comes-over e full over0);
       fits = tt;
-      few = let h = few_more (size first.set) (length first.log) (length new.log) o.taken net.limit clones_some
-          new_log comes_from-new.fits.short in omega (arith, h);
+      at_most = let h = few_more (size first.set) (length first.log) (length new.log) o.taken net.limit clones_some
+          new_log comes_from-new.fits.length_max in omega (arith, h);
       shared = λ none. absurd (no_union over1 (comes_from-new.fits.inhabited.0) comes_from-new.fits.inhabited.1
           (sym is ∙ none));
     }
@@ -256,13 +256,14 @@ module _ (net : Net) (s : ℕ) (ends : ℕ → ℕ) (bound : ℕ) where
       comes = subst (λ u. Comes first (a.results ++ b.results) start after u over3 ((a.gained + b.gained) + o.taken))
           over (comes-split mid after a.results b.results over1 over2 over3 a.gained b.gained a.comes b.comes);
       fits = all_append (IsCopy net s) a.results b.results a.fits b.fits;
-      few = few_apart (size first.set) (length first.log) (length new.log) o.taken net.limit clones_some new_log
-          comes_from-new.fits.short (size takers) (size (minus new.set takers)) a.gained b.gained parts_size a.few
-          b.few;
+      at_most = few_apart (size first.set) (length first.log) (length new.log) o.taken net.limit clones_some new_log
+          comes_from-new.fits.length_max (size takers) (size (minus new.set takers)) a.gained b.gained parts_size
+          a.at_most
+          b.at_most;
       shared = λ none.
           let h = alone-append a.results b.results in
           let k = shared_apart (size first.set) (length first.log) (length new.log) o.taken net.limit clones_some
-          new_log comes_from-new.fits.short (size takers) (size (minus new.set takers)) a.gained b.gained
+          new_log comes_from-new.fits.length_max (size takers) (size (minus new.set takers)) a.gained b.gained
           (handled_alone_by a.results) (handled_alone_by b.results)
           parts_size (a.shared (empty_within over2 over3 b.comes.still_over none)) (b.shared none) in
           omega (arith, h, k);
@@ -291,7 +292,7 @@ module _ (net : Net) (s : ℕ) (ends : ℕ → ℕ) (bound : ℕ) where
 
     -- the half for those that take the message is a copy of the station
     pub first_half : IsCopy net s (half new takers)
-    first_half = copy_half ends net s new takers comes_from-new.fits (set_has_clone takers d.some)
+    first_half = copy_half ends net s new takers comes_from-new.fits (set_has_clone takers d.nonempty)
 
     -- and so is the half for the others, if not all clones take the message
     pub second_half : (takers ≢ new.set) → IsCopy net s (half new (minus new.set takers))
@@ -300,7 +301,7 @@ module _ (net : Net) (s : ℕ) (ends : ℕ → ℕ) (bound : ℕ) where
 
     -- and that half has fewer clones
     pub second_smaller : size (minus new.set takers) < size new.set
-    second_smaller = minus_smaller new.set takers (λ e. d.some (sym takers_meet ∙ e))
+    second_smaller = minus_smaller new.set takers (λ e. d.nonempty (sym takers_meet ∙ e))
 
   -- ---- NothingDue
 
@@ -312,7 +313,7 @@ module _ (net : Net) (s : ℕ) (ends : ℕ → ℕ) (bound : ℕ) where
       let n = comes_from-same first copy new start sent steps0 steps o d.same in (
         n.next (new ∷ []) sent over over 0
             (comes_to-settled (lawful-stations net o.fits.valid) sets_join ends s bound new sent over n.fits.inhabited
-            n.fits.short (λ c i. d.settled c (subst (λ k. has k c ≡ true) d.same.copy.set i))),
+            n.fits.length_max (λ c i. d.settled c (subst (λ k. has k c ≡ true) d.same.copy.set i))),
         n.fits,
       )
 
@@ -330,11 +331,11 @@ module _ (net : Net) (s : ℕ) (ends : ℕ → ℕ) (bound : ℕ) where
         steps = let c0 = o.counted in omega (arith, c0);
         comes = subst (λ u. Comes first (new ∷ []) start sent over0 u (0 + o.taken)) (sym over) x.0;
         fits = (x.1, tt);
-        few = let h = few_more (size first.set) (length first.log) (length new.log) n.taken net.limit clones_some
-            n.log n.fits.short in omega (arith, h);
+        at_most = let h = few_more (size first.set) (length first.log) (length new.log) n.taken net.limit clones_some
+            n.log n.fits.length_max in omega (arith, h);
         shared = λ none.
             let k = shared_more (size first.set) (length first.log) (length new.log) n.taken net.limit clones_some
-            n.log n.fits.short in
+            n.log n.fits.length_max in
             let e = ap (λ k. size k * length new.log) n.set in
             omega (arith, k, e);
       }
@@ -364,15 +365,15 @@ module _ (net : Net) (s : ℕ) (ends : ℕ → ℕ) (bound : ℕ) where
       steps = let c0 = o.counted in let c1 = a.steps in omega (arith, c0, c1);
       comes = o.next a.results after over0 over1 a.gained a.comes;
       fits = a.fits;
-      few =
+      at_most =
           let h = few_apart (size first.set) (length first.log) (length copy.log) o.taken net.limit first_some o.log
-          o.fits.short (size first.set) 0 a.gained 0 (omega arith)
-          (let f = a.few in let e = ap (λ k. size k * (net.limit - length copy.log)) o.set in omega (arith, f, e))
+          o.fits.length_max (size first.set) 0 a.gained 0 (omega arith)
+          (let f = a.at_most in let e = ap (λ k. size k * (net.limit - length copy.log)) o.set in omega (arith, f, e))
           (omega arith) in
           omega (arith, h);
       shared = λ none.
           let k = shared_more (size first.set) (length first.log) (length copy.log) o.taken net.limit first_some o.log
-          o.fits.short in
+          o.fits.length_max in
           let e = ap (λ k. size k * length copy.log) o.set in
           let f = a.shared none in
           omega (arith, k, e, f);
@@ -382,7 +383,7 @@ module _ (net : Net) (s : ℕ) (ends : ℕ → ℕ) (bound : ℕ) where
     pub left_few : o.taken + may_handle net.limit copy ≤ may_handle net.limit first
     left_few =
         let h = few_apart (size first.set) (length first.log) (length copy.log) o.taken net.limit first_some o.log
-        o.fits.short (size first.set) 0 (may_handle net.limit copy) 0 (omega arith)
+        o.fits.length_max (size first.set) 0 (may_handle net.limit copy) 0 (omega arith)
         (let e = ap (λ k. size k * (net.limit - length copy.log)) o.set in omega (arith, e))
         (omega arith) in
         omega (arith, h)

@@ -74,7 +74,7 @@ module _ (net : Net) (ends : ℕ → ℕ) (m : Msg) (k : CloneSet) where
       marks_by true n = f.marks
       marks_by false n = marks_inserted (AreMarks a.set) (marks_join a.set) (meet a.set k)
           (record {
-            some = eqb-false (meet a.set k) empty n;
+            nonempty = eqb-false (meet a.set k) empty n;
             within = λ c i. (and_parts (has a.set c) (has k c) (sym (has-meet a.set k c) ∙ i)).0;
           }) m a.pending f.marks
 

@@ -36,9 +36,9 @@ module _ (ends : ℕ → ℕ) (bound : ℕ) (a b : StationCopy) where
     marks = d.marks;
     rest = d.rest;
     pending = d.pending;
-    early = d.early;
+    time_max = d.time_max;
     take = λ c. d.take c ∙ ap (λ k. has k c && takes_at ends m d.marks c) (sym d.same.copy.set);
-    some = d.some;
+    nonempty = d.nonempty;
   }
 
 -- ---- IsAdvance

@@ -172,7 +172,7 @@ module _ (old new : ℕ) where
     marks_grow set [] n f = tt
     marks_grow set (x ∷ xs) n f = (
       record {
-        some = λ e. f.0.some (empty_within x.1 (set_after_fork old new x.1) (set_after_fork-has old new x.1) e);
+        nonempty = λ e. f.0.nonempty (empty_within x.1 (set_after_fork old new x.1) (set_after_fork-has old new x.1) e);
         within = λ c i. has-set_after_fork old new set c n
             ∙ f.0.within (origin_of old new c) (sym (has-set_after_fork old new x.1 c (fresh x.1 f.0)) ∙ i);
       },

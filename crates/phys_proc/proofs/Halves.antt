@@ -75,7 +75,7 @@ module _ (by : CloneSet) where
   marks_cons_marked None x rest e f = f
   marks_cons_marked (Some k) x rest e f = (
     record {
-      some = (common_is x.1 by k e).1;
+      nonempty = (common_is x.1 by k e).1;
       within = λ c i. (and_parts (has x.1 c) (has by c) (sym (common_some x.1 by k e c) ∙ i)).1;
     },
     f,
@@ -154,7 +154,7 @@ IsCopy-like net s a b f state log some sorted targets marks = record {
   suits = rw state f.suits;
   station = rw state f.station;
   handled = rw (state, log) f.handled;
-  short = rw log f.short;
+  length_max = rw log f.length_max;
   sorted = sorted;
   targets = targets;
   replays = rw (state, log) f.replays;
@@ -276,7 +276,7 @@ module _ (horizon : ℕ) (es : List (ℕ × ℕ)) (bound : ℕ) (early : bound �
       → NextDue (ends_in horizon es) bound a b m takers
   next_is_due some first =
       let f = first_of b.pending (m, k) first in
-      record { same = same; marks = k; rest = f.0; pending = f.1; early = soon; take = takers_are; some = some }
+      record { same = same; marks = k; rest = f.0; pending = f.1; time_max = soon; take = takers_are; nonempty = some }
 
   -- if there are none, it is skipped
   pub none_takes : ((c : ℕ) → has takers c ≡ false) → (c : ℕ) → has a.set c ≡ true

@@ -91,7 +91,7 @@ module _ (net : Net) (s : ℕ) (a : StationCopy) (m0 : Msg) (k0 : CloneSet) (q0 
         suits = suits_new;
         station = own ∙ fits.station;
         handled = omega (arith, more, h, long);
-        short = omega (arith, long, below);
+        length_max = omega (arith, long, below);
         sorted = subst (SortedMarked msg_cmp) (sym pending_is)
             (sorted_insert_marked_all (λ m k c. has k c) union (λ m x y c. has-union x y c)
             messages_ordered (to_it (λ (m : Msg). m.to) s out) a.set q0 rest_sorted);

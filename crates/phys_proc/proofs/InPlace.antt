@@ -147,7 +147,7 @@ module _ (net : Net) (s : ℕ) (ends : ℕ → ℕ) (bound : ℕ) where
             | inr x ↦ inr x
           ];
           ran = λ z y c i j. far.ran z y c i (back y j);
-          short = λ z i. far.short z (back z i);
+          length_max = λ z i. far.length_max z (back z i);
           too_long = far.too_long;
           idle = far.idle;
         };
@@ -156,7 +156,7 @@ module _ (net : Net) (s : ℕ) (ends : ℕ → ℕ) (bound : ℕ) where
         counted = f.counted;
         fits = all_from (IsCopy net s) ((a ++ b) ++ m)
             (λ z i. all_in (IsCopy net s) ((a ++ m) ++ b) z f.fits (back z i));
-        few = f.few;
+        at_most = f.at_most;
         shared = λ none.
             let h = f.shared none in
             let k0 = alone-append (a ++ m) b in
@@ -179,7 +179,7 @@ module _ (net : Net) (s : ℕ) (ends : ℕ → ℕ) (bound : ℕ) where
     steps = a.steps;
     comes = a.comes;
     fits = a.fits;
-    few = a.few;
+    at_most = a.at_most;
     shared = a.shared;
   }
 
@@ -230,9 +230,9 @@ module _ (net : Net) (valid : IsNet net) (s : ℕ) (ends : ℕ → ℕ) (bound :
         → handled + may_handle net.limit x ≤ MAX_COUNTS
     stepped_to-few few handled e =
         let sizes = ap all_sizes whole_is in
-        let f = h.far.few in
+        let f = h.far.at_most in
         let k = h.far.counted in
-        few_next net.limit handled h.passed left x (omega (arith, few, sizes)) valid.short (omega (arith, f, k, e))
+        few_next net.limit handled h.passed left x (omega (arith, few, sizes)) valid.limit_max (omega (arith, f, k, e))
 
     -- it stays in its place
     pub stepped_to-next : Disjoint has all → (y : StationCopy) (after more1 : List StationCopy) (next : MarkedMessages)

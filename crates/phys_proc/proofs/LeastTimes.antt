@@ -56,7 +56,7 @@ taken_has ends c (y ∷ ys) x (inr i) t = later (takes_at ends y.0 y.1 c) (taken
 -- m is the first, and j has the marks that it shares with the set k
 pub record IsFirstWith (k : CloneSet) (q : MarkedMessages) (m : Msg) (j : CloneSet) : Type 0 where
   pub marks : CloneSet
-  pub there : In (m, marks) q
+  pub is_in : In (m, marks) q
   pub meets : common marks k ≡ Some j
   pub least : (c : ℕ) → has k c ≡ true → (x : Msg × CloneSet) → In x q → has x.1 c ≡ true → m.key.time ≤ x.0.key.time
 
@@ -80,7 +80,7 @@ first_with k (x ∷ xs) p s e = by_met (common x.1 k) refl e (λ f. first_with k
         let h = rest f in
         record {
           marks = h.marks;
-          there = inr h.there;
+          is_in = inr h.is_in;
           meets = h.meets;
           least = λ c i y m t. elim m [
             | inl d ↦
@@ -92,7 +92,7 @@ first_with k (x ∷ xs) p s e = by_met (common x.1 k) refl e (λ f. first_with k
         let same : (x.0, j) ≡ p = cc in
         subst (λ (u : Msg × CloneSet). IsFirstWith k (x ∷ xs) u.0 u.1) same (record {
           marks = x.1;
-          there = inl refl;
+          is_in = inl refl;
           meets = n;
           least = λ c i y m t. elim m [
             | inl d ↦ (let e = ap (λ (u : Msg × CloneSet). u.0.key.time) d in omega (arith, e))
@@ -131,7 +131,7 @@ least_one ends c end q p e s first soon =
     let marked : has f.marks c ≡ true = subst (λ n. has f.marks n ≡ true) (sym same) both.0 in (
       (
         p.0,
-        taken_has ends c q (p.0, f.marks) f.there (ap (λ b. b && nat_lt p.0.key.time (ends c)) marked
+        taken_has ends c q (p.0, f.marks) f.is_in (ap (λ b. b && nat_lt p.0.key.time (ends c)) marked
             ∙ lt-ltb p.0.key.time (ends c) (omega (arith, soon, e))),
         refl,
       ),
@@ -233,7 +233,7 @@ module _ (horizon : ℕ) (es : List (ℕ × ℕ)) (set alive : CloneSet) (q : Ma
               (
                 c.0,
                 h.within c.0 (shared_at c.0 t.0),
-                taken_has (ends_in horizon es) c.0 q (p.0, f.marks) f.there
+                taken_has (ends_in horizon es) c.0 q (p.0, f.marks) f.is_in
                     (ap (λ b. b && nat_lt p.0.key.time (ends_in horizon es c.0)) marked ∙ before),
               ),
               refl,

@@ -54,7 +54,7 @@ module _ (net : Net) (valid : IsNet net) (s : ℕ) (is_station : HasStation net 
         suits = suits;
         station = own;
         handled = none;
-        short = omega arith;
+        length_max = omega arith;
         sorted = subst (SortedMarked msg_cmp) (sym q) (in_order first);
         targets = subst (AllByRecursion (λ (x : Msg × CloneSet). x.0.to ≡ s)) (sym q) (for_station first refl);
         replays = ap (λ o. o.state) (sym opened);

@@ -54,8 +54,8 @@ module _ (net : Net) (cs : List Clone) (s front : ℕ) where
   pub shows_clones : (copies : List StationCopy) → length cs ≤ MAX_CLONES → front ≤ net.horizon
       → Stands (simulation net) has cs front s copies → ShowsClones net cs s front (map view_of_copy copies)
   shows_clones copies few early st = record {
-    few = few;
-    early = early;
+    at_most = few;
+    time_max = early;
     inhabited = λ h i. let k = in_map view_of_copy copies h i in
         let c = st.inhabited k.0 k.1 in
         (c.0, subst (λ (u : RackCopyView). has u.set c.0 ≡ true) (sym k.2) c.1);

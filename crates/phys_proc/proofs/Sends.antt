@@ -70,7 +70,7 @@ module _ (P : CloneSet → Type 0) (joined : (a b : CloneSet) → P a → P b �
 -- marks of a copy that are joined are marks of it
 pub marks_join : (set a b : CloneSet) → AreMarks set a → AreMarks set b → AreMarks set (union a b)
 marks_join set a b f g = record {
-  some = λ e. f.some (empty_within a (union a b)
+  nonempty = λ e. f.nonempty (empty_within a (union a b)
       (λ c y. has-union a b c ∙ or_left (has a c) (has b c) y) e);
   within = λ c i. elim (or_cases (has a c) (has b c) (sym (has-union a b c) ∙ i)) [
     | inl y ↦ f.within c y
@@ -81,6 +81,6 @@ marks_join set a b f g = record {
 -- all of its clones, if there are some
 pub whole_marks : (set : CloneSet) (c : ℕ) → has set c ≡ true → AreMarks set set
 whole_marks set c i = record {
-  some = not_empty set c i;
+  nonempty = not_empty set c i;
   within = λ d j. j;
 }

@@ -134,7 +134,8 @@ pub few_handled : (net : Net) (s handled : ℕ) (copies : List StationCopy) → 
     → all_sizes copies ≤ MAX_CLONES → net.limit ≤ MAX_LIMIT → handled ≤ handled_alone_by copies
     → handled ≤ MAX_COUNTS
 few_handled net s handled copies f l k h =
-    let short = all_weaker (IsCopy net s) (λ (a : StationCopy). length a.log ≤ net.limit) copies (λ a is. is.short) f in
+    let short = all_weaker (IsCopy net s) (λ (a : StationCopy). length a.log ≤ net.limit) copies (λ a is. is.length_max)
+    f in
     let a = alone_short net.limit copies short in
     let c = mul-le (all_sizes copies) net.limit MAX_CLONES MAX_LIMIT l k in
     omega (arith, a, c, h)

@@ -32,7 +32,7 @@ MarkedMessages = List (Msg × CloneSet)
 
 -- marks of a message in a copy: at least one clone, and only clones that the copy represents
 pub record AreMarks (set k : CloneSet) : Type 0 where
-  pub some : k ≢ empty
+  pub nonempty : k ≢ empty
   pub within : (c : ℕ) → has k c ≡ true → has set c ≡ true
 
 -- a copy of station s: its state is the replay of its log
@@ -43,7 +43,7 @@ pub record IsCopy (net : Net) (s : ℕ) (a : StationCopy) : Type 0 where
   pub suits : SuitsNet net a.state
   pub station : a.state.sender.station ≡ s
   pub handled : a.state.handled ≡ length a.log
-  pub short : length a.log ≤ net.limit
+  pub length_max : length a.log ≤ net.limit
   pub sorted : SortedMarked msg_cmp a.pending
   pub targets : AllByRecursion (λ x. x.0.to ≡ s) a.pending
   pub replays : a.state ≡ replay net s a.log
@@ -85,8 +85,8 @@ may_handle limit a = size a.set * (limit - length a.log)
 -- a copy of station s may be advanced to the bound, after `handled` messages were handled
 pub record MayAdvance (net : Net) (s bound handled : ℕ) (a : StationCopy) : Type 0 where
   pub fits : IsCopy net s a
-  pub early : bound ≤ net.horizon
-  pub few : handled + may_handle net.limit a ≤ MAX_COUNTS
+  pub time_max : bound ≤ net.horizon
+  pub at_most : handled + may_handle net.limit a ≤ MAX_COUNTS
 
 -- the copy without its pending messages
 abbrev pub but_pending : StationCopy → StationCopy
@@ -105,9 +105,9 @@ pub record NextDue (ends : ℕ → ℕ) (bound : ℕ) (a b : StationCopy) (m : M
   pub marks : CloneSet
   pub rest : MarkedMessages
   pub pending : b.pending ≡ (m, marks) ∷ rest
-  pub early : m.key.time < bound
+  pub time_max : m.key.time < bound
   pub take : (c : ℕ) → has takers c ≡ (has a.set c && takes_at ends m marks c)
-  pub some : takers ≢ empty
+  pub nonempty : takers ≢ empty
 
 -- or no message that its clones take comes before the bound
 pub record NothingDue (ends : ℕ → ℕ) (bound : ℕ) (a b : StationCopy) : Type 0 where
@@ -154,7 +154,7 @@ pub record IsAdvance (net : Net) (s : ℕ) (ends : ℕ → ℕ) (bound : ℕ) (r
   pub steps : steps1 ≡ steps0 + gained
   pub comes : ComesTo (simulation net) has ends s bound r results sent0 sent1 over0 over1 gained
   pub fits : AllByRecursion (IsCopy net s) results
-  pub few : gained ≤ may_handle net.limit r
+  pub at_most : gained ≤ may_handle net.limit r
   pub shared : over1 ≡ empty → size r.set * length r.log + gained ≤ handled_alone_by results
 
 -- the copy with the message pending for its clones in the set
@@ -186,5 +186,5 @@ pub record IsStepResult (net : Net) (s : ℕ) (ends : ℕ → ℕ) (bound : ℕ)
   pub gained : GainTogether (simulation net) has ends s bound old count
   pub counted : steps ≡ steps0 + count
   pub fits : AllByRecursion (IsCopy net s) done
-  pub few : count ≤ all_sizes old * net.limit
+  pub at_most : count ≤ all_sizes old * net.limit
   pub shared : over ≡ empty → handled_alone_by old + count ≤ handled_alone_by done

@@ -41,8 +41,8 @@ AreDisjoint (h ∷ copies) = AllByRecursion (λ k. (c : ℕ) → has h.set c ≡
 -- each clone is in one copy, whose log is that of the clone alone up to the front. Clones with equal logs share one,
 -- and each copy has a clone
 pub record ShowsClones (net : Net) (cs : List Clone) (s front : ℕ) (copies : List RackCopyView) : Type 0 where
-  pub few : length cs ≤ MAX_CLONES
-  pub early : front ≤ net.horizon
+  pub at_most : length cs ≤ MAX_CLONES
+  pub time_max : front ≤ net.horizon
   pub inhabited : (h : RackCopyView) → In h copies → (c : ℕ) × (has h.set c ≡ true)
   pub disjoint : AreDisjoint copies
   pub carried : (c : ℕ) → c < length cs → (h : RackCopyView) × In h copies × (has h.set c ≡ true)

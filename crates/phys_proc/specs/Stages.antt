@@ -14,8 +14,8 @@ pub record MayStepCopies (net : Net) (s bound : ℕ) (copies : List StationCopy)
   pub valid : IsNet net
   pub fits : AllByRecursion (IsCopy net s) copies
   pub disjoint : Disjoint has copies
-  pub early : bound ≤ net.horizon
-  pub few : all_sizes copies ≤ MAX_CLONES
+  pub time_max : bound ≤ net.horizon
+  pub at_most : all_sizes copies ≤ MAX_CLONES
 
 -- no copy has reached the bound yet, nothing was sent or handled, and no clone is over the limit
 pub record IsNewStage (stage : Stage) : Type 0 where

@@ -45,7 +45,7 @@ pub(crate) fn next_due(
     bound: u64,
     horizon: u64,
 ) -> Option<CloneSet>
-    requires early { bound ≤ horizon }
+    requires time_max { bound ≤ horizon }
     requires sorted { SortedMarked msg_cmp copy.old.pending }
     ensures some { IfSome result (λ k. (m : Msg') × NextDue (ends_in horizon ends.now) bound copy.old copy.new m k) }
     ensures none { IfNone result (NothingDue (ends_in horizon ends.now) bound copy.old copy.new) }
@@ -99,7 +99,7 @@ pub(crate) fn handle_least<L: Ledger>(
     requires due { (m : Msg') × (k : CloneSet') × (q : List (Msg' × CloneSet')) × (copy.old.pending ≡ (m, k) ∷ q) ×
         (m.key.time < model.now.horizon) }
     requires fits { IsCopy model.now station copy.old }
-    requires short { length copy.old.log < model.now.limit }
+    requires length_max { length copy.old.log < model.now.limit }
     ensures handled { OnOk result (IsHandled model.now station copy.old copy.new sent.old.items sent.new.items) }
     ensures counted { OnOk result (steps.new ≡ steps.old + 1) }
 {

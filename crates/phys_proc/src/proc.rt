@@ -182,7 +182,7 @@ impl Proc {
         steps: &mut Steps<L>,
     ) -> Result<Gain, NoMemory>
         requires proc { IsProc model.now self.old }
-        requires early { bound ≤ model.now.horizon }
+        requires time_max { bound ≤ model.now.horizon }
         requires silent { sent.old.items ≡ [] }
         // result: the copies at the bound and their sends, if no log is over the limit
         ensures windows { IfOk result (λ g. g.over ≡ empty →
@@ -195,7 +195,7 @@ impl Proc {
         ensures gained { IfOk result (λ g. GainTogether (simulation model.now) has
             (ends_in model.now.horizon ends.now) self.old.station bound self.old.copies g.handled) }
         ensures counted { IfOk result (λ g. steps.new ≡ steps.old + g.handled) }
-        ensures few { IfOk result (λ g. g.handled ≤ size self.old.living * model.now.limit) }
+        ensures at_most { IfOk result (λ g. g.handled ≤ size self.old.living * model.now.limit) }
         // invariant: a station of the network, its number, and its clones if no log is over the limit
         ensures proc { OnOk result (IsProc model.now self.new) }
         ensures station { self.new.station ≡ self.old.station }

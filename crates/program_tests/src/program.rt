@@ -238,7 +238,7 @@ fn cloner_counted<G: Gate, L: Ledger, R: Threads + Wait + Sync>(
 ) -> u8
     requires name { blank.name ≡ L.name }
     requires parts { blank.parts ≡ L.parts }
-    requires some { 0 < L.parts }
+    requires nonempty { 0 < L.parts }
 {
     let mut steps = Steps::<L>::new(blank);
     cloner(rt, alloc, words, inputs, out, err, gate, &mut steps)

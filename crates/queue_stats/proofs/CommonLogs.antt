@@ -106,7 +106,7 @@ module _ (stats : Stats) (from until : ℕ) (c : HaveCommonLog stats from until)
 
   -- the log is within the limits
   short : length c.log ≤ MAX_HANDLED
-  short = let entries = c.entries_max in let limit = c.valid.short in omega (arith, entries, limit)
+  short = let entries = c.entries_max in let limit = c.valid.limit_max in omega (arith, entries, limit)
 
   -- the figures are those of the log
   arrived-is : stats.arrived ≡ arrival_count (moments c.log)

@@ -97,12 +97,12 @@ module _ (single : Bool) (h : ℕ) (log : List (Entry Msg Line)) (q : IsServerQu
       let long = moments-length 0 log in
       entries-within_limits 0 0 log (queue-within_limits q.queue
       (all_weaker (λ x. x.time < h) (λ x. x.time ≤ MAX_HORIZON) (moments log) (λ x l. omega (arith, l, early))
-      q.early) (omega (arith, long, short)))
+      q.time_max) (omega (arith, long, short)))
 
   -- no moment is after h
   pub all-until_end : AllByRecursion (λ x. x.time ≤ h) (moments log)
   all-until_end =
-      all_weaker (λ x. x.time < h) (λ x. x.time ≤ h) (moments log) (λ x l. omega (arith, l)) q.early
+      all_weaker (λ x. x.time < h) (λ x. x.time ≤ h) (moments log) (λ x l. omega (arith, l)) q.time_max
 
   -- ---- the sums of the log
 

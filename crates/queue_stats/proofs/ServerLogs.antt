@@ -32,9 +32,9 @@ module _ (net : Net) (valid : IsNet net) (s until : ℕ) (log : List (Entry Msg 
       record {
         servers = servers;
         queue = subst (λ l. IsQueue servers (moments l)) (sym of.is) q.queue;
-        early = subst (λ l. AllByRecursion (λ x. x.time < until) (moments l)) (sym of.is)
+        time_max = subst (λ l. AllByRecursion (λ x. x.time < until) (moments l)) (sym of.is)
             (subst (λ n. AllByRecursion (λ x. x.time < n) (moments (log_at net of.clone s of.front)))
-            (sym of.end) q.early);
+            (sym of.end) q.time_max);
         one = λ alone. eqb-true servers 1 (and_parts (servers == 1) (not by_class) alone).0;
       }
   server_queue_by (kind.Source lo hi jobs class) is yes' = absurd (false≢true yes')
@@ -52,7 +52,7 @@ module _ (net : Net) (valid : IsNet net) (s until : ℕ) (log : List (Entry Msg 
   until-le =
       let e = of.end in
       let w = of.within in
-      let h = valid.soon in
+      let h = valid.horizon_max in
       omega (arith, e, w, h)
 
   -- if waits are reported, visits end in order of arrival

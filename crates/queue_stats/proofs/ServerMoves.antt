@@ -84,7 +84,7 @@ module _ (s : ℕ) where
     pub station : r.out.sender.station ≡ o.sender.station
     pub lost : r.state.lost ≡ v.lost
     pub servers : r.state.servers ≡ v.servers
-    pub few : v.busy ≤ v.servers → r.state.busy ≤ v.servers
+    pub at_most : v.busy ≤ v.servers → r.state.busy ≤ v.servers
 
   -- no job is started
   starts_waiting-none : (v : ServerState) (o : Outgoing) → StartsWaiting v o (reaction v o)
@@ -94,7 +94,7 @@ module _ (s : ℕ) where
     station = refl;
     lost = refl;
     servers = refl;
-    few = λ l. l;
+    at_most = λ l. l;
   }
 
   -- jobs are started twice, one time after the other
@@ -106,8 +106,8 @@ module _ (s : ℕ) where
     station = b.station ∙ a.station;
     lost = b.lost ∙ a.lost;
     servers = b.servers ∙ a.servers;
-    few = λ l. subst (λ n. q.state.busy ≤ n) a.servers
-        (b.few (subst (λ n. r.state.busy ≤ n) (sym a.servers) (a.few l)));
+    at_most = λ l. subst (λ n. q.state.busy ≤ n) a.servers
+        (b.at_most (subst (λ n. r.state.busy ≤ n) (sym a.servers) (a.at_most l)));
   }
 
   -- a start sends the end of the job's service
@@ -140,7 +140,7 @@ module _ (s : ℕ) where
     station = refl;
     lost = refl;
     servers = refl;
-    few = λ l. omega (arith, free);
+    at_most = λ l. omega (arith, free);
   }
 
   -- if a server is free, the next waiting job is started
@@ -235,7 +235,7 @@ module _ (s : ℕ) where
           record {
             jobs = λ p. let a = moves.jobs p in let b = sent p in omega (arith, a, b);
             busy = let a = moves.busy in let b = sent (λ j. true) in omega (arith, a, b, some);
-            unchanged = λ no_change. (moves.servers, λ l. moves.few (omega (arith, l)));
+            unchanged = λ no_change. (moves.servers, λ l. moves.at_most (omega (arith, l)));
           }
       by false is = absurd (false≢true is)
 

@@ -122,7 +122,7 @@ module _ (net : Net) (valid : IsNet net) (s servers room lo hi : ℕ) (by_class 
               | inr j ↦ absurd j
             ];
         past = λ z i. tt;
-        early = tt;
+        time_max = tt;
         unchanged = λ none. (refl, omega arith);
       }
 
@@ -139,4 +139,4 @@ pub logs-are_queues : (net : Net) → IsNet net → LogsAreQueues net
 logs-are_queues net valid c s front servers room lo hi by_class there is_server =
     let bound : ℕ = min front (end_of (simulation net) c) in
     let h = world-run net valid s servers room lo hi by_class there is_server bound c.plans in
-    record { queue = h.queue; early = h.early }
+    record { queue = h.queue; time_max = h.time_max }

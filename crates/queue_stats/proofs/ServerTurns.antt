@@ -120,7 +120,7 @@ module _ (net : Net) (valid : IsNet net) (s servers : ℕ) (bound : ℕ) where
     pub numbers : (z : Msg) → In z pending → z.key.sender ≡ s → z.key.number < st.sender.next
     -- no pending message is earlier than the log, and the log is before the bound
     pub past : (z : Msg) → In z pending → AllByRecursion (λ x. x.time ≤ z.key.time) (moments log)
-    pub early : AllByRecursion (λ x. x.time < bound) (moments log)
+    pub time_max : AllByRecursion (λ x. x.time < bound) (moments log)
     -- until a parameter changes, the number of servers is the first
     pub unchanged : count is_change (moments log) ≡ 0 → (server.servers ≡ servers) × (server.busy ≤ servers)
 
@@ -163,7 +163,7 @@ module _ (net : Net) (valid : IsNet net) (s servers : ℕ) (bound : ℕ) where
               (h.past m (inl refl))
           | inr j ↦ h.past z (inr j)
         ];
-        early = h.early;
+        time_max = h.time_max;
         unchanged = h.unchanged;
       }
 
@@ -272,8 +272,8 @@ module _ (net : Net) (valid : IsNet net) (s servers : ℕ) (bound : ℕ) where
                   omega (arith, l)
               | inr j ↦ law.order.timed m z (all_in (λ y. msg_cmp m y ≡ Less) q z sorted.0 j)
             ]));
-        early = subst (AllByRecursion (λ x. x.time < bound)) (sym joined)
-            (all_push (λ x. x.time < bound) ms mo h.early soon);
+        time_max = subst (AllByRecursion (λ x. x.time < bound)) (sym joined)
+            (all_push (λ x. x.time < bound) ms mo h.time_max soon);
         unchanged = λ none. unchanged (sym (ap (count is_change) joined) ∙ none);
       }
     where

@@ -40,7 +40,7 @@ pub record IsLogOf (net : Net) (s until : ℕ) (log : List (Entry Msg Line)) : T
 -- the log is the history of a queue, and all of it is before the front and the clone's end
 pub record IsQueueUntil (net : Net) (c : Clone) (s front servers : ℕ) : Type 0 where
   pub queue : IsQueue servers (moments (log_at net c s front))
-  pub early : AllByRecursion (λ x. x.time < min front (end_of (simulation net) c)) (moments (log_at net c s front))
+  pub time_max : AllByRecursion (λ x. x.time < min front (end_of (simulation net) c)) (moments (log_at net c s front))
 
 -- the log of every server is such a history, in any clone and at any front
 abbrev pub LogsAreQueues : Net → Type 0

@@ -31,5 +31,5 @@ pub data IsQueue (servers : ℕ) : List Moment → Type 0 where
 pub record IsServerQueue (single : Bool) (h : ℕ) (log : List (Entry Msg Line)) : Type 0 where
   pub servers : ℕ
   pub queue : IsQueue servers (moments log)
-  pub early : AllByRecursion (λ x. x.time < h) (moments log)
+  pub time_max : AllByRecursion (λ x. x.time < h) (moments log)
   pub one : single ≡ true → servers ≡ 1

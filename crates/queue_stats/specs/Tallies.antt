@@ -62,7 +62,7 @@ empty_tally = record {
 -- an entry may be added, since no sum gets too large
 pub record MayAdd (t : Tally) (e : Entry Msg Line) : Type 0 where
   pub later : t.last_time ≤ e.msg.key.time
-  pub early : e.msg.key.time ≤ MAX_HORIZON
+  pub time_max : e.msg.key.time ≤ MAX_HORIZON
   pub in_system : busy_in e.line + wait_in e.line ≤ MAX_HANDLED
   pub arrived : t.arrived < MAX_HANDLED
   pub lost : t.lost < MAX_HANDLED

@@ -43,9 +43,9 @@ module _ (net : Net) where
       and _ _ (range-true 1 s.lo s.hi fits.range) (le-leb s.sent jobs (let k = kept in omega (arith, k, sent)))
   fits_shape-shape_of site (kind.Server servers room lo hi by_class) handled (Server s) few valid kept fits of sent =
       let rules = fits.rules in
-      and _ _ (and _ _ (within-true 1 _ s.servers rules.some rules.few)
+      and _ _ (and _ _ (within-true 1 _ s.servers rules.at_least rules.at_most)
       (and _ _ (le-leb s.room _ rules.small) (range-true 1 s.lo s.hi rules.service)))
-      (and _ _ (and _ _ (and _ _ (le-leb s.busy _ fits.busy) (le-leb (length s.waiting) _ fits.short))
+      (and _ _ (and _ _ (and _ _ (le-leb s.busy _ fits.busy) (le-leb (length s.waiting) _ fits.length_max))
       (line-true (length s.waiting) s.busy s.servers fits.line))
       (and _ _ (and _ _ (le-leb s.done handled fits.done) (le-leb s.lost handled fits.lost))
       (all_pass-true (is_job_of net) s.waiting kept)))
@@ -60,7 +60,7 @@ module _ (net : Net) where
       weights [] all = tt
       weights (w ∷ ws) all = (within-true 1 MAX_WEIGHT w all.0.heavy all.0.light, weights ws all.1)
   fits_shape-shape_of site kind.Sink handled (Sink s) few valid kept fits of sent =
-      let short = valid.short in
+      let short = valid.limit_max in
       let k = kept in
       and _ _ (le-leb s.got handled fits.got) (lt-ltb s.stay MAX_STAY_SUM (omega (arith, k, few, short)))
   fits_shape-shape_of site k handled s few valid kept fits of sent = absurd kept

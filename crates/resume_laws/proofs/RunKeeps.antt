@@ -185,7 +185,7 @@ module _ (net : Net) (valid : IsNet net) where
       let left = h.jobs_max in
       let jobs = h.jobs in
       let busy = h.busy in
-      let soon : net.horizon + 2 * MAX_TIME < MAX_EVENT_TIMES = let far = valid.soon in omega (arith, far) in
+      let soon : net.horizon + 2 * MAX_TIME < MAX_EVENT_TIMES = let far = valid.horizon_max in omega (arith, far) in
       record {
         states = put_cases (RunKeepsState net) x.states r st2 h.state (λ s n. kept.states s);
         pending = all_insert_all (lawful-stations net valid).order.order (RunKeepsMessage net) zs q
@@ -395,7 +395,7 @@ module _ (net : Net) (valid : IsNet net) where
       AllByRecursion (RunKeepsMessage net) (set_messages (simulation net) k plans)
   set_messages-keeps k [] early = tt
   set_messages-keeps k (p ∷ ps) early =
-      let far = valid.soon in
+      let far = valid.horizon_max in
       let now = early.0 in
       (record { job = tt; time_max = omega (arith, far, now) }, set_messages-keeps (suc k) ps early.1)
 

@@ -32,7 +32,7 @@ module _ (net : Net) (valid : IsNet net) where
   log_at-early c s front within =
       let trace : List (Entry Msg Line) = (run_of (simulation net) c front).at.trace in
       let bound : ℕ = min front (end_of (simulation net) c) in
-      let far = valid.soon in
+      let far = valid.horizon_max in
       all_from (λ e. e.msg.key.time < MAX_EVENT_TIMES) (log_at net c s front) (λ e i.
       let early : e.msg.key.time < min front (end_of (simulation net) c) =
       all_in (λ e. e.msg.key.time < bound) trace e (trace_below (lawful-stations net valid) c.plans bound)

@@ -30,7 +30,7 @@ AreJoined-ready traces c from (s ∷ spans) until there h zero d below =
     let is = h.0 in
     let begins = h.1 in
     let order = h.2 in
-    record { there = omega (arith, there, is); order = omega (arith, begins, order) }
+    record { in_range = omega (arith, there, is); order = omega (arith, begins, order) }
 AreJoined-ready traces c from (s ∷ spans) until there h (suc i) d below =
     AreJoined-ready traces c s.until spans until there h.3 i d (omega (arith, below))
 

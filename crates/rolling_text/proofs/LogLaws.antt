@@ -176,8 +176,8 @@ module _ (world : WorldView) (over : IsOver world) (c : ℕ) (there : c < length
   -- its decisions and logs are few enough for numbers of 64 bits
   counted : HasFewNumbers net clone world.front
   counted = record {
-    there = over.in_net.plans c there;
-    short = over.short c there;
+    in_range = over.in_net.plans c there;
+    length_max = over.length_max c there;
     within = over.within c there;
   }
 
@@ -188,8 +188,8 @@ module _ (world : WorldView) (over : IsOver world) (c : ℕ) (there : c < length
       let early = small.0 in
       let sender = small.1.sender in
       let done = over.done in
-      let soon = over.valid.soon in
-      let few = over.valid.few in
+      let soon = over.valid.horizon_max in
+      let few = over.valid.at_most in
       record { time = omega (arith, early, done, soon); sender = omega (arith, sender, few); number = small.1.number })
 
   -- a cursor may take the log, from any time on

@@ -15,7 +15,7 @@ use Rattle.rolling_text.proofs.Puts.{left_fits, put_cut, put_on}
 pub MayPut-begin : (traces : WorldTracesView) (span : TextSpan) (texts : Texts) (t : ℕ) → span.from ≤ t →
     MayPut traces span texts → MayPut traces (record span { until = t }) texts
 MayPut-begin traces span texts t order may = record {
-  has_span = record { there = may.has_span.there; order = order };
+  has_span = record { in_range = may.has_span.in_range; order = order };
   can = may.can;
   fits = may.fits;
 }
@@ -26,7 +26,7 @@ module _ (traces : WorldTracesView) (span : TextSpan) (t : ℕ) (old mid : Texts
   pub MayPut-rest : t ≤ span.until → CanPut traces.net mid → MayPut traces span old →
       MayPut traces (record span { from = t }) mid
   MayPut-rest order can may = record {
-    has_span = record { there = may.has_span.there; order = order };
+    has_span = record { in_range = may.has_span.in_range; order = order };
     can = can;
     fits = left_fits span.keeps _ _ _ _ _ _ put may.fits;
   }

@@ -53,5 +53,5 @@ pub record IsUnderWay (traces : WorldTracesView) (call : CallView WorldTracesVie
     Type 0 where
   pub work : call.work ≡ traces
   pub joined : AreJoined c from call.items until
-  pub some : 1 ≤ most
-  pub few : most ≤ MAX_TASKS
+  pub at_least : 1 ≤ most
+  pub at_most : most ≤ MAX_TASKS

@@ -14,7 +14,7 @@ pub record Span : Type 0 where
 
 -- the place of one of these clones, and two times in order
 pub record HasSpan (traces : WorldTracesView) (c from until : ℕ) : Type 0 where
-  pub there : c < length traces.clones
+  pub in_range : c < length traces.clones
   pub order : from ≤ until
 
 -- the lines of one of these clones from one time up to another

@@ -37,15 +37,15 @@ AreShort cs = (k : ℕ) → k < length cs → length (clone_at cs k).plans ≤ W
 pub record IsOver (world : WorldView) : Type 0 where
   pub valid : IsNet world.net
   pub in_net : AreInNet world.net world.clones
-  pub few : length world.clones ≤ MAX_CLONES
+  pub at_most : length world.clones ≤ MAX_CLONES
   pub done : world.front ≡ world.net.horizon
   pub within : NoneBeyond world.net world.clones world.front
-  pub short : AreShort world.clones
+  pub length_max : AreShort world.clones
 
 -- a world at the horizon that has this clone
 pub record IsOverWith (world : WorldView) (c : ℕ) : Type 0 where
   pub over : IsOver world
-  pub there : c < length world.clones
+  pub in_range : c < length world.clones
 
 -- a world at the horizon, and the stations' names for its lines
 pub record MayTrace (world : WorldView) (names : List Slot) : Type 0 where

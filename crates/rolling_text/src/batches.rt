@@ -144,11 +144,11 @@ fn cut_spans<'t>(
     most: usize,
 ) -> Result<(Vec<TextSpan>, u64), NoMemory>
     requires span { HasSpan traces.now span.c span.from span.until }
-    requires some { 1 ≤ most }
+    requires at_least { 1 ≤ most }
     requires long { span.from < span.until }
     ensures joined { IfOk result (λ r. AreJoined span.c span.from r.0.items r.1) }
     ensures within { IfOk result (λ r. r.1 ≤ span.until) }
-    ensures few { IfOk result (λ r. length r.0.items ≤ most) }
+    ensures at_most { IfOk result (λ r. length r.0.items ≤ most) }
     ensures further { IfOk result (λ r. span.from < r.1) }
 {
     let mut spans = Vec::with_capacity(alloc, most)?;
@@ -174,7 +174,7 @@ fn finish_counted<'t, L: Ledger, R: Wait>(
 ) -> Result<(Crew<'static, Lines<'t>, NoGate>, Vec<Vec<u8>>), NoMemory>
     requires name { blank.name ≡ L.name }
     requires parts { blank.parts ≡ L.parts }
-    requires some { 0 < L.parts }
+    requires nonempty { 0 < L.parts }
     ensures made { IfOk result (λ r. AreMade started.entry.work started.entry.items r.1.items) }
 {
     let mut steps = Steps::<L>::new(blank);
@@ -192,7 +192,7 @@ impl<'t> Makers<'t> {
         span: TextSpan,
     ) -> Result<Batch<'t>, NoMemory>
         requires span { HasSpan self span.c span.from span.until }
-        requires some { span.from < span.until }
+        requires nonempty { span.from < span.until }
         ensures batch { IfOk result (λ b. IsBatchOf self.entry span b) }
     {
         let Makers { lines, crew, spans } = self;

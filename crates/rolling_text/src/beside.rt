@@ -69,7 +69,7 @@ fn start_batch<'t>(
 ) -> Option<Batch<'t>>
     requires makers { MakeFor traces.now help.old.makers }
     requires span { HasSpan traces.now span.c span.from span.until }
-    requires some { span.from < span.until }
+    requires nonempty { span.from < span.until }
     ensures batch { IfSome result (λ batch. IsBatchOf traces.now span batch) }
     ensures makers { MakeFor traces.now help.new.makers }
 {
@@ -166,7 +166,7 @@ fn put_by_makers<'t, O: Sink, R: Wait>(
 
 // Whether a span has few lines.
 fn is_short(traces: &WorldTraces<'_>, span: TextSpan) -> bool
-    requires there { span.c < length traces.now.clones }
+    requires in_range { span.c < length traces.now.clones }
 {
     let place = place_in(traces.world, &traces.order, span.c);
     let all = count_from(traces.world, place, span.from);

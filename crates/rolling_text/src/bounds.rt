@@ -24,7 +24,7 @@ use world_core::World;
 fn meet_log(model: &Model, names: &Names, log: &Log, from: u64)
     requires names { AreNames model.now names.now }
     requires rises { RiseByTime log.now }
-    ensures short { HaveShortLines model.now (from_time from log.now) }
+    ensures length_max { HaveShortLines model.now (from_time from log.now) }
 {
     let mut walk = log.walk_from_time(from);
     while let Some(entry) = walk.next() {
@@ -35,8 +35,8 @@ fn meet_log(model: &Model, names: &Names, log: &Log, from: u64)
 // The same for all entries of a clone from a time on.
 fn meet_rest(world: &World, names: &Names, c: u32, from: u64)
     requires may_trace { MayTrace world.now names.now }
-    requires there { c < length world.now.clones }
-    ensures short { HaveShortLines world.now.net (entries_from (simulation world.now.net) from
+    requires in_range { c < length world.now.clones }
+    ensures length_max { HaveShortLines world.now.net (entries_from (simulation world.now.net) from
         (trace_of world.now.net (clone_at world.now.clones c))) }
 {
     let model = world.model();
@@ -48,9 +48,9 @@ fn meet_rest(world: &World, names: &Names, c: u32, from: u64)
 // An upper bound of the bytes in the lines of a clone, from the number of lines.
 fn bound_of(world: &World, c: u32) -> usize
     requires clone { IsOverWith world.now c }
-    requires short { HaveShortLines world.now.net (trace_of world.now.net (clone_at world.now.clones c)) }
+    requires length_max { HaveShortLines world.now.net (trace_of world.now.net (clone_at world.now.clones c)) }
     ensures bound { length (body world.now.net (clone_at world.now.clones c)) ≤ result }
-    ensures few { result ≤ MAX_TEXT }
+    ensures at_most { result ≤ MAX_TEXT }
 {
     let mut bound = 0;
     for s in 0..world.model().len() {
@@ -61,7 +61,7 @@ fn bound_of(world: &World, c: u32) -> usize
 
 /// The time from which the lines of a clone differ from those of the previous one: 0 if there is none.
 pub(crate) fn parting_at(traces: &WorldTraces<'_>, c: u32) -> u64
-    requires there { c < length traces.now.clones }
+    requires in_range { c < length traces.now.clones }
     ensures value { result ≡ parting_at' traces.now.net traces.now.clones c }
 {
     if c == 0 {
@@ -74,7 +74,7 @@ pub(crate) fn parting_at(traces: &WorldTraces<'_>, c: u32) -> u64
 pub(crate) fn greatest_bound(traces: &WorldTraces<'_>) -> usize
     ensures bound { (c : ℕ) → c < length traces.now.clones
         → length (body traces.now.net (clone_at traces.now.clones c)) ≤ result }
-    ensures few { result ≤ MAX_TEXT }
+    ensures at_most { result ≤ MAX_TEXT }
 {
     let mut most = 0usize;
     for c in 0..traces.len() {

@@ -21,7 +21,7 @@ pub(crate) struct Cuts<'a> {
 impl<'a> Cuts<'a> {
     /// Cuts what a clone handled from one time up to another.
     pub(crate) fn new(traces: &WorldTraces<'a>, c: u32, from: u64, until: u64) -> Cuts<'a>
-        requires there { c < length traces.now.clones }
+        requires in_range { c < length traces.now.clones }
     {
         let place = place_in(traces.world, &traces.order, c);
         let busiest = busiest_of(traces.world, place, from, until);
@@ -42,8 +42,8 @@ impl<'a> Cuts<'a> {
         from: u64,
         until: u64,
     ) -> u64
-        requires there { c < length traces.now.clones }
-        requires some { from < until }
+        requires in_range { c < length traces.now.clones }
+        requires nonempty { from < until }
         ensures later { from < result }
         ensures within { result ≤ until }
     {

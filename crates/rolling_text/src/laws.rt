@@ -9,6 +9,6 @@ ghost use Rattle.rolling_text.specs.WorldTraces.{AreShort};
 
 /// A call adds at most one decision to one list. So after at most 2^21 calls the lists are short enough for texts.
 pub fn lists_stay_short()
-    ensures short { (net : Net) (calls : List Call) → length calls ≤ WORD_NUMBERS
+    ensures length_max { (net : Net) (calls : List Call) → length calls ≤ WORD_NUMBERS
         → AreShort (clones_after_calls net (base ∷ []) calls) }
 {}

@@ -21,11 +21,11 @@ use world_core::World;
 fn log_len(model: &Model, names: &Names, log: &Log, from: u64, until: u64) -> usize
     requires names { AreNames model.now names.now }
     requires rises { RiseByTime log.now }
-    requires short { length log.now ≤ MAX_LIMIT }
+    requires length_max { length log.now ≤ MAX_LIMIT }
     requires order { from ≤ until }
     ensures value { result + sum_by (λ e. length (entry_line model.now e)) (from_time until log.now)
         ≡ sum_by (λ e. length (entry_line model.now e)) (from_time from log.now) }
-    ensures short { result ≤ MAX_LINE * MAX_LIMIT }
+    ensures length_max { result ≤ MAX_LINE * MAX_LIMIT }
 {
     let mut sum = 0;
     let mut walk = log.walk_from_time(from);
@@ -41,11 +41,11 @@ fn log_len(model: &Model, names: &Names, log: &Log, from: u64, until: u64) -> us
 /// The length of the lines of a clone from one time up to another.
 pub(crate) fn len_between(world: &World, names: &Names, c: u32, from: u64, until: u64) -> usize
     requires may_trace { MayTrace world.now names.now }
-    requires there { c < length world.now.clones }
+    requires in_range { c < length world.now.clones }
     requires order { from ≤ until }
     ensures value { result + length (rest world.now.net (clone_at world.now.clones c) until)
         ≡ length (rest world.now.net (clone_at world.now.clones c) from) }
-    ensures short { result ≤ MAX_TEXT }
+    ensures length_max { result ≤ MAX_TEXT }
 {
     let model = world.model();
     let mut sum = 0;

@@ -37,7 +37,7 @@ impl Page {
     /// The length of the text.
     pub fn len(&self) -> usize
         ensures value { result ≡ length self.now.text }
-        ensures short { result < 2 ^ 63 }
+        ensures length_max { result < 2 ^ 63 }
     {
         self.bytes.len()
     }

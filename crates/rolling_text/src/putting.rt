@@ -50,7 +50,7 @@ fn put_head(page: &mut Page, name: &Name) -> usize
 // Begins the text of a clone: drops the last `dropped` bytes of the page, which keeps the lines before the time at
 // which it parts from the previous clone. Then writes its name line before them. Returns where that begins.
 fn begin_text(traces: &WorldTraces<'_>, c: u32, time: u64, dropped: usize, page: &mut Page) -> usize
-    requires there { c < length traces.now.clones }
+    requires in_range { c < length traces.now.clones }
     requires time { time ≡ parting_at' traces.now.net traces.now.clones c }
     requires margin { MARGIN ≤ length page.old.text }
     requires left { AreLeft traces.now.net traces.now.clones c dropped (drop MARGIN page.old.text) }
@@ -115,7 +115,7 @@ fn put_rest<'t, O: Sink, P: SpanPutter<'t>>(
 
 // The length of the lines of a clone from one time up to another.
 fn bytes_between(traces: &WorldTraces<'_>, c: u32, from: u64, until: u64) -> usize
-    requires there { c < length traces.now.clones }
+    requires in_range { c < length traces.now.clones }
     requires order { from ≤ until }
     ensures value { result + length (rest traces.now.net (clone_at traces.now.clones c) until)
         ≡ length (rest traces.now.net (clone_at traces.now.clones c) from) }
@@ -135,7 +135,7 @@ fn put_text<'t, O: Sink, P: SpanPutter<'t>>(
     out: &mut O,
 ) -> Result<usize, PutFailed>
     requires puts_for { P.puts_for putter.old traces.now }
-    requires there { c < length traces.now.clones }
+    requires in_range { c < length traces.now.clones }
     requires can { CanPut traces.now.net texts.old }
     requires fits { AllFit traces.now.net traces.now.clones texts.old.page.reserved }
     requires margin { MARGIN ≤ length texts.old.page.text }

@@ -17,8 +17,8 @@ pub(crate) enum TextOrder {
 /// The place in the world of the clone whose text is at place `c` among the texts.
 pub(crate) fn place_in(world: &World, order: &TextOrder, c: u32) -> u32
     requires order { IsOrderOf order.now world.now.clones }
-    requires there { c < length (clones_by order.now world.now.clones) }
-    ensures there { result < length world.now.clones }
+    requires in_range { c < length (clones_by order.now world.now.clones) }
+    ensures in_range { result < length world.now.clones }
     ensures same { clone_at (clones_by order.now world.now.clones) c ≡ clone_at world.now.clones result }
 {
     let _clones = world.lists();

@@ -60,7 +60,7 @@ impl<'a> WorldTraces<'a> {
     // Makes the traces of a world at the horizon, in an order.
     fn by(world: &'a World, order: TextOrder) -> WorldTraces<'a>
         requires done { world.now.front ≡ world.now.net.horizon }
-        requires short { AreShort world.now.clones }
+        requires length_max { AreShort world.now.clones }
         requires order { IsOrderOf order world.now.clones }
         ensures value { result ≡ record { net = world.now.net; clones = clones_by order world.now.clones } }
     {
@@ -77,7 +77,7 @@ impl<'a> WorldTraces<'a> {
     /// Makes the traces of a world at the horizon, in creation order of its clones.
     pub fn of(world: &'a World) -> WorldTraces<'a>
         requires done { world.now.front ≡ world.now.net.horizon }
-        requires short { AreShort world.now.clones }
+        requires length_max { AreShort world.now.clones }
         ensures value { result ≡ record { net = world.now.net; clones = world.now.clones } }
     {
         WorldTraces::by(world, TextOrder::AsMade)
@@ -87,7 +87,7 @@ impl<'a> WorldTraces<'a> {
     /// the first place.
     pub fn in_order(world: &'a World, order: Vec<u32>) -> WorldTraces<'a>
         requires done { world.now.front ≡ world.now.net.horizon }
-        requires short { AreShort world.now.clones }
+        requires length_max { AreShort world.now.clones }
         requires order { IsPlaceOrder (length world.now.clones) order.items }
         ensures value { result ≡ record { net = world.now.net; clones = in_order' world.now.clones order.items } }
     {
@@ -97,7 +97,7 @@ impl<'a> WorldTraces<'a> {
     /// The number of clones.
     pub fn len(&self) -> u32
         ensures value { result ≡ length self.now.clones }
-        ensures few { result ≤ MAX_CLONES }
+        ensures at_most { result ≤ MAX_CLONES }
         ensures valid { IsNet self.now.net }
         ensures in_net { AreInNet self.now.net self.now.clones }
     {
@@ -106,7 +106,7 @@ impl<'a> WorldTraces<'a> {
 
     /// A clone's name.
     pub fn name(&self, c: u32) -> Name
-        requires there { c < length self.now.clones }
+        requires in_range { c < length self.now.clones }
         ensures value { result ≡ (clone_at self.now.clones c).name }
     {
         let place = place_in(self.world, &self.order, c);
@@ -115,8 +115,8 @@ impl<'a> WorldTraces<'a> {
 
     /// The time before which a clone and the previous one have the same trace.
     pub fn parting_with_last(&self, c: u32) -> u64
-        requires some { 1 ≤ c }
-        requires there { c < length self.now.clones }
+        requires at_least { 1 ≤ c }
+        requires in_range { c < length self.now.clones }
         ensures value { result ≡ parting_with_last' self.now.net self.now.clones c }
     {
         let before = place_in(self.world, &self.order, c - 1);

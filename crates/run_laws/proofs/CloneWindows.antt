@@ -59,7 +59,7 @@ module _ {S M N : Type 0} {sim : Simulation S M N} {Good : ℕ → S → Type 0}
         own = λ s z i. let h = in_own sim.to s (all_due sim c front) z i in (h.1, (in_filter early q z h.0).0);
         out = λ z i t. own_from sim.to (sim.to z) (all_due sim c front) z
             (filter_keeps early q z i (lt-ltb (sim.time z) (end_of sim c) t)) refl;
-        near = λ z i t.
+        bound_max = λ z i t.
             let h = within_least sim bound (all_due sim c front) z b
             (filter_keeps early q z i (lt-ltb (sim.time z) (end_of sim c) t)) in
             omega arith;

@@ -157,7 +157,7 @@ module _ {S M N K : Type 0} {sim : Simulation S M N} {Good : ℕ → S → Type 
           (sym e) (stay, f c (subst (λ x. Carries has x c) e h))
       | inr n ↦ absurd n
     ];
-    short = λ b i. elim i [ inl e ↦ subst (λ x. length x.log ≤ sim.limit) (sym e) short | inr n ↦ absurd n ];
+    length_max = λ b i. elim i [ inl e ↦ subst (λ x. length x.log ≤ sim.limit) (sym e) short | inr n ↦ absurd n ];
     some = λ c h. inl (r, inl refl, h);
     too_long = λ c h. inl h;
     still_over = λ c h. h;
@@ -175,7 +175,7 @@ module _ {S M N K : Type 0} {sim : Simulation S M N} {Good : ℕ → S → Type 
     gained = cut_full sim has ends s bound r sent full;
     within = λ b c i. absurd i;
     ran = λ b c i. absurd i;
-    short = λ b i. absurd i;
+    length_max = λ b i. absurd i;
     some = λ c h. inr (j.joined over r.set c ∙ or_right (has over c) (has r.set c) h);
     too_long = λ c h. elim (or_cases (has over c) (has r.set c) (sym (j.joined over r.set c) ∙ h)) [
       | inl e ↦ inl e
@@ -224,7 +224,7 @@ module _ {S M N K : Type 0} {sim : Simulation S M N} {Good : ℕ → S → Type 
         within = h.within;
         ran = λ b c i g. let x = h.ran b c i g in let y = h.within b c i g in
             (reach_trans (go stay (next c y)) x.0, x.1);
-        short = h.short;
+        length_max = h.length_max;
         some = h.some;
         too_long = λ c g. elim (h.too_long c g) [
           | inl e ↦ inl e
@@ -270,7 +270,7 @@ module _ {S M N K : Type 0} {sim : Simulation S M N} {Good : ℕ → S → Type 
         within = λ b c i g. nar.within c (h.within b c i g);
         ran = λ b c i g. let x = h.ran b c i g in
             (subst (λ u. Goes c u (seen c b after)) (v c (h.within b c i g)) x.0, x.1);
-        short = h.short;
+        length_max = h.length_max;
         some = λ c g. h.some c (all c g);
         too_long = λ c g. elim (h.too_long c g) [
           | inl e ↦ inl e
@@ -356,7 +356,7 @@ module _ {S M N K : Type 0} {sim : Simulation S M N} {Good : ℕ → S → Type 
           | inr l ↦ n2.within c (g.within b c l h)
         ];
         ran = λ b c i h. elim (in_append e1 e2 b i) [ inl l ↦ ran1 b c l h | inr l ↦ ran2 b c l h ];
-        short = λ b i. elim (in_append e1 e2 b i) [ inl l ↦ f.short b l | inr l ↦ g.short b l ];
+        length_max = λ b i. elim (in_append e1 e2 b i) [ inl l ↦ f.length_max b l | inr l ↦ g.length_max b l ];
         some = λ c h. elim (cover c h) [
           | inl i ↦ elim (f.some c i) [
             | inl x ↦ inl (x.0, append_old e1 e2 x.0 x.1, x.2)

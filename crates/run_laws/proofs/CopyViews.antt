@@ -48,7 +48,7 @@ module _ {S M N : Type 0} (sim : Simulation S M N) (s bound : ℕ) where
       let e : Config (LocalStation S M N) M =
       config_after sim.order (local_step sim.to (handle_until sim end) s) c.at m q in
       let n : Next sim.order sim.time (local_step sim.to (handle_until sim end) s) bound c e =
-      record { m = m; q = q; pending = p; early = early; is = refl } in
+      record { m = m; q = q; pending = p; time_max = early; is = refl } in
       elim (reach_first r n) [
         | inl a ↦ absurd (is_settled-no_next d e f
             (subst (λ x. Next sim.order sim.time (local_step sim.to (handle_until sim end) s) bound x e) (sym a) n))
@@ -214,7 +214,7 @@ module _ {S M N K : Type 0} (sim : Simulation S M N) {has : K → ℕ → Bool} 
         m = m;
         q = messages_taken sim has ends c q;
         pending = ap (messages_taken sim has ends c) p ∙ part_yes (takes sim has ends) c (m, k) q takes_it;
-        early = early;
+        time_max = early;
         is = station_parts (sim.handle s a.state m).state
             (a.log ++ record { msg = m; line = (sim.handle s a.state m).line } ∷ []) _ _ _ _
             (taken_aside sim has ends s c a.set (sim.handle s a.state m).sends sent in_set)

@@ -315,7 +315,7 @@ module _ {S M N K : Type 0} (sim : Simulation S M N) (has : K → ℕ → Bool) 
       -- the origin of each clone was there before
       within : (c : ℕ) → c < length cs + 1 → origin_of old (length cs) c < length cs
       within c k = elim (cases_eq c (length cs)) [
-        | inl e ↦ subst (λ b. cond b old c < length cs) (sym (eq-eqb c (length cs) e)) may.there
+        | inl e ↦ subst (λ b. cond b old c < length cs) (sym (eq-eqb c (length cs) e)) may.in_range
         | inr n ↦ subst (λ b. cond b old c < length cs) (sym (ne_eqb c (length cs) n)) (less n)
       ]
         where
@@ -343,7 +343,7 @@ module _ {S M N K : Type 0} {sim : Simulation S M N} {Good : ℕ → S → Type 
   stands_after_decision k copies done timely to_s of_who zip st =
       subst (λ m. front ≤ sim.time m → sim.to m ≡ s → AllZip (IsGiven sim has (ends_of sim cs) m k) copies done
       → Stands sim has (clones_with_plan cs who p) front s done) (sym timely.is)
-      (λ late to_s zip. stands_decision law has cs front s who timely.there p late copies done k to_s of_who
+      (λ late to_s zip. stands_decision law has cs front s who timely.in_range p late copies done k to_s of_who
       zip st)
       timely.late to_s zip
 
@@ -354,5 +354,5 @@ module _ {S M N K : Type 0} {sim : Simulation S M N} {Good : ℕ → S → Type 
   stands_after_other_decision copies timely not st =
       subst (λ m. front ≤ sim.time m → (sim.to m ≡ s → ⊥) → Stands sim has (clones_with_plan cs who p) front s copies)
       (sym timely.is)
-      (λ late not. stands_other_decision law has cs front s who timely.there p late copies not st)
+      (λ late not. stands_other_decision law has cs front s who timely.in_range p late copies not st)
       timely.late not

@@ -137,7 +137,7 @@ module _ {S M N : Type 0} (sim : Simulation S M N) (front : ℕ) where
         | inr i ↦ elim i [
           | inl e ↦ (
             clone_at cs old,
-            clone_in cs old may.there,
+            clone_in cs old may.in_range,
             subst (In m)
                 (ap (λ u. all_due sim u front) e ∙ all_due-fork sim (clone_at cs old) name may.going front) h.2,
           )

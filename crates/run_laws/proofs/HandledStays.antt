@@ -56,7 +56,7 @@ module _ {S M N : Type 0} {sim : Simulation S M N} {Good : ℕ → S → Type 0}
       handled_once sim same (clones_with_plan cs who p) s front ≡ handled_once sim same cs s front
   handled-added same cs front s who p m timely =
       ap (λ l. distinct_count (same_list same) (flat_map prefixes l))
-      (map-set (λ c. log_at sim c s front) cs who (with_plan (clone_at cs who) p) timely.there
+      (map-set (λ c. log_at sim c s front) cs who (with_plan (clone_at cs who) p) timely.in_range
       (ap (λ w. log_of sim.to s w.trace) (decision_adds_due law (clone_at cs who) p front
       (subst (λ m. front ≤ sim.time m) timely.is timely.late)).world))
 
@@ -95,7 +95,7 @@ module _ {S M N : Type 0} (sim : Simulation S M N) (same : Entry M N → Entry M
         | inl j ↦ subst (λ u. In u here) (sym h.2) (map_has f cs h.0 j)
         | inr j ↦ elim j [
           | inl e ↦ subst (λ u. In u here) (sym (h.2 ∙ ap f e ∙ log))
-              (map_has f cs (clone_at cs old) (clone_in cs old may.there))
+              (map_has f cs (clone_at cs old) (clone_in cs old may.in_range))
           | inr z ↦ absurd z
         ]
       ])

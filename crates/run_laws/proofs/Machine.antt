@@ -48,7 +48,7 @@ module _ {X M : Type 0} {cmp : M → M → Ordering} {time : M → ℕ} {handle 
   -- with nothing left before the bound there is no next message
   pub is_settled-no_next : (c e : Config X M) → IsSettled time bound c → Next cmp time handle bound c e → ⊥
   is_settled-no_next c e d n = let h = subst (AllByRecursion (λ m. bound ≤ time m)) n.pending d in
-      let a : bound ≤ time n.m = h.0 in let b = n.early in omega arith
+      let a : bound ≤ time n.m = h.0 in let b = n.time_max in omega arith
 
   -- with nothing left before the bound there is no turn
   pub is_settled-stays : {c d : Config X M} → IsSettled time bound c → Reach cmp time handle bound c d → d ≡ c
@@ -71,4 +71,4 @@ module _ {X M : Type 0} {cmp : M → M → Ordering} {time : M → ℕ} {handle 
       Reach cmp time handle bound c d → P d
   reach_keeps P a f stay = a
   reach_keeps {c} {d} P a f (go {d = e} r n) = subst P (sym n.is)
-      (f e.at n.m n.q n.early (subst (λ q. P (record { at = e.at; pending = q })) n.pending (reach_keeps P a f r)))
+      (f e.at n.m n.q n.time_max (subst (λ q. P (record { at = e.at; pending = q })) n.pending (reach_keeps P a f r)))

@@ -127,7 +127,7 @@ module _ {X M : Type 0} {cmp : M → M → Ordering} {time : M → ℕ} {handle 
   fine_keeps {bound} {c} {d} t P a f g (go {d = e} r n) =
       subst P (sym n.is) (f e.at n.m n.q
       (subst (λ q. Fine cmp time Good t (record { at = e.at; pending = q })) n.pending (fine_reach t g r))
-      n.early
+      n.time_max
       (subst (λ q. P (record { at = e.at; pending = q })) n.pending (fine_keeps t P a f g r)))
 
   -- ---- run_to
@@ -154,7 +154,7 @@ module _ {X M : Type 0} {cmp : M → M → Ordering} {time : M → ℕ} {handle 
       (all_weaker (λ s. time m < time s) (λ s. t < time s) (handle x m).1 (λ z h. omega arith)
       (law.later x m f.good)) ∙ k in
       let r = turns_reach bound t n d.at d.pending b (fine_after t x m q f.good f.sorted f.from_t) c in
-      (reach_trans (go stay (record { m = m; q = q; pending = refl; early = omega arith; is = refl })) r.0, r.1)
+      (reach_trans (go stay (record { m = m; q = q; pending = refl; time_max = omega arith; is = refl })) r.0, r.1)
 
   -- the run to a time is reached by turns, and has nothing before the time left
   pub run_reach : (bound t : ℕ) (c : Config X M) → t ≤ bound → Fine cmp time Good 0 c →
@@ -188,13 +188,13 @@ module _ {X M : Type 0} {cmp : M → M → Ordering} {time : M → ℕ} {handle 
   add_reach {bound} {c} {d} x l f (go {d = e} r n) =
       let g = fine_reach 0 f r in
       let s : Sorted cmp (n.m ∷ n.q) = subst (Sorted cmp) n.pending g.sorted in
-      let early = n.early in
+      let early = n.time_max in
       go (add_reach x l f r) (record {
         m = n.m;
         q = insert cmp x n.q;
         pending = ap (insert cmp x) n.pending ∙ later_place o (cmp x n.m) x n.m n.q (insert cmp x n.q) refl
             (omega arith);
-        early = n.early;
+        time_max = n.time_max;
         is = ap (and_pending cmp x) n.is
             ∙ ap (λ q. record { at = (handle e.at n.m).0; pending = q })
             (sym (insert_swap o.order x (handle e.at n.m).1 n.q s.1));

@@ -40,7 +40,7 @@ module _ {S M N K : Type 0} (sim : Simulation S M N) (has : K → ℕ → Bool) 
       };
       carried = λ a c i. absurd i;
       ran = λ a b c i. absurd i;
-      short = λ b i. absurd i;
+      length_max = λ b i. absurd i;
       too_long = λ c h. inl h;
       idle = λ c f. refl;
     }
@@ -132,7 +132,7 @@ module _ {S M N K : Type 0} {sim : Simulation S M N} {Good : ℕ → S → Type 
             | inr q ↦ absurd q
           ]
         ];
-        short = λ b i. elim (in_append new results b i) [ inl l ↦ h.short b l | inr l ↦ e.short b l ];
+        length_max = λ b i. elim (in_append new results b i) [ inl l ↦ h.length_max b l | inr l ↦ e.length_max b l ];
         too_long = λ c g. elim (e.too_long c g) [
           | inl x ↦ elim (h.too_long c x) [
             | inl y ↦ inl y
@@ -200,7 +200,7 @@ module _ {S M N K : Type 0} {sim : Simulation S M N} {Good : ℕ → S → Type 
           let y = fine a i in
           let r = h.ran a x.0 c i x.1 k x.2 in
           let e = ends_alone a c (view sim has ends c x.0 out) y.0 y.1 r.0 r.1 in
-          let b : length x.0.log ≤ sim.limit = h.short x.0 x.1 in
+          let b : length x.0.log ≤ sim.limit = h.length_max x.0 x.1 in
           let same : length x.0.log ≡ length (alone_from sim has ends s bound a c).at.log = ap (λ l. length l) e.log in
           absurd (omega (arith, b, long, same))
       | inr x ↦ x

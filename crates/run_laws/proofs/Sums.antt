@@ -45,7 +45,7 @@ module _ {X : Type 0} (g : X → ℕ) where
     rest : List X
     sum : sum_by g ys ≡ g x + sum_by g rest
     apart : Apart rest
-    there : (z : X) → In z ys → (z ≡ x) ⊎ In z rest
+    either : (z : X) → In z ys → (z ≡ x) ⊎ In z rest
     back : (z : X) → In z rest → In z ys × (z ≡ x → ⊥)
 
   -- there is one
@@ -55,7 +55,7 @@ module _ {X : Type 0} (g : X → ℕ) where
     rest = ys;
     sum = sum_by-cons g y ys ∙ ap (λ t. g t + sum_by g ys) (sym e);
     apart = a.1;
-    there = λ z j. elim j [ inl d ↦ inl (d ∙ sym e) | inr k ↦ inr k ];
+    either = λ z j. elim j [ inl d ↦ inl (d ∙ sym e) | inr k ↦ inr k ];
     back = λ z k. (inr k, λ d. a.0 (subst (λ t. In t ys) (d ∙ e) k));
   }
   Without-In x (y ∷ ys) a (inr i) =
@@ -67,9 +67,9 @@ module _ {X : Type 0} (g : X → ℕ) where
         rest = y ∷ h.rest;
         sum = omega (arith, s, whole, left);
         apart = (λ k. a.0 (h.back y k).0, h.apart);
-        there = λ z j. elim j [
+        either = λ z j. elim j [
           | inl d ↦ inr (inl d)
-          | inr k ↦ elim (h.there z k) [ inl d ↦ inl d | inr l ↦ inr (inr l) ]
+          | inr k ↦ elim (h.either z k) [ inl d ↦ inl d | inr l ↦ inr (inr l) ]
         ];
         back = λ z k. elim k [
           | inl d ↦ (inl d, λ f. a.0 (subst (λ t. In t ys) (sym f ∙ d) i))
@@ -85,7 +85,7 @@ module _ {X : Type 0} (g : X → ℕ) where
   same_sum (x ∷ xs) ys a b f h =
       let w = Without-In x ys b (f x (inl refl)) in
       let r = same_sum xs w.rest a.1 w.apart
-      (λ z i. elim (w.there z (f z (inr i))) [ inl d ↦ absurd (a.0 (subst (λ t. In t xs) d i)) | inr j ↦ j ])
+      (λ z i. elim (w.either z (f z (inr i))) [ inl d ↦ absurd (a.0 (subst (λ t. In t xs) d i)) | inr j ↦ j ])
       (λ z i. let k = w.back z i in elim (h z k.0) [ inl d ↦ absurd (k.1 d) | inr j ↦ j ]) in
       let s = w.sum in
       let c = sum_by-cons g x xs in

@@ -66,7 +66,7 @@ module _ {S M N : Type 0} {sim : Simulation S M N} {Good : ℕ → S → Type 0}
       let hd = head_before law.order end c.pending m n.q sorted (sym h.pending ∙ n.pending) in
       let r : List M = hd.0 in
       let sr : Sorted sim.order (m ∷ r) = subst (Sorted sim.order) hd.1 sorted in
-      let before_bound : sim.time m < bound = n.early in
+      let before_bound : sim.time m < bound = n.time_max in
       let before_end : sim.time m < end =
       ltb-true (sim.time m) end (in_filter early c.pending m
       (subst (In m) (h.pending) (subst (In m) (sym n.pending) (inl refl)))).1 in
@@ -75,7 +75,7 @@ module _ {S M N : Type 0} {sim : Simulation S M N} {Good : ℕ → S → Type 0}
       let ge : g ≡ there = ap (λ st. sim.handle s st m) h.state in
       let f : Config (LocalStation S M N) M = config_after sim.order (local_step sim.to sim.handle s) c.at m r in (
         f,
-        record { m = m; q = r; pending = hd.1; early = omega arith; is = refl },
+        record { m = m; q = r; pending = hd.1; time_max = omega arith; is = refl },
         record {
           state = ap (λ u. u.at.state) n.is ∙ ap (λ u. u.state) ge;
           log = ap (λ u. u.at.log) n.is ∙ ap (λ l. l ++ record { msg = m; line = g.line } ∷ []) h.log

@@ -39,7 +39,7 @@ module _ {S M N : Type 0} (sim : Simulation S M N) (bound end : ℕ) (due : ℕ 
     -- a message of the world before the end is left or laid aside by a window
     pub out : (m : M) → In m w.pending → sim.time m < end → In m (k (sim.to m)).pending
         ⊎ ((r : ℕ) × In m (k r).at.aside)
-    pub near : IsNear w
+    pub bound_max : IsNear w
     pub ran : (s : ℕ) → Reach sim.order sim.time (local_step sim.to sim.handle s) bound (window_start w0 s) (k s)
 
   -- when the windows begin, each station has the messages that are due to it
@@ -47,7 +47,7 @@ module _ {S M N : Type 0} (sim : Simulation S M N) (bound end : ℕ) (due : ℕ 
     pub sorted : (s : ℕ) → Sorted sim.order (due s)
     pub own : (s : ℕ) (z : M) → In z (due s) → (sim.to z ≡ s) × In z w.pending
     pub out : (z : M) → In z w.pending → sim.time z < end → In z (due (sim.to z))
-    pub near : IsNear w
+    pub bound_max : IsNear w
 
   -- a station's window to the bound
   abbrev window_at_bound : Config (World S M N) M → ℕ → Config (LocalStation S M N) M
@@ -98,7 +98,7 @@ module _ {S M N : Type 0} {sim : Simulation S M N} {Good : ℕ → S → Type 0}
       let old : (z : M) → In z q → In z new = insert_all_old o sent q in
       let add : (z : M) → In z sent → In z new = insert_all_new o sent q in
       let gm : Good r (x.states r) = good r in
-      let near_m : bound ≤ sim.time m + sim.lookahead = h.near m (inl refl) (omega arith) in
+      let near_m : bound ≤ sim.time m + sim.lookahead = h.bound_max m (inl refl) (omega arith) in
       let at_here : put k r v r ≡ v = put_same k r v r refl in (
         put k r v,
         record {
@@ -156,14 +156,14 @@ module _ {S M N : Type 0} {sim : Simulation S M N} {Good : ℕ → S → Type 0}
               )
             ]
           ];
-          near = λ z i t. elim (in_insert_all o sent q z i) [
+          bound_max = λ z i t. elim (in_insert_all o sent q z i) [
             | inl j ↦ let a : sim.time m < sim.time z =
                 all_in (λ x. sim.time m < sim.time x) sent z (law.later r (x.states r) m gm) j in omega arith
-            | inr j ↦ h.near z (inr j) t
+            | inr j ↦ h.bound_max z (inr j) t
           ];
           ran = put_cases (λ s c. Reach sim.order sim.time (local_step sim.to sim.handle s) bound
               (window_start sim bound end due w0 s) c) k r v
-              (go (h.ran r) (record { m = m; q = p; pending = is; early = early; is = refl }))
+              (go (h.ran r) (record { m = m; q = p; pending = is; time_max = early; is = refl }))
               (λ s n. h.ran s);
         },
       )
@@ -189,7 +189,7 @@ module _ {S M N : Type 0} {sim : Simulation S M N} {Good : ℕ → S → Type 0}
     own = h.own;
     aside = λ r z i. absurd i;
     out = λ z i t. inl (h.out z i t);
-    near = h.near;
+    bound_max = h.bound_max;
     ran = λ r. stay;
   }
 

@@ -187,7 +187,7 @@ module _ {S M N K : Type 0} (sim : Simulation S M N) (has : K → ℕ → Bool) 
       pub within : (b : Copy S M N K) (c : ℕ) → In b results → Carries has b c → Carries has r c
       pub ran : (b : Copy S M N K) (c : ℕ) → In b results → Carries has b c →
           Turns c (view c r before) (view c b after) × IsSettled sim.time bound (view c b after)
-      pub short : (b : Copy S M N K) → In b results → length b.log ≤ sim.limit
+      pub length_max : (b : Copy S M N K) → In b results → length b.log ≤ sim.limit
       pub some : (c : ℕ) → Carries has r c →
           ((b : Copy S M N K) × In b results × Carries has b c) ⊎ (has over_after c ≡ true)
       pub too_long : (c : ℕ) → has over_after c ≡ true → (has over c ≡ true) ⊎ (Carries has r c × GoesOver r before c)
@@ -229,7 +229,7 @@ module _ {S M N K : Type 0} (sim : Simulation S M N) (has : K → ℕ → Bool) 
           ((b : Copy S M N K) × In b new × Carries has b c) ⊎ (has over c ≡ true)
       pub ran : (a b : Copy S M N K) (c : ℕ) → In a old → In b new → Carries has a c → Carries has b c →
           Turns c (view c a []) (view c b out) × IsSettled sim.time bound (view c b out)
-      pub short : (b : Copy S M N K) → In b new → length b.log ≤ sim.limit
+      pub length_max : (b : Copy S M N K) → In b new → length b.log ≤ sim.limit
       pub too_long : (c : ℕ) → has over c ≡ true →
           (has over0 c ≡ true) ⊎ ((a : Copy S M N K) × In a old × Carries has a c × GoesOver a [] c)
       pub idle : (c : ℕ) → ((a : Copy S M N K) → In a old → Carries has a c → ⊥) → messages_taken c out ≡ []

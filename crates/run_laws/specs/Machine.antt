@@ -49,7 +49,7 @@ module _ {X M : Type 0} (cmp : M → M → Ordering) (time : M → ℕ) (handle 
     pub m : M
     pub q : List M
     pub pending : d.pending ≡ m ∷ q
-    pub early : time m < bound
+    pub time_max : time m < bound
     pub is : e ≡ config_after cmp handle d.at m q
 
   -- the machines that some turns, each of a message before the bound, reach from c

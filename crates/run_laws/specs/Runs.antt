@@ -10,7 +10,7 @@ use Rattle.run_laws.specs.World.{World, first_world, world_step, to_it, log_of}
 
 -- a clone may be forked: it exists, and has no end
 pub record MayFork (cs : List Clone) (old : ℕ) : Type 0 where
-  pub there : old < length cs
+  pub in_range : old < length cs
   pub going : (clone_at cs old).end ≡ None
 
 module _ {S M N : Type 0} (sim : Simulation S M N) where
@@ -28,7 +28,7 @@ module _ {S M N : Type 0} (sim : Simulation S M N) where
 
   -- m is the message of a decision of clone who, which exists, and comes at a front or later
   pub record IsTimelyPlan (cs : List Clone) (front who : ℕ) (p : Planned) (m : M) : Type 0 where
-    pub there : who < length cs
+    pub in_range : who < length cs
     pub is : m ≡ sim.set_message (length (clone_at cs who).plans) p
     pub late : front ≤ sim.time m
 

@@ -184,7 +184,7 @@ pub fn handled_once_stays<S, M, N, T: Stations<S, M, N>>()
 /// once.
 pub fn gains_add_up<S, M, N, K, T: Stations<S, M, N>>()
     ensures to_limit { HandledGrowsToLimit K T.sim }
-    ensures few { HandledIsFew K T.sim }
+    ensures at_most { HandledIsFew K T.sim }
     ensures copy { CopyGainsFew K T.sim T.good }
     ensures copies { CopiesGainFew K T.sim T.good }
     ensures windows { WindowsAddUp K T.sim }
@@ -193,7 +193,7 @@ pub fn gains_add_up<S, M, N, K, T: Stations<S, M, N>>()
 
 /// If no log is beyond the limit, the counts of a report are bounded.
 pub fn counts_are_few<S, M, N, T: Stations<S, M, N>>()
-    ensures few { CountsAreFew T.sim }
+    ensures at_most { CountsAreFew T.sim }
 {}
 
 /// From the copies: the number handled alone, the number of clones, and which clones share a log.

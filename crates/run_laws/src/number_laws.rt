@@ -12,7 +12,7 @@ use crate::laws::NumberingStations;
 pub trait Frugal<S, M, N>: NumberingStations<S, M, N> {
     ghost most: { ℕ };
 
-    ghost few: { UsesFewNumbers Self.sim Self.good Self.next most };
+    ghost at_most: { UsesFewNumbers Self.sim Self.good Self.next most };
 }
 
 /// Bounds on the sequence numbers of a run's messages: by the messages that their senders handled, and by the limit.

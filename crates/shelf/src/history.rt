@@ -196,7 +196,7 @@ impl<J: Naming> History<J> {
 
     /// Adds a rack.
     pub fn add(&mut self, rack: &Rack)
-        requires few { length self.old < MAX_RACKS }
+        requires at_most { length self.old < MAX_RACKS }
         requires may { MayBePublished self.old rack.now }
         ensures value { self.new ≡ self.old ++ rack.now ∷ [] }
     {

@@ -83,7 +83,7 @@ fn refresh<J: Naming>(handle: &mut ReadHandle<ShownVersion<J>>, newest: &mut Arc
 
 // What the version shows of the named clone at a station.
 fn glance_at<J: Naming>(version: &Version<J>, station: u32, who: &Name) -> Glance
-    requires there { HasRack station version.now }
+    requires has_rack { HasRack station version.now }
     ensures glance { (r : RackView) × (latest station version.now ≡ Some r) × IsGlance r who.now result }
 {
     version.rack(station).glance(who)
@@ -92,7 +92,7 @@ fn glance_at<J: Naming>(version: &Version<J>, station: u32, who: &Name) -> Glanc
 impl<J: Naming> Seat<J> {
     /// Looks at the station's newest rack. It waits for nobody, takes no memory, and always answers.
     pub fn look(&mut self, station: u32, who: &Name) -> Glance
-        requires there { HasRack station self.old }
+        requires has_rack { HasRack station self.old }
         ensures begins { IsPrefix self.old self.new }
         ensures legal { AreLegal self.new }
         // the result is that of the station's last rack, which is no older than the one that the seat knew

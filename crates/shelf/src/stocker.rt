@@ -45,7 +45,7 @@ fn at_place(
     place: usize,
     i: usize,
 ) -> Result<Arc<Rack>, NoMemory>
-    requires there { i < length racks.now }
+    requires in_range { i < length racks.now }
     ensures value { IfOk result (λ a. Some a.value ≡ with_rack (map arc_value racks.now) place rack.now.value i) }
 {
     if i == place {
@@ -77,7 +77,7 @@ fn replace_rack(
 fn publish_opening<J: Naming>(history: &mut History<J>, racks: &[Arc<Rack>])
     requires nothing { history.old ≡ [] }
     requires opening { MayOpen (map arc_value racks.now) }
-    requires few { length racks.now ≤ MAX_STATIONS }
+    requires at_most { length racks.now ≤ MAX_STATIONS }
     ensures opening { history.new ≡ map arc_value racks.now }
 {
     for i in 0..racks.len() {
@@ -116,7 +116,7 @@ fn next_version<J: Naming>(
     rack: &Rack,
     racks: Vec<Arc<Rack>>,
 ) -> Result<Arc<Version<J>>, NoMemory>
-    requires few { length history.old < MAX_RACKS }
+    requires at_most { length history.old < MAX_RACKS }
     requires may { MayBePublished history.old rack.now }
     requires shown { AreShown (map arc_value racks.items) (history.old ++ rack.now ∷ []) }
     ensures history { history.new ≡ history.old ++ rack.now ∷ [] }
@@ -134,7 +134,7 @@ where
     /// Makes this the last rack of its station. Out of memory, readers are shown what they were shown before. If the
     /// rack was in the history by then, each later publish is out of memory too.
     pub fn publish(&mut self, alloc: Global, rack: Rack) -> Result<(), NoMemory>
-        requires there { HasRack rack.station self.old.published }
+        requires has_rack { HasRack rack.station self.old.published }
         requires may { MayBePublished self.old.published rack }
         ensures published { OnOk result (self.new.published ≡ self.old.published ++ rack ∷ []) }
         ensures tells { OnOk result (self.new.has_published ≡ true) }
@@ -228,8 +228,8 @@ pub fn begin<J: Naming, R: Wait + Drop>(
 ) -> Result<(Stocker<J, R>, Vec<Seat<J>>), NoMemory>
     requires name { (opened.seen.book ≡ J.book) × (opened.pen.nib.key ≡ J.start) }
     requires opening { MayOpen racks.items }
-    requires few { length racks.items ≤ MAX_STATIONS }
-    requires some { 1 ≤ readers }
+    requires at_most { length racks.items ≤ MAX_STATIONS }
+    requires at_least { 1 ≤ readers }
     requires most { readers ≤ MAX_READERS }
     // what it gives: a stocker that has published these racks, without spares
     ensures published { IfOk result (λ r. r.0.published ≡ racks.items) }

@@ -56,7 +56,7 @@ impl<J: Naming> Version<J> {
 
     /// The last rack of a station.
     pub fn rack(&self, station: u32) -> &Rack
-        requires there { HasRack station self.now }
+        requires has_rack { HasRack station self.now }
         ensures last { latest station self.now ≡ Some result.now }
     {
         &self.racks[station as usize - 1]

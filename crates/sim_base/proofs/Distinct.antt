@@ -37,7 +37,12 @@ AreClones-set : (clones : List Clone) (c : ℕ) (k : Clone) → k.name ≡ (clon
     → AreClones (slice_set clones c k)
 AreClones-set clones c k e h =
     let long : length (slice_set clones c k) ≡ length clones = length-set clones c k in
-    record { some = rw long h.some; few = rw long h.few; distinct = rw (names_set clones c k e) h.distinct }
+    record {
+      nonempty = rw long h.nonempty;
+      at_most = rw long h.at_most;
+      distinct = rw (names_set clones c k e)
+          h.distinct;
+    }
 
 -- a fork under an unused name
 AreClones-forked : (clones : List Clone) (new : List ℕ) (old : ℕ) → place_of new clones ≡ None
@@ -47,8 +52,8 @@ AreClones-forked clones new old unused few h =
     let long = length_push clones k in
     let none = position-map (λ n. bytes_eq n new) (λ c. c.name) clones ∙ unused in
     record {
-      some = omega (arith, long);
-      few = rw long few;
+      nonempty = omega (arith, long);
+      at_most = rw long few;
       distinct = rw (map_push (λ c. c.name) clones k)
           (all_pairs_push (λ a b. bytes_eq a b ≡ false) (names clones) new h.distinct
           (none_passes (λ n. bytes_eq n new) (names clones) none));

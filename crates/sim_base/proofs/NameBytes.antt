@@ -30,7 +30,7 @@ padded_name text h =
     let short = short_name text h in
     record {
       behind = record {
-        short = short;
+        length_max = short;
         size = simp (length-append, drop-replicate, length-replicate) (omega arith);
         zeros = drop-append_seam text (drop (length text) (replicate MAX_NAME_LEN 0))
             ∙ drop-replicate (length text) MAX_NAME_LEN 0;

@@ -31,8 +31,8 @@ names clones = map (λ c. c.name) clones
 
 -- there is a clone, their number fits a u32, and no two have the same name
 pub record AreClones (clones : List Clone) : Type 0 where
-  pub some : 1 ≤ length clones
-  pub few : length clones < 2 ^ 32
+  pub nonempty : 1 ≤ length clones
+  pub at_most : length clones < 2 ^ 32
   pub distinct : AreDistinct (names clones)
 
 -- the default list, if there is none at a place

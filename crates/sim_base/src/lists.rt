@@ -83,8 +83,8 @@ impl Lists {
     /// The base clone alone, with memory reserved for `clones` clones of `plans` decisions each.
     pub fn with_room(alloc: Global, clones: u32, plans: u32) -> Result<Lists, NoMemory>
         requires one { 1 ≤ clones }
-        requires few { clones ≤ MAX_CLONES }
-        requires short { plans ≤ MAX_DECISIONS }
+        requires at_most { clones ≤ MAX_CLONES }
+        requires length_max { plans ≤ MAX_DECISIONS }
         ensures value { IfOk result (λ l.
             l ≡ record { clones = base ∷ []; reserved_clones = clones; reserved_plans = plans }) }
     {
@@ -114,7 +114,7 @@ impl Lists {
     /// The number of clones.
     pub fn len(&self) -> u32
         ensures value { result ≡ length self.now.clones }
-        ensures some { 1 ≤ result }
+        ensures at_least { 1 ≤ result }
     {
         self.clones.len() as u32
     }
@@ -123,7 +123,7 @@ impl Lists {
     #[tactic(auto, using(crate::proofs::CloneLists::seen_place))]
     pub fn find(&self, name: &Name) -> Option<u32>
         ensures value { result ≡ place_of name.now self.now.clones }
-        ensures there { IfSome result (λ c. c < length self.now.clones) }
+        ensures in_range { IfSome result (λ c. c < length self.now.clones) }
     {
         let c = place(self.clones.as_slice(), name)?;
         Some(c as u32)
@@ -132,7 +132,7 @@ impl Lists {
     /// A clone's name.
     #[tactic(auto, using(crate::proofs::CloneLists::seen_at))]
     pub fn name(&self, c: u32) -> Name
-        requires there { c < length self.now.clones }
+        requires in_range { c < length self.now.clones }
         ensures value { result ≡ (clone_at self.now.clones c).name }
         // no two clones have the same name
         ensures only { place_of result self.now.clones ≡ Some c }
@@ -143,7 +143,7 @@ impl Lists {
 
     /// A clone's decisions.
     pub fn list(&self, c: u32) -> &[Planned]
-        requires there { c < length self.now.clones }
+        requires in_range { c < length self.now.clones }
         ensures value { result.now ≡ (clone_at self.now.clones c).plans }
     {
         let clone = &self.clones.as_slice()[c as usize];
@@ -153,7 +153,7 @@ impl Lists {
     /// A clone's end.
     #[tactic(auto, using(crate::proofs::CloneLists::seen_end))]
     pub fn end_of(&self, c: u32) -> Option<u64>
-        requires there { c < length self.now.clones }
+        requires in_range { c < length self.now.clones }
         ensures value { result ≡ (clone_at self.now.clones c).end }
     {
         let clone = &self.clones[c as usize];
@@ -163,7 +163,7 @@ impl Lists {
     /// Sets a clone's end.
     #[tactic(auto, using(crate::proofs::CloneLists::seen_ended))]
     pub fn end(&mut self, c: u32, at: u64)
-        requires there { c < length self.old.clones }
+        requires in_range { c < length self.old.clones }
         requires once { (clone_at self.old.clones c).end ≡ None }
         ensures value { self.new ≡ record self.old { clones = clones_with_end self.old.clones c at } }
     {
@@ -174,7 +174,7 @@ impl Lists {
     /// nothing.
     #[tactic(auto, using(crate::proofs::CloneLists::seen_added))]
     pub fn add(&mut self, c: u32, plan: Planned) -> Result<(), NoMemory>
-        requires there { c < length self.old.clones }
+        requires in_range { c < length self.old.clones }
         ensures ok { OnOk result (
             self.new ≡ record self.old { clones = clones_with_plan self.old.clones c plan }) }
         ensures err { OnErr result (self.new ≡ self.old) }
@@ -188,9 +188,9 @@ impl Lists {
     /// memory, changes nothing.
     #[tactic(auto, using(crate::proofs::CloneLists::seen_fork))]
     pub fn fork(&mut self, alloc: Global, new: Name, old: u32) -> Result<(), NoMemory>
-        requires there { old < length self.old.clones }
+        requires in_range { old < length self.old.clones }
         requires unused { place_of new self.old.clones ≡ None }
-        requires few { length self.old.clones + 1 < 2 ^ 32 }
+        requires at_most { length self.old.clones + 1 < 2 ^ 32 }
         ensures ok { OnOk result (
             self.new ≡ record self.old { clones = clones_with_fork self.old.clones new old }) }
         ensures err { OnErr result (self.new ≡ self.old) }
@@ -211,10 +211,10 @@ impl Lists {
     /// Adds a clone with the old one's decisions and no end, within the reserved memory. Allocates nothing.
     #[tactic(auto, using(crate::proofs::CloneLists::seen_fork))]
     pub fn fork_in_reserved(&mut self, new: Name, old: u32)
-        requires there { old < length self.old.clones }
+        requires in_range { old < length self.old.clones }
         requires unused { place_of new self.old.clones ≡ None }
-        requires few { length self.old.clones < self.old.reserved_clones }
-        requires short { length (clone_at self.old.clones old).plans ≤ self.old.reserved_plans }
+        requires at_most { length self.old.clones < self.old.reserved_clones }
+        requires length_max { length (clone_at self.old.clones old).plans ≤ self.old.reserved_plans }
         ensures value { self.new ≡ record self.old { clones = clones_with_fork self.old.clones new old } }
     {
         let Some(plans) = self.spare.pop() else {
@@ -303,7 +303,7 @@ fn push_fork(
     new: Name,
     old: usize,
 ) -> Result<(), NoMemory>
-    requires there { old < length clones.old.items }
+    requires in_range { old < length clones.old.items }
     requires empty { plans.items ≡ [] }
     ensures ok { OnOk result (clones.new.items ≡
         clones.old.items ++ list_fork clones.old.items new old plans.reserved ∷ []) }
@@ -326,7 +326,7 @@ fn push_fork(
 
 // Sets the end of clone `c`.
 fn set_end(clones: &mut Vec<CloneList>, c: usize, at: u64)
-    requires there { c < length clones.old.items }
+    requires in_range { c < length clones.old.items }
     ensures ok { clones.new.items ≡ lists_with_end clones.old.items c at }
     ensures capacity { vec_capacity clones.old ≤ vec_capacity clones.new }
 {
@@ -336,7 +336,7 @@ fn set_end(clones: &mut Vec<CloneList>, c: usize, at: u64)
 
 // Adds a decision to the list of clone `c`.
 fn push_plan(clones: &mut Vec<CloneList>, c: usize, plan: Planned) -> Result<(), NoMemory>
-    requires there { c < length clones.old.items }
+    requires in_range { c < length clones.old.items }
     ensures ok { OnOk result (clones.new.items ≡ lists_with_plan clones.old.items c plan) }
     ensures err { OnErr result (clones.new.items ≡ clones.old.items) }
     ensures reserved { length (list_at clones.old.items c).plans.items

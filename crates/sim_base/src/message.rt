@@ -45,7 +45,7 @@ impl Key {
     #[inline(always)]
     pub fn word(self, place: u64) -> u64
         requires fit { FitsWord self }
-        requires few { place < WORD_PLACES }
+        requires at_most { place < WORD_PLACES }
         ensures value { result ≡ key_word place self }
     {
         ((self.time * u64::from(WORD_SENDERS) + u64::from(self.sender)) * WORD_NUMBERS

@@ -117,7 +117,7 @@ impl Name {
     #[inline(always)]
     pub fn len(&self) -> usize
         ensures value { result ≡ length self.now }
-        ensures short { result ≤ MAX_NAME_LEN }
+        ensures length_max { result ≤ MAX_NAME_LEN }
     {
         self.len
     }

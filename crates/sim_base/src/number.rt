@@ -31,7 +31,7 @@ pub fn may_lead(byte: u8) -> bool
 /// The number that the digits represent.
 pub fn value(digits: &[u8]) -> u64
     requires all { list_all is_digit digits.now ≡ true }
-    requires few { length digits.now ≤ MAX_DIGITS }
+    requires at_most { length digits.now ≤ MAX_DIGITS }
     ensures value { result ≡ digits_value 10 digits.now }
 {
     let mut value: u64 = 0;

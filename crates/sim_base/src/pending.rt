@@ -107,7 +107,7 @@ impl<S: Marks> Pending<S> {
     /// Removes the least message and returns it without its marks. There must be one: an option of a message would be
     /// slow to move.
     pub fn take_message(&mut self) -> Msg
-        requires some { 0 < length self.old }
+        requires nonempty { 0 < length self.old }
         ensures value { (k : S) × (self.old ≡ (result, k) ∷ self.new) }
     {
         let taken = self.first.take_message();

@@ -35,8 +35,8 @@ range_of lo hi d = lo + next_of d % (hi - lo + 1)
 
 -- weights by which an index may be picked
 pub record AreWeights (weights : List ℕ) : Type 0 where
-  pub some : 1 ≤ length weights
-  pub few : length weights ≤ MAX_WEIGHTS
+  pub nonempty : 1 ≤ length weights
+  pub at_most : length weights ≤ MAX_WEIGHTS
   pub all : AllByRecursion IsWeight weights
 
 -- the first index whose running sum of weights exceeds x

@@ -58,7 +58,7 @@ fn weights_len(weights: &[u32]) -> u128
 
 // A keyword of this length and three numbers.
 fn three_len(keyword: u128, lo: u64, hi: u64, count: u64) -> u128
-    requires short { keyword < 2 ^ 8 }
+    requires length_max { keyword < 2 ^ 8 }
     ensures value { result ≡ 1 + keyword + length (spaced (decimal lo ∷ decimal hi ∷ decimal count ∷ [])) }
     ensures at_most { result < 2 ^ 9 }
 {

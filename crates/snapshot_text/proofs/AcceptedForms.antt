@@ -87,8 +87,8 @@ module _ (net : Net) (valid : IsNet net) where
       let source = and_parts (is_source (site_of net j.source).kind) _ e in
       let counts = and_parts (nat_lt j.count MAX_JOBS) (nat_lt j.born net.horizon) source.1 in
       let station = source-station j.source source.0 in
-      let few = valid.few in
-      let soon = valid.soon in
+      let few = valid.at_most in
+      let soon = valid.horizon_max in
       and _ _ (le-leb j.source MAX_NUMBER (omega (arith, station, few)))
       (and _ _ (fits_below j.count MAX_JOBS counts.0 (omega arith))
       (fits_below j.born net.horizon counts.1 (omega (arith, soon))))
@@ -100,7 +100,7 @@ module _ (net : Net) (valid : IsNet net) where
   shape-form site handled (kind.Source lo hi jobs class) (shape.Source low high sent) rules few e =
       let parts = and_parts (is_range 1 low high) (nat_le sent jobs) e in
       let range = range-form 1 low high parts.0 in
-      let most = rules.few in
+      let most = rules.at_most in
       and _ _ range.0 (and _ _ range.1 (fits sent jobs parts.1 (omega (arith, most))))
   shape-form site handled (kind.Server servers room lo hi by_class)
       (shape.Server number space low high busy done lost line) rules few e =
@@ -171,7 +171,7 @@ module _ (net : Net) (valid : IsNet net) where
       let handled = leb-true x.handled net.limit counts.0 in
       let next = leb-true x.next (MAX_SENDS * (x.handled + 1)) sends.0 in
       let drawn = leb-true x.drawn (MAX_SENDS * (x.handled + 1)) sends.1 in
-      let short = valid.short in
+      let short = valid.limit_max in
       record {
         next = omega (arith, handled, next, short);
         drawn = omega (arith, handled, drawn, short);
@@ -234,7 +234,7 @@ module _ (net : Net) (valid : IsNet net) where
         let to = and_parts (nat_lt 0 m.to) (nat_le m.to (length net.sites)) who.0 in
         let number = and_parts (nat_lt m.key.number (next_of saved m.key.sender)) (may_carry net saved n m.to m.payload)
         rest.1 in
-        let few = valid.few in
+        let few = valid.at_most in
         and _ _ (fits_below m.key.time MAX_EVENT_TIMES time.1 (omega arith))
         (and _ _ (fits m.key.sender (length net.sites) who.1 (omega (arith, few)))
         (and _ _ (fits_below m.key.number (next_of saved m.key.sender) number.0 (next_of-small saved fit m.key.sender))
@@ -265,7 +265,7 @@ module _ (net : Net) (valid : IsNet net) where
   end-form : (front : ℕ) (end : Option ℕ) → fits_end net front end ≡ true → end_form.has end ≡ true
   end-form front None e = refl
   end-form front (Some end) e =
-      let soon = valid.soon in
+      let soon = valid.horizon_max in
       fits_below end net.horizon (and_parts (nat_le front end) (nat_lt end net.horizon) e).1 (omega (arith, soon))
 
   -- the messages and the trace lines are at most as many as the bytes of the text
@@ -285,7 +285,7 @@ module _ (net : Net) (valid : IsNet net) where
   accepted-sayable x ok short =
       let front = and_parts (nat_le x.front net.horizon) (fits_end net x.front x.end) ok.front in
       let counts = counts-short x in
-      let soon = valid.soon in
+      let soon = valid.horizon_max in
       record {
         head = and _ _ ok.name (and _ _ (fits x.front net.horizon front.0 (omega (arith, soon)))
             (end-form x.front x.end front.1));

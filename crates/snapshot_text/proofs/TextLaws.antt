@@ -120,7 +120,7 @@ module _ (net : Net) where
   pub read_back : IsNet net → (x : SnapshotView) → IsAccepted net x → length (text_of net x) ≤ MAX_FILE_BYTES
       → snapshot net (text_of net x) ≡ Ok x
   read_back valid x ok at_most =
-      let few = valid.few in
+      let few = valid.at_most in
       let small : length net.sites < 2 ^ 32 = omega (arith, few) in
       let say = accepted-sayable net valid x ok at_most in
       let leads = lines-lead_to net small x say in
@@ -164,7 +164,7 @@ module _ (net : Net) where
   pub read-sayable : IsNet net → (text : List ℕ) (v : ReaderView) → read_text (step net) ends None text ≡ Ok (Some v)
       → (text ≡ text_of net v.snapshot) × IsSayable net v.snapshot
   read-sayable valid text v e =
-      let few = valid.few in
+      let few = valid.at_most in
       let small : length net.sites < 2 ^ 32 = omega (arith, few) in
       let whole = text-of_lines (step net) ends None text (Some v) e in
       let lines = ended-lines net small whole.lines v whole.leads whole.ends_there in

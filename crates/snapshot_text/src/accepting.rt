@@ -73,7 +73,7 @@ fn is_in_time(front: u64, last: Option<Msg>, message: &Msg) -> bool
 // Whether a message is for a station, and is from one or from an analyst.
 fn is_addressed(model: &Model, message: &Msg) -> bool
     ensures value { result ≡ is_addressed' model.now message.now }
-    ensures few { length model.now.sites ≤ MAX_STATIONS }
+    ensures stations_max { length model.now.sites ≤ MAX_STATIONS }
     ensures station { IsTrue result → HasStation model.now message.now.to }
     ensures at_most { IsTrue result → message.now.to ≤ MAX_STATIONS }
 {
@@ -150,7 +150,7 @@ fn may_be_due(
     requires counts { length counts.now ≡ MAX_STATIONS }
     ensures value { result ≡ may_be_due' model.now front saved.now (get_or counts.now (message.now.to - 1) 0)
         last message.now }
-    ensures few { length model.now.sites ≤ MAX_STATIONS }
+    ensures stations_max { length model.now.sites ≤ MAX_STATIONS }
     ensures station { IsTrue result → HasStation model.now message.now.to }
     ensures at_most { IsTrue result → message.now.to ≤ MAX_STATIONS }
 {

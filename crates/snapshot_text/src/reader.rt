@@ -148,7 +148,7 @@ impl Reader {
     fn take_station(&mut self, alloc: Global, model: &Model, line: &[u8]) -> Result<bool, NoMemory>
         requires place { self.old.place ≡ Stations }
         requires more { length self.old.snapshot.saved < length model.now.sites }
-        requires few { length model.now.sites < 2 ^ 32 }
+        requires at_most { length model.now.sites < 2 ^ 32 }
         ensures value { IfOk result (λ ok. MatchBool ok
             (option_map (with_station self.old.snapshot) (line_says (station_line (length self.old.snapshot.saved + 1)
             (links_of model.now (length self.old.snapshot.saved + 1))) line.now) ≡ Some self.new)
@@ -192,7 +192,7 @@ impl Reader {
 
     // A pending message, of this number that are left.
     fn take_message(&mut self, line: &[u8], left: u64) -> Result<bool, NoMemory>
-        requires some { 0 < left }
+        requires nonempty { 0 < left }
         ensures value { IfOk result (λ ok. MatchBool ok
             (option_map (with_message self.old.snapshot left) (line_says message_line line.now) ≡ Some self.new)
             (line_says message_line line.now ≡ None)) }

@@ -96,7 +96,7 @@ is_event_list-nothing n ls words few is words_is =
     let empty : (i : ℕ) → i < length ls → get_or ls i [] ≡ [] =
     λ i there. ap (λ l. get_or l i []) is ∙ get_or-replicate n i [] [] (omega (arith, there, long)) in
     record {
-      few = omega (arith, few, long);
+      at_most = omega (arith, few, long);
       count = ap length words_is ∙ (length-replicate n NO_WORD ∙ sym long);
       lists_are = λ i there. subst (IsListOf i) (sym (empty i there)) (record { sorted = tt; own = tt });
       words_are = λ i there. subst (λ l. IsWordOf i l (get_or words i 0)) (sym (empty i there))
@@ -119,9 +119,9 @@ module _ (ls : List MarkedMessages) (words : List ℕ) (inv : IsEventList ls wor
         let count = inv.count in
         let long = length-set ls i new in
         let long_words = length-set words i word in
-        let few = inv.few in
+        let few = inv.at_most in
         record {
-          few = omega (arith, few, long);
+          at_most = omega (arith, few, long);
           count = omega (arith, count, long, long_words);
           lists_are = station_lists-set ls inv.lists_are i there new is;
           words_are = λ j below. elim (cases_eq j i) [
@@ -179,7 +179,7 @@ module _ (ls : List MarkedMessages) (words : List ℕ) (inv : IsEventList ls wor
   module _ (w : ℕ) (h : IsLeastWord w words) (some : w ≢ 0) where
     -- the least word is that of one of the lists
     low : h.place < length ls
-    low = let count = inv.count in let there = h.there in omega (arith, count, there)
+    low = let count = inv.count in let there = h.in_range in omega (arith, count, there)
 
     -- no list's word is less
     not_less : (j : ℕ) → j < length ls → w ≤ get_or words j 0
@@ -208,7 +208,7 @@ module _ (ls : List MarkedMessages) (words : List ℕ) (inv : IsEventList ls wor
         → AllByRecursion (λ m. bound ≤ m.key.time) (all_messages ls)
     none_before bound soon late = all_from (λ m. bound ≤ m.key.time) (all_messages ls) (λ z k.
         let f = all_messages-in ls z k in
-        let few = inv.few in
+        let few = inv.at_most in
         let below : f.0 < length ls = f.1 in
         late_in bound f.0 (get_or ls f.0 []) (get_or words f.0 0) z soon late (omega (arith, few, below))
         (inv.lists_are f.0 f.1) (inv.words_are f.0 f.1) (not_less f.0 f.1) f.2)
@@ -237,17 +237,17 @@ module _ (ls : List MarkedMessages) (words : List ℕ) (inv : IsEventList ls wor
       has (x ∷ xs) is fit word_is = elim word_is [
         | inl c ↦
             let own = c.1 in
-            let few = inv.few in
+            let few = inv.at_most in
             let there = low in
             let sender = c.0.sender in
             let number = c.0.number in
             let place : h.place ≡ w % WORD_PLACES = omega (arith, own, few, there) in
             subst (HasFirst ls bound) place (record {
-              there = low;
+              in_range = low;
               message = x.0;
               rest = xs;
               is = is;
-              early = omega (arith, own, sender, number, few, there, early);
+              time_max = omega (arith, own, sender, number, few, there, early);
               before = λ j z other below i. before x.0 h.place c.0 fit.own.0 (omega (arith, few, there)) (sym own)
                   j (get_or ls j []) (get_or words j 0) z other (omega (arith, few, below)) (inv.lists_are j below)
                   (inv.words_are j below) (not_less j below) i;
@@ -267,7 +267,7 @@ module _ (ls : List MarkedMessages) (lists_are : AreStationLists ls) (bound i : 
     (old : MarkedMessages) (at : old ≡ get_or ls i old) where
   -- the list that is read at the place
   list_is : get_or ls i [] ≡ old
-  list_is = sym (at ∙ get_or_default ls i old [] f.there)
+  list_is = sym (at ∙ get_or_default ls i old [] f.in_range)
 
   -- has a message
   pub has_first-some : 0 < length old
@@ -276,7 +276,7 @@ module _ (ls : List MarkedMessages) (lists_are : AreStationLists ls) (bound i : 
   module _ (m : Msg) (k : Unit {0}) (new : MarkedMessages) (taken : old ≡ (m, k) ∷ new) where
     -- is its station's
     is_old : IsListOf i ((m, k) ∷ new)
-    is_old = subst (IsListOf i) (list_is ∙ taken) (lists_are i f.there)
+    is_old = subst (IsListOf i) (list_is ∙ taken) (lists_are i f.in_range)
 
     -- and so is the rest of it
     pub is_list_of-take : IsListOf i new
@@ -284,7 +284,7 @@ module _ (ls : List MarkedMessages) (lists_are : AreStationLists ls) (bound i : 
 
     -- so all lists are still those of their stations
     pub station_lists-take : AreStationLists (set ls i new)
-    station_lists-take = station_lists-set ls lists_are i f.there new is_list_of-take
+    station_lists-take = station_lists-set ls lists_are i f.in_range new is_list_of-take
 
     -- the message that was taken is the first of all
     message_is : f.message ≡ m
@@ -292,11 +292,11 @@ module _ (ls : List MarkedMessages) (lists_are : AreStationLists ls) (bound i : 
 
     -- it is before the bound
     pub take-time : m.key.time < bound
-    take-time = subst (λ (y : Msg). y.key.time < bound) message_is f.early
+    take-time = subst (λ (y : Msg). y.key.time < bound) message_is f.time_max
 
     -- and the rest of all lists has the rest of the one list
     pub all_messages-take : all_messages ls ≡ m ∷ all_messages (set ls i new)
-    all_messages-take = all_messages-first ls i new f.there m (ap messages_of (list_is ∙ taken)) is_old.sorted
+    all_messages-take = all_messages-first ls i new f.in_range m (ap messages_of (list_is ∙ taken)) is_old.sorted
         (λ j z other below k. subst (λ y. msg_cmp y z ≡ Less) message_is (f.before j z other below k))
 
 -- ---- IsFound
@@ -413,11 +413,11 @@ module _ (ls : List MarkedMessages) (bound : ℕ) (lists_are : AreStationLists l
       let head = slice_get-head (get_or ls i []) (m, tt) h.1 in
       let mine : IsListOf i ((m, tt) ∷ head.0) = subst (IsListOf i) head.1 (lists_are i h.0) in
       record {
-        there = h.0;
+        in_range = h.0;
         message = m;
         rest = head.0;
         is = head.1;
-        early = early;
+        time_max = early;
         before = λ j z other below k. after (get_or ls j []) j z mine.own.0 other below refl k;
       }
     where

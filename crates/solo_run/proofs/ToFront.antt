@@ -105,7 +105,7 @@ module _ (net : Net) (valid : IsNet net) (past : Entries) where
   pub next_turn : (front : ℕ) (w : SoloView) (m : Msg) (new : SoloView) → m.key.time < front
       → HasTurned net w m new
       → Next msg_cmp (λ m. m.key.time) (step_of net) front (config_of net (with_due m w)) (config_of net new)
-  next_turn front w m new early t = record { m = m; q = w.pending; pending = refl; early = early; is = t }
+  next_turn front w m new early t = record { m = m; q = w.pending; pending = refl; time_max = early; is = t }
 
   -- the least message is before the front, and its station has handled as many as it may
   goes_beyond : (front : ℕ) (v w : SoloView) (m : Msg) (at_start at_end now station kept : ℕ)
@@ -123,7 +123,7 @@ module _ (net : Net) (valid : IsNet net) (past : Entries) where
       let same : last ≡ run_from net v front = run_is law.order (world_lawful law) front (config_of net v) last
       (fine_solo v from) (reach_trans ran on.0) on.1.from_t in
       let next : Next msg_cmp (λ m. m.key.time) (step_of net) front c step =
-      record { m = m; q = w.pending; pending = refl; early = early; is = refl } in
+      record { m = m; q = w.pending; pending = refl; time_max = early; is = refl } in
       let later : Reach msg_cmp (λ m. m.key.time) (step_of net) front step last = elim (reach_first on.0 next) [
         | inl e ↦ absurd (is_settled-no_next c step (subst (IsSettled (λ m. m.key.time) front) e on.1.from_t) next)
         | inr r ↦ r

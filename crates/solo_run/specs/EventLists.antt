@@ -52,18 +52,18 @@ AreStationLists lists = (i : ℕ) → i < length lists → IsListOf i (get_or li
 
 -- and each word is that of its list
 pub record IsEventList (lists : List (List (Msg × Unit {0}))) (words : List ℕ) : Type 0 where
-  pub few : length lists ≤ WORD_PLACES
+  pub at_most : length lists ≤ WORD_PLACES
   pub count : length words ≡ length lists
   pub lists_are : AreStationLists lists
   pub words_are : (i : ℕ) → i < length lists → IsWordOf i (get_or lists i []) (get_or words i 0)
 
 -- the list at index i has the first message of all, and it is before the bound
 pub record HasFirst (lists : List (List (Msg × Unit {0}))) (bound i : ℕ) : Type 0 where
-  pub there : i < length lists
+  pub in_range : i < length lists
   pub message : Msg
   pub rest : List (Msg × Unit {0})
   pub is : get_or lists i [] ≡ (message, tt) ∷ rest
-  pub early : message.key.time < bound
+  pub time_max : message.key.time < bound
   pub before : (j : ℕ) (z : Msg) → j ≢ i → j < length lists → In z (messages_of (get_or lists j []))
       → msg_cmp message z ≡ Less
 

@@ -46,8 +46,8 @@ impl Model for EventList {
 impl EventList {
     /// An empty list.
     pub(crate) fn new(alloc: Global, stations: u32) -> Result<EventList, NoMemory>
-        requires some { 1 ≤ stations }
-        requires few { stations ≤ WORD_PLACES }
+        requires at_least { 1 ≤ stations }
+        requires at_most { stations ≤ WORD_PLACES }
         ensures value { IfOk result (λ e. e ≡ record { messages = []; stations = stations }) }
     {
         let mut lists = Vec::new(alloc);
@@ -75,7 +75,7 @@ impl EventList {
 
     /// Removes and returns the first message if its time is before the bound. None changes nothing.
     pub(crate) fn take_before(&mut self, bound: u64) -> Option<Msg>
-        requires soon { bound < WORD_TIMES }
+        requires time_max { bound < WORD_TIMES }
         ensures some { IfSome result (λ m. (self.old ≡ record self.new { messages = m ∷ self.new.messages })
             × (m.key.time < bound)) }
         ensures none { IfNone result ((self.new ≡ self.old)
@@ -118,7 +118,7 @@ fn copy_lists(alloc: Global, lists: &Vec<Pending<()>>) -> Result<Vec<Pending<()>
 #[inline(always)]
 fn first_before(lists: &Vec<Pending<()>>, words: &Tree, bound: u64) -> Option<usize>
     requires lists { IsEventList lists.now.items words.now }
-    requires soon { bound < WORD_TIMES }
+    requires time_max { bound < WORD_TIMES }
     ensures some { IfSome result (λ i. HasFirst lists.now.items bound i) }
     ensures none { IfNone result (AllByRecursion (λ m. bound ≤ m.key.time) (all_messages lists.now.items)) }
 {
@@ -162,7 +162,7 @@ fn first_found(
     i: usize,
     found: Option<(usize, Msg)>,
 ) -> Option<(usize, Msg)>
-    requires there { i < length lists.now.items }
+    requires in_range { i < length lists.now.items }
     requires found { IsFound lists.now.items i found }
     ensures found { IsFound lists.now.items (i + 1) result }
 {
@@ -182,7 +182,7 @@ fn first_found(
 // The word of the first message of list i.
 #[inline(always)]
 fn word_of(list: &Pending<()>, i: usize) -> u64
-    requires few { i < WORD_PLACES }
+    requires at_most { i < WORD_PLACES }
     ensures value { IsWordOf i list.now result }
 {
     match list.least() {
@@ -194,7 +194,7 @@ fn word_of(list: &Pending<()>, i: usize) -> u64
 // A key as a word, with the index of its list.
 #[inline(always)]
 fn word_of_key(key: Key, i: usize) -> u64
-    requires few { i < WORD_PLACES }
+    requires at_most { i < WORD_PLACES }
     ensures value { IsWordOfKey i key result }
 {
     if key.fits_word() {

@@ -105,7 +105,7 @@ impl Solo {
         steps: &mut Steps<L>,
     ) -> Result<Solo, SoloFault>
         requires solo { IsSolo model.now self }
-        requires early { front ≤ model.now.horizon }
+        requires time_max { front ≤ model.now.horizon }
         ensures ok { IfOk result (λ solo. config_of model.now solo ≡ run_from model.now self front) }
         ensures solo { IfOk result (λ solo. IsSolo model.now solo) }
         ensures steps { IfOk result (λ solo. steps.new + length self.trace ≡ steps.old + length solo.trace) }
@@ -126,7 +126,7 @@ impl Solo {
     ) -> Result<Solo, SoloFault>
         ghost past: { Entries }
         requires solo { IsSoloAfter model.now past self }
-        requires early { front ≤ model.now.horizon }
+        requires time_max { front ≤ model.now.horizon }
         ensures ok { IfOk result (λ solo. config_of model.now solo ≡ run_from model.now self front) }
         ensures solo { IfOk result (λ solo. IsSoloAfter model.now past solo) }
         ensures steps { IfOk result (λ solo. steps.new + length self.trace ≡ steps.old + length solo.trace) }

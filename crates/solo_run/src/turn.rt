@@ -57,7 +57,7 @@ fn handle_at<L: Ledger>(
     requires suits { (i : ℕ) (st : StateView) → slice_get states.old.items i ≡ Some st → SuitsNet model.now st }
     requires numbers { (i : ℕ) (st : StateView) → slice_get states.old.items i ≡ Some st → (st.sender.station ≡ i + 1) }
     // a time at which a station may handle a message, and an empty `out`
-    requires early { msg.now.key.time < MAX_EVENT_TIMES }
+    requires time_max { msg.now.key.time < MAX_EVENT_TIMES }
     requires empty { array_vec_len out.old ≡ 0 }
     // result: the receiver's state after the message, the other states unchanged, the sends and the line; it counts a
     // step
@@ -96,7 +96,7 @@ impl Solo {
     ) -> Result<(), SoloFault>
         ghost past: { Entries }
         requires solo { IsSoloAfter model.now past (with_due msg.now self.old) }
-        requires early { msg.now.key.time < MAX_EVENT_TIMES }
+        requires time_max { msg.now.key.time < MAX_EVENT_TIMES }
 
         // the run reaches the state after the turn
         ensures turned { OnOk result (HasTurned model.now self.old msg.now self.new) }

@@ -54,8 +54,8 @@ pub AreStations-stepped : (net : Net) (ends bounds : ℕ → ℕ) (procs news : 
     (over : Option (ℕ × ℕ)) (steps0 steps : ℕ) → AreStations net procs
     → AllStepped net ends bounds procs news sent over steps0 steps → AreStations net news
 AreStations-stepped net ends bounds procs news sent over steps0 steps all s = record {
-  few = let n = ap length s.procs in let m = length-map s.flows (λ (f : Flow). f.done) in let k = s.count in
-      let few = all.few in omega (arith, n, m, k, few);
+  at_most = let n = ap length s.procs in let m = length-map s.flows (λ (f : Flow). f.done) in let k = s.count in
+      let few = all.at_most in omega (arith, n, m, k, few);
   procs_in_order = λ i p got.
       let f = got_map (λ (f : Flow). f.done) s.flows i p (ap (λ l. slice_get l i) (sym s.procs) ∙ got) in
       let l = slice_get_within s.flows i f.0 f.1 in
@@ -70,4 +70,4 @@ pub MayGiveAll-stepped : (net : Net) (ends bounds : ℕ → ℕ) (procs news : L
     → AllStepped net ends bounds procs news sent over steps0 steps → MayGiveAll news
 MayGiveAll-stepped net ends bounds procs news sent over steps0 steps all s =
     let h = AreStations-stepped net ends bounds procs news sent over steps0 steps all s in
-    record { few = h.few; in_order = λ i p got. (h.procs_in_order i p got).number }
+    record { at_most = h.at_most; in_order = λ i p got. (h.procs_in_order i p got).number }

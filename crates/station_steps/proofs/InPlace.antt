@@ -101,7 +101,7 @@ pub SteppedAt-flow : (net : Net) (ends : ℕ → ℕ) (bound i : ℕ) (olds news
 SteppedAt-flow net ends bound i olds news before after p flow got is there others long sent = record {
   flow = flow;
   is_flow = λ q got_q. subst (λ (x : ProcView). IsFlow net ends bound i x flow) (same_Some p q (sym got ∙ got_q)) is;
-  there = there;
+  is_at = there;
   others = others;
   long = long;
   sent_is = sent;
@@ -163,7 +163,7 @@ module _ (net : Net) (ends bounds : ℕ → ℕ) (olds : List ProcView) where
       done_at : (i : ℕ) → i < n + 1 → slice_get after i ≡ slice_get
           (map (λ (x : Flow). x.done) far.flows ++ one.flow.done ∷ []) i
       done_at i l = elim (cases_eq i n) [
-        | inl e ↦ ap (slice_get after) e ∙ one.there
+        | inl e ↦ ap (slice_get after) e ∙ one.is_at
             ∙ sym (slice_get-last (map (λ (x : Flow). x.done) far.flows) one.flow.done i
             (length-map far.flows (λ (x : Flow). x.done) ∙ far.count ∙ sym e))
         | inr ne ↦

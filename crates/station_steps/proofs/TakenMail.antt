@@ -217,7 +217,7 @@ module _ (firsts : List ℕ) (s : ℕ) where
   noted_none (x ∷ ms) h is = by (x.0.to == s) refl (noted_none ms h.1 is)
     where
       by : (b : Bool) → (x.0.to == s) ≡ b → mail_for s ms ≡ [] → cond b (x ∷ mail_for s ms) (mail_for s ms) ≡ []
-      by true e rest = absurd (let l = subst (λ n. get_or firsts n 0 < NO_MAIL) (eqb-true x.0.to s e) h.0.some in
+      by true e rest = absurd (let l = subst (λ n. get_or firsts n 0 < NO_MAIL) (eqb-true x.0.to s e) h.0.has_mail in
           omega (arith, l, is))
       by false e rest = rest
 

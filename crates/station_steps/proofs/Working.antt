@@ -22,7 +22,7 @@ pub steps_may_run : (net : Net) (procs : List ProcView) (bounds : List ℕ) (tas
     → AreSteps procs bounds tasks → AreStations net procs → AreBounds net procs bounds
     → MayRunAll (IsStationTask net) tasks
 steps_may_run net procs bounds tasks are all bounded = record {
-  few = let n = are.count in let k = all.few in omega (arith, n, k);
+  at_most = let n = are.count in let k = all.at_most in omega (arith, n, k);
   ready = ready;
 }
   where
@@ -33,7 +33,7 @@ steps_may_run net procs bounds tasks are all bounded = record {
         (are.each i found.0 found.1) in
         subst (IsStationTask net i) (sym task) (
           all.procs_in_order i found.0 found.1,
-          bounded.early i 0 (let n = are.count in let k = bounded.count in
+          bounded.time_max i 0 (let n = are.count in let k = bounded.count in
               omega (arith, l, n, k)),
         )
 

@@ -28,7 +28,7 @@ pub record SentView : Type 0 where
 -- the first time of a message's station is not after the message's time
 pub record IsNoted (firsts : List ℕ) (x : Msg × CloneSet) : Type 0 where
   pub first : slice_index firsts x.0.to ≤ x.0.key.time
-  pub some : slice_index firsts x.0.to < NO_MAIL
+  pub has_mail : slice_index firsts x.0.to < NO_MAIL
 
 -- no message for station s comes before the time, and there is none if the time is `NO_MAIL`
 pub record IsFirstFor (s : ℕ) (ms : MarkedMessages) (t : ℕ) : Type 0 where

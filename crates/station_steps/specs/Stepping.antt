@@ -33,7 +33,7 @@ pub record SteppedAt (net : Net) (ends : ℕ → ℕ) (bound i : ℕ) (olds news
     (over : CloneSet) (handled : ℕ) : Type 0 where
   pub flow : Flow
   pub is_flow : (p : ProcView) → slice_get olds i ≡ Some p → IsFlow net ends bound i p flow
-  pub there : slice_get news i ≡ Some flow.done
+  pub is_at : slice_get news i ≡ Some flow.done
   pub others : (j : ℕ) → j ≢ i → slice_get news j ≡ slice_get olds j
   pub long : length news ≡ length olds
   pub sent_is : after ≡ before ++ flow.sent.items

@@ -29,13 +29,13 @@ AreProcsInOrder net procs = (i : ℕ) (p : ProcView) → slice_get procs i ≡ S
 
 -- the copies of a network's stations, in the order of their numbers, and at most as many as the limit on stations
 pub record AreStations (net : Net) (procs : List ProcView) : Type 0 where
-  pub few : length procs ≤ MAX_STATIONS
+  pub at_most : length procs ≤ MAX_STATIONS
   pub procs_in_order : AreProcsInOrder net procs
 
 -- a bound for each station, none past the horizon
 pub record AreBounds (net : Net) (procs : List ProcView) (bounds : List ℕ) : Type 0 where
   pub count : length bounds ≡ length procs
-  pub early : All (λ b. b ≤ net.horizon) bounds
+  pub time_max : All (λ b. b ≤ net.horizon) bounds
 
 -- the bound of the station at a place
 abbrev pub bound_of : List ℕ → ℕ → ℕ
@@ -102,7 +102,7 @@ AreStationsInOrder procs = (i : ℕ) (p : ProcView) → slice_get procs i ≡ So
 
 -- messages may be delivered to these stations: they are in the order of their numbers, and not too many
 pub record MayGiveAll (procs : List ProcView) : Type 0 where
-  pub few : length procs ≤ MAX_STATIONS
+  pub at_most : length procs ≤ MAX_STATIONS
   pub in_order : AreStationsInOrder procs
 
 -- messages were delivered to the copies of one station, and nothing else changed

@@ -44,7 +44,7 @@ impl SharedLists {
 
     /// Ends a clone at a time.
     pub fn end(&mut self, c: u32, at: u64)
-        requires there { c < length self.old.clones }
+        requires in_range { c < length self.old.clones }
         requires once { (clone_at self.old.clones c).end ≡ None }
         ensures clones { self.new.clones ≡ clones_with_end self.old.clones c at }
     {
@@ -54,7 +54,7 @@ impl SharedLists {
 
     /// Adds a decision to a clone's list.
     pub fn add(&mut self, c: u32, plan: Planned) -> Result<(), NoMemory>
-        requires there { c < length self.old.clones }
+        requires in_range { c < length self.old.clones }
         ensures clones { OnOk result (self.new.clones ≡ clones_with_plan self.old.clones c plan) }
     {
         self.shown = None;
@@ -63,9 +63,9 @@ impl SharedLists {
 
     /// Adds a clone with the decisions of an old one and no end.
     pub fn fork(&mut self, alloc: Global, new: Name, old: u32) -> Result<(), NoMemory>
-        requires there { old < length self.old.clones }
+        requires in_range { old < length self.old.clones }
         requires unused { place_of new self.old.clones ≡ None }
-        requires few { length self.old.clones + 1 < 2 ^ 32 }
+        requires at_most { length self.old.clones + 1 < 2 ^ 32 }
         ensures clones { OnOk result (self.new.clones ≡ clones_with_fork self.old.clones new old) }
     {
         self.shown = None;

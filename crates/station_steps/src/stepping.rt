@@ -93,11 +93,11 @@ fn append(all: &mut Vec<(Msg, CloneSet)>, more: &[(Msg, CloneSet)]) -> Result<()
 
 // The first station over the limit so far, and its first clone there, if the station at place i is next.
 fn first_so_far(before: Option<(u32, u32)>, i: u32, over: CloneSet) -> Option<(u32, u32)>
-    requires few { i < MAX_STATIONS }
+    requires at_most { i < MAX_STATIONS }
     requires before { IsPlaceOfOver before }
     ensures first { (flows : List Flow') (f : Flow') → length flows ≡ i → f.over ≡ over → FirstOver flows before →
         FirstOver (flows ++ f ∷ []) result }
-    ensures few { IsPlaceOfOver result }
+    ensures at_most { IsPlaceOfOver result }
 {
     if let Some(first) = before {
         return Some(first);
@@ -119,7 +119,7 @@ fn step_place<L: Ledger>(
     steps: &mut Steps<L>,
 ) -> Result<Gain, NoMemory>
     requires place { i < length procs.old.items }
-    requires few { i < MAX_STATIONS }
+    requires at_most { i < MAX_STATIONS }
     requires bounds { AreBounds model.now procs.old.items buffers.old.bounds.items }
     requires numbered { (p : ProcView) → slice_get procs.old.items i ≡ Some p → IsNumbered model.now i p }
     ensures stepped { IfOk result (λ gain. SteppedAt model.now (ends_in model.now.horizon ends.now)
@@ -160,7 +160,7 @@ pub fn step_in_place<L: Ledger>(
     requires bounds { AreBounds model.now olds.items buffers.bounds.items }
     ensures stepped { IfOk result (λ s. AllStepped model.now (ends_in model.now.horizon ends.now)
         (bound_of buffers.bounds.items) olds.items s.procs.items s.buffers.sent.items s.over steps.old steps.new) }
-    ensures few { IfOk result (λ s. IsPlaceOfOver s.over) }
+    ensures at_most { IfOk result (λ s. IsPlaceOfOver s.over) }
     ensures bounds { IfOk result (λ s. s.buffers.bounds ≡ buffers.bounds) }
 {
     let mut procs = olds;
@@ -223,9 +223,9 @@ fn handled_in(flows: &[Flow]) -> u64 {
 
 // The first station with a clone over the limit, and there the first clone.
 fn first_over(flows: &[Flow]) -> Option<(u32, u32)>
-    requires few { length flows.now ≤ MAX_STATIONS }
+    requires at_most { length flows.now ≤ MAX_STATIONS }
     ensures first { FirstOver flows.now result }
-    ensures few { IsPlaceOfOver result }
+    ensures at_most { IsPlaceOfOver result }
 {
     for i in 0..flows.len() {
         if let Some(who) = flows[i].over.first() {
@@ -241,11 +241,11 @@ fn gather_flows(
     flows: Vec<Flow>,
     buffers: Buffers,
 ) -> Result<(WindowResult, Arc<Mail>), NoMemory>
-    requires few { length flows.items ≤ MAX_STATIONS }
+    requires at_most { length flows.items ≤ MAX_STATIONS }
     ensures procs { IfOk result (λ s. s.0.procs.items ≡ map (λ f. f.done) flows.items) }
     ensures sent { IfOk result (λ s. s.1.value ≡ all_sent flows.items) }
     ensures over { IfOk result (λ s. FirstOver flows.items s.0.over) }
-    ensures few { IfOk result (λ s. IsPlaceOfOver s.0.over) }
+    ensures at_most { IfOk result (λ s. IsPlaceOfOver s.0.over) }
 {
     let over = first_over(flows.as_slice());
     let handled = handled_in(flows.as_slice());
@@ -315,7 +315,7 @@ pub fn step_by_crew<G: Gate, L: Ledger, R: Wait>(
     ensures stepped { IfOk result (λ s. AllSteppedAndGiven work.value.net
         (ends_in work.value.net.horizon work.value.ends) (bound_of buffers.bounds.items) procs.items s.procs.items
         s.over steps.old steps.new) }
-    ensures few { IfOk result (λ s. IsPlaceOfOver s.over) }
+    ensures at_most { IfOk result (λ s. IsPlaceOfOver s.over) }
 {
     let flows = run_tasks(
         rt,

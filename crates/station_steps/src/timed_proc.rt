@@ -140,7 +140,7 @@ impl TimedProc {
         steps: &mut Steps<L>,
     ) -> Result<Gain, NoMemory>
         requires proc { IsProc model.now self.old }
-        requires early { bound ≤ model.now.horizon }
+        requires time_max { bound ≤ model.now.horizon }
         requires silent { sent.old.items ≡ [] }
         ensures advanced { IfOk result (λ g. HasAdvanced model.now self.old.station (ends_in model.now.horizon ends.now)
             bound self.old self.new sent.new.items g.over g.handled) }
@@ -266,8 +266,8 @@ impl TimedProc {
     ) -> Result<Rack, NoMemory>
         requires copies { Stands (simulation model.value) has lists.value.clones front self.old.station
             self.old.copies }
-        requires few { length lists.value.clones ≤ MAX_CLONES }
-        requires early { front ≤ model.value.horizon }
+        requires at_most { length lists.value.clones ≤ MAX_CLONES }
+        requires time_max { front ≤ model.value.horizon }
         ensures rack { IfOk result (λ r. r ≡ record {
           net = model.value;
           clones = lists.value.clones;

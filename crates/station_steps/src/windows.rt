@@ -64,7 +64,7 @@ impl Window {
         steps: &mut Steps<L>,
     ) -> Result<Flow, NoMemory>
         requires numbered { IsNumbered self.now.net _i proc }
-        requires early { bound ≤ self.now.net.horizon }
+        requires time_max { bound ≤ self.now.net.horizon }
         ensures flow { IfOk result (λ flow. IsFlow self.now.net (ends_in self.now.net.horizon self.now.ends) bound _i
             proc flow) }
         ensures steps { IfOk result (λ flow. steps.new ≡ steps.old + flow.handled) }

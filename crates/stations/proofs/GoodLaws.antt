@@ -33,7 +33,7 @@ module _ (net : Net) (valid : IsNet net) where
   pub record HandlesGoodState (s : ℕ) (st : StateView) (m : Msg) : Type 0 where
     pub good : IsGood net s (handle net st m).state
     pub sends : AreSends net m.key.time s st.sender.next (handle net st m).sends
-    pub few : length (handle net st m).sends ≤ MAX_SENDS
+    pub at_most : length (handle net st m).sends ≤ MAX_SENDS
     pub next : (handle net st m).state.sender.next ≡ st.sender.next + length (handle net st m).sends
 
   -- so it is at a station of the network
@@ -47,14 +47,14 @@ module _ (net : Net) (valid : IsNet net) where
       (site_valid net st.sender.station site valid there) in
       let number = number_in net st.sender.station site there in
       let begin : Outgoing = record { sender = st.sender; sends = [] } in
-      let after = kind_on-good net at m.key.time lawful.links valid.ahead begin number at.kind st.handled
+      let after = kind_on-good net at m.key.time lawful.links valid.lookahead_min begin number at.kind st.handled
       m.payload st.kind refl of good in
       let g = after.grown in
       let count = ap length g.sends in
       record {
         good = record { station = g.station; kind = after.kind; fits = after.good };
         sends = subst (AreSends net m.key.time st.sender.station st.sender.next) (sym g.sends) g.are;
-        few = omega (arith, g.few, count);
+        at_most = omega (arith, g.at_most, count);
         next = omega (arith, g.next, count);
       }
 
@@ -67,7 +67,7 @@ module _ (net : Net) (valid : IsNet net) where
       record {
         good = record { station = refl; kind = rw none tt; fits = tt };
         sends = tt;
-        few = omega arith;
+        at_most = omega arith;
         next = omega arith;
       }
   handles-at_no_station sender handled (Source s) m none of = absurd of

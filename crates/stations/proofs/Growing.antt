@@ -23,7 +23,7 @@ module _ (net : Net) (now : ℕ) where
     pub draws : b.sender.draws.count ≤ a.sender.draws.count + n
     pub more : List Msg
     pub sends : b.sends ≡ a.sends ++ more
-    pub few : length more ≤ n
+    pub at_most : length more ≤ n
     pub next : b.sender.next ≡ a.sender.next + length more
     pub are : AreSends net now a.sender.station a.sender.next more
 
@@ -43,7 +43,7 @@ module _ (net : Net) (now : ℕ) where
     draws = omega arith;
     more = [];
     sends = sym (append-nil a.sends);
-    few = omega arith;
+    at_most = omega arith;
     next = omega arith;
     are = tt;
   }
@@ -55,7 +55,7 @@ module _ (net : Net) (now : ℕ) where
     draws = omega (arith, g.draws);
     more = g.more;
     sends = g.sends;
-    few = omega (arith, g.few);
+    at_most = omega (arith, g.at_most);
     next = g.next;
     are = g.are;
   }
@@ -75,7 +75,7 @@ module _ (net : Net) (now : ℕ) where
         draws = omega (arith, g.draws, h.draws);
         more = g.more ++ h.more;
         sends = h.sends ∙ (ap (λ s. s ++ h.more) g.sends ∙ append_assoc a.sends g.more h.more);
-        few = omega (arith, count, g.few, h.few);
+        at_most = omega (arith, count, g.at_most, h.at_most);
         next = omega (arith, count, g.next, h.next);
         are = AreSends-append a.sender.station a.sender.next g.more h.more g.are here;
       }
@@ -99,7 +99,7 @@ module _ (net : Net) (now : ℕ) where
         draws = draws;
         more = m ∷ [];
         sends = ap (λ s. s ++ m ∷ []) sends;
-        few = omega arith;
+        at_most = omega arith;
         next = omega (arith, next);
         are = (
           record {
@@ -130,7 +130,7 @@ module _ (net : Net) (now : ℕ) where
     draws = after_pick-draws weights o;
     more = [];
     sends = sym (append-nil o.sends);
-    few = omega arith;
+    at_most = omega arith;
     next = omega arith;
     are = tt;
   }
@@ -156,7 +156,7 @@ module _ (net : Net) (now : ℕ) where
         draws = draws;
         more = [];
         sends = sends ∙ sym (append-nil a.sends);
-        few = omega arith;
+        at_most = omega arith;
         next = omega (arith, next);
         are = tt;
       }

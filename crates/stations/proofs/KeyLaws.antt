@@ -30,14 +30,14 @@ module _ (net : Net) (valid : IsNet net) where
   few-numbers = record {
     opens = λ s there. let first = (sends-next_numbers net valid).opens s in omega (arith, first);
     grows = λ s st m there good.
-        let few = (sends-next_numbers net valid).few s st m good in
+        let few = (sends-next_numbers net valid).at_most s st m good in
         let next = (sends-next_numbers net valid).next s st m good in
         omega (arith, few, next);
   }
 
   -- `MAX_SENDS` numbers for each message of a log that keeps the limit, and once more, fit words
   bound-enough : MAX_SENDS * (net.limit + 1) ≤ WORD_NUMBERS
-  bound-enough = let short = valid.short in omega (arith, short)
+  bound-enough = let short = valid.limit_max in omega (arith, short)
 
   -- ---- KeysAreSmall and LogKeysAreSmall
 
@@ -46,13 +46,13 @@ module _ (net : Net) (valid : IsNet net) where
   keys-small c front m counted i = record {
     sender = elim (numbers_low (lawful-stations net valid) (stations-to_stations net valid)
         (fresh-stations net valid) few-numbers
-        c front counted.there m i) [
+        c front counted.in_range m i) [
           | inl a ↦ let analyst = a.0 in omega (arith, analyst)
           | inr a ↦ a.0.1
         ];
     number = numbers_fit (lawful-stations net valid) (stations-to_stations net valid)
         (fresh-stations net valid) few-numbers
-        c front counted.there WORD_NUMBERS m counted.within counted.short bound-enough i;
+        c front counted.in_range WORD_NUMBERS m counted.within counted.length_max bound-enough i;
   }
 
   -- so has the message of each entry of a log, which comes before the front

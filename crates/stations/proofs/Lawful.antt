@@ -58,10 +58,10 @@ site_is net s site is = ap (λ o. unwrap_or o no_site) is
 pub are_links : (net : Net) (site : Site) → IsSite net site → 1 ≤ length site.links → AreLinks site.links
 are_links net site valid some =
     record {
-      some = some;
-      few = valid.few;
+      nonempty = some;
+      at_most = valid.at_most;
       weights = all_weaker (IsLink net) (λ l. IsWeight l.weight) site.links (λ l is. is.weight) valid.links;
-      near = all_weaker (IsLink net) (λ l. l.delay ≤ MAX_TIME) site.links (λ l is. is.small) valid.links;
+      delay_max = all_weaker (IsLink net) (λ l. l.delay ≤ MAX_TIME) site.links (λ l is. is.small) valid.links;
     }
 
 -- ---- handle
@@ -72,7 +72,7 @@ pub record HandlesFittingState (net : Net) (st : StateView) (m : Msg) : Type 0 w
   pub suits : SuitsNet net (handle net st m).state
   pub sends : AreSends net m.key.time st.sender.station st.sender.next (handle net st m).sends
   pub next : (handle net st m).state.sender.next ≡ st.sender.next + length (handle net st m).sends
-  pub few : length (handle net st m).sends ≤ MAX_SENDS
+  pub at_most : length (handle net st m).sends ≤ MAX_SENDS
   pub handled : (handle net st m).state.handled ≡ st.handled + 1
   pub station : (handle net st m).state.sender.station ≡ st.sender.station
 
@@ -88,7 +88,7 @@ handles-fitting net st m valid fits suits early =
     let of : IsOfKind site site.kind st.kind = subst (λ (q : Site). IsOfKind q q.kind st.kind) (sym is) suits.kind in
     let number = number_in net st.sender.station suits.site suits.is_there in
     let begin : Outgoing = record { sender = st.sender; sends = [] } in
-    let after = kind_on-good net site m.key.time lawful.links valid.ahead begin number site.kind st.handled
+    let after = kind_on-good net site m.key.time lawful.links valid.lookahead_min begin number site.kind st.handled
     m.payload st.kind refl of (good_kind st.handled st.kind fits.kind) in
     let g = after.grown in
     let count = ap length g.sends in
@@ -96,7 +96,7 @@ handles-fitting net st m valid fits suits early =
       fits = record {
         sender = record {
           station = rw g.station number.low;
-          next = omega (arith, g.next, g.few, fits.sender.next);
+          next = omega (arith, g.next, g.at_most, fits.sender.next);
           draws = omega (arith, g.draws, fits.sender.draws);
         };
         kind = kind_on-fits m.key.time early net site st.handled m.payload st.kind begin fits.kind after.good;
@@ -104,7 +104,7 @@ handles-fitting net st m valid fits suits early =
       suits = record { site = site; is_there = rw g.station there; kind = after.kind };
       sends = subst (AreSends net m.key.time st.sender.station st.sender.next) (sym g.sends) g.are;
       next = omega (arith, g.next, count);
-      few = omega (arith, g.few, count);
+      at_most = omega (arith, g.at_most, count);
       handled = refl;
       station = g.station;
     }

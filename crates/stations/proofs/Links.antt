@@ -15,7 +15,7 @@ pub are_weights : (links : List Link) → AreLinks links → AreWeights (weights
 are_weights links are =
     let count : length (weights_of links) ≡ length links = length-map links (λ (l : Link). l.weight) in
     record {
-      some = omega (arith, count, are.some);
-      few = omega (arith, count, are.few);
+      nonempty = omega (arith, count, are.nonempty);
+      at_most = omega (arith, count, are.at_most);
       all = all_map IsWeight (λ (l : Link). l.weight) links are.weights;
     }

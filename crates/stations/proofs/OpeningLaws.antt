@@ -29,14 +29,14 @@ pub opening_kind-fits : (net : Net) (site : Site) (k : Kind) → IsSite net site
     → FitsKind 0 (opening_kind site k)
 opening_kind-fits net site (kind.Source lo hi jobs class) valid is =
     let of : IsKind (kind.Source lo hi jobs class) = subst (λ (q : Kind). IsKind q) is valid.kind in
-    record { range = of.every; jobs = of.few; sent = omega arith }
+    record { range = of.every; jobs = of.at_most; sent = omega arith }
 opening_kind-fits net site (kind.Server servers room lo hi by_class) valid is =
     let of : IsKind (kind.Server servers room lo hi by_class) = subst (λ (q : Kind). IsKind q) is valid.kind in
     record {
       rules = of;
       busy = omega arith;
       line = inl refl;
-      short = omega arith;
+      length_max = omega arith;
       done = omega arith;
       lost = omega arith;
     }
@@ -99,7 +99,7 @@ setup-well net s site valid there =
       record {
         sender = record {
           station = rw g.station number.low;
-          next = omega (arith, g.next, g.few);
+          next = omega (arith, g.next, g.at_most);
           draws = omega (arith, g.draws);
         };
         kind = opening_kind-fits net at at.kind lawful refl;

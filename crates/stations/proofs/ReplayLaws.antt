@@ -101,7 +101,7 @@ module _ (net : Net) (valid : IsNet net) where
   pub sends-next_numbers : SendsNextNumbers net
   sends-next_numbers = record {
     opens = opens_next;
-    few = λ s st m good. (handles-good net valid s st m good).few;
+    at_most = λ s st m good. (handles-good net valid s st m good).at_most;
     next = λ s st m good. (handles-good net valid s st m good).next;
     sends = λ s st m good. (handles-good net valid s st m good).sends;
   }
@@ -113,7 +113,7 @@ module _ (net : Net) (valid : IsNet net) where
   next_from s st (e ∷ es) good =
       let one = handles-good net valid s st e.msg good in
       let rest = next_from s (handle net st e.msg).state es one.good in
-      omega (arith, rest, one.next, one.few)
+      omega (arith, rest, one.next, one.at_most)
 
   -- so its next number is at most `MAX_SENDS` for each entry of its log, and once more
   pub numbers-small : NumbersAreSmall net

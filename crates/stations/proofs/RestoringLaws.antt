@@ -71,7 +71,7 @@ module _ (net : Net) where
       length site.links ≤ 16 → fits_shape net site handled k h ≡ true → KindIsRestored site k handled h
   shape-restored site (kind.Source lo hi jobs class) handled (shape.Source low high sent) valid links few e =
       let h = both _ _ e in
-      let most = valid.few in
+      let most = valid.at_most in
       let less = leb-true sent jobs h.1 in
       record {
         state = Source (record { lo = low; hi = high; jobs = jobs; sent = sent });
@@ -104,14 +104,14 @@ module _ (net : Net) where
         is = refl;
         fits = record {
           rules = record {
-            some = bounds.0;
-            few = bounds.1;
+            at_least = bounds.0;
+            at_most = bounds.1;
             small = leb-true space _ more.0;
             service = is_range-bounds 1 low high more.1;
           };
           busy = leb-true busy _ short.0;
           line = line-either (length line) busy number queue.1;
-          short = leb-true (length line) _ short.1;
+          length_max = leb-true (length line) _ short.1;
           done = leb-true done handled done_lost.0;
           lost = leb-true lost handled done_lost.1;
         };
@@ -134,8 +134,8 @@ module _ (net : Net) where
         is = refl;
         fits = record {
           weights = record {
-            some = elim links [ inl some ↦ omega (arith, count, some) | inr sink ↦ absurd (cc) ];
-            few = omega (arith, count, few);
+            nonempty = elim links [ inl some ↦ omega (arith, count, some) | inr sink ↦ absurd (cc) ];
+            at_most = omega (arith, count, few);
             all = all weights.items (all_pass-all (is_within 1 MAX_WEIGHT) weights.items parts.1);
           };
           passed = leb-true passed handled h.1;
@@ -180,7 +180,8 @@ module _ (net : Net) where
       let h = both numbers_fit (fits_shape net site saved.handled site.kind saved.shape) e in
       let counts = both _ _ h.0 in
       let numbers = both _ _ counts.1 in
-      let kind = shape-restored site site.kind saved.handled saved.shape lawful.kind (has-way site lawful) lawful.few
+      let kind = shape-restored site site.kind saved.handled saved.shape lawful.kind (has-way site lawful)
+      lawful.at_most
       h.1 in
       let low = there.low in
       record {

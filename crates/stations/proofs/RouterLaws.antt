@@ -34,8 +34,8 @@ module _ (net : Net) (site : Site) (now : ℕ) (links : AllByRecursion (IsLink n
   set_weights i w ws are is =
       let count = length-set ws i w in
       record {
-        some = omega (arith, count, are.some);
-        few = omega (arith, count, are.few);
+        nonempty = omega (arith, count, are.nonempty);
+        at_most = omega (arith, count, are.at_most);
         all = all_set IsWeight ws i w are.all is;
       }
 

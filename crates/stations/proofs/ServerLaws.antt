@@ -33,7 +33,7 @@ record IsBusyBut (n handled : ℕ) (s : ServerState) : Type 0 where
   pub rules : IsServer s.servers s.room s.lo s.hi
   pub busy : s.busy ≤ MAX_SERVERS
   pub line : (length s.waiting ≡ 0) ⊎ (s.servers ≤ s.busy + n)
-  pub short : length s.waiting ≤ MAX_ROOM
+  pub length_max : length s.waiting ≤ MAX_ROOM
   pub done : s.done ≤ handled
   pub lost : s.lost ≤ handled
 
@@ -43,7 +43,7 @@ busy_fits handled s b = record {
   rules = b.rules;
   busy = b.busy;
   line = elim b.line [ inl nobody ↦ inl nobody | inr full ↦ inr (omega arith) ];
-  short = b.short;
+  length_max = b.length_max;
   done = b.done;
   lost = b.lost;
 }
@@ -54,7 +54,7 @@ server-later handled s f = record {
   rules = f.rules;
   busy = f.busy;
   line = f.line;
-  short = f.short;
+  length_max = f.length_max;
   done = omega (arith, f.done);
   lost = omega (arith, f.lost);
 }
@@ -77,7 +77,7 @@ module _ (net : Net) (site : Site) (now : ℕ) (links : AllByRecursion (IsLink n
         rules = b.rules;
         busy = b.busy;
         line = inl nobody;
-        short = b.short;
+        length_max = b.length_max;
         done = b.done;
         lost = b.lost;
       };
@@ -91,9 +91,9 @@ module _ (net : Net) (site : Site) (now : ℕ) (links : AllByRecursion (IsLink n
     start_at-Some n handled place job s free there b = record {
       holds = record {
         rules = b.rules;
-        busy = omega (arith, b.rules.few);
+        busy = omega (arith, b.rules.at_most);
         line = elim b.line [ inl nobody ↦ absurd (omega arith) | inr full ↦ inr (omega arith) ];
-        short = omega (arith, b.short, length-remove s.waiting place there);
+        length_max = omega (arith, b.length_max, length-remove s.waiting place there);
         done = b.done;
         lost = b.lost;
       };
@@ -138,7 +138,7 @@ module _ (net : Net) (site : Site) (now : ℕ) (links : AllByRecursion (IsLink n
                 rules = b.rules;
                 busy = b.busy;
                 line = inr (omega arith);
-                short = b.short;
+                length_max = b.length_max;
                 done = b.done;
                 lost = b.lost;
               };
@@ -185,9 +185,9 @@ module _ (net : Net) (site : Site) (now : ℕ) (links : AllByRecursion (IsLink n
             record {
               holds = record {
                 rules = f.rules;
-                busy = omega (arith, f.rules.few);
+                busy = omega (arith, f.rules.at_most);
                 line = elim f.line [ inl nobody ↦ inl nobody | inr full ↦ absurd (omega arith) ];
-                short = f.short;
+                length_max = f.length_max;
                 done = omega (arith, f.done);
                 lost = omega (arith, f.lost);
               };
@@ -203,7 +203,7 @@ module _ (net : Net) (site : Site) (now : ℕ) (links : AllByRecursion (IsLink n
                 rules = f.rules;
                 busy = f.busy;
                 line = inr all_busy;
-                short = omega (arith, f.rules.small, length-append s.waiting (job ∷ []));
+                length_max = omega (arith, f.rules.small, length-append s.waiting (job ∷ []));
                 done = omega (arith, f.done);
                 lost = omega (arith, f.lost);
               };
@@ -214,7 +214,7 @@ module _ (net : Net) (site : Site) (now : ℕ) (links : AllByRecursion (IsLink n
             rules = f.rules;
             busy = f.busy;
             line = f.line;
-            short = f.short;
+            length_max = f.length_max;
             done = omega (arith, f.done);
             lost = omega (arith, f.lost);
           };
@@ -241,7 +241,7 @@ module _ (net : Net) (site : Site) (now : ℕ) (links : AllByRecursion (IsLink n
               rules = f.rules;
               busy = omega (arith, f.busy);
               line = elim f.line [ inl nobody ↦ inl nobody | inr full ↦ inr (omega arith) ];
-              short = f.short;
+              length_max = f.length_max;
               done = omega (arith, f.done);
               lost = omega (arith, f.lost);
             } in
@@ -265,10 +265,16 @@ module _ (net : Net) (site : Site) (now : ℕ) (links : AllByRecursion (IsLink n
         let range = is_range-bounds 1 c.a c.b (let h = (is_accepted-parts site c accepted).1 in rw is at h) in
         record {
           holds = record {
-            rules = record { some = f.rules.some; few = f.rules.few; small = f.rules.small; service = range };
+            rules = record {
+              at_least = f.rules.at_least;
+              at_most = f.rules.at_most;
+              small = f.rules.small;
+              service =
+                  range;
+            };
             busy = f.busy;
             line = f.line;
-            short = f.short;
+            length_max = f.length_max;
             done = omega (arith, f.done);
             lost = omega (arith, f.lost);
           };
@@ -278,10 +284,16 @@ module _ (net : Net) (site : Site) (now : ℕ) (links : AllByRecursion (IsLink n
         let room = leb-true c.a MAX_ROOM (let h = (is_accepted-parts site c accepted).1 in rw is at h) in
         record {
           holds = record {
-            rules = record { some = f.rules.some; few = f.rules.few; small = room; service = f.rules.service };
+            rules = record {
+              at_least = f.rules.at_least;
+              at_most = f.rules.at_most;
+              small = room;
+              service =
+                  f.rules.service;
+            };
             busy = f.busy;
             line = f.line;
-            short = f.short;
+            length_max = f.length_max;
             done = omega (arith, f.done);
             lost = omega (arith, f.lost);
           };
@@ -292,10 +304,10 @@ module _ (net : Net) (site : Site) (now : ℕ) (links : AllByRecursion (IsLink n
         (let h = (is_accepted-parts site c accepted).1 in rw is at h) in
         let few = bounds.1 in
         let begun : IsBusyBut (c.a - s.busy) (handled + 1) (record s { servers = c.a }) = record {
-          rules = record { some = bounds.0; few = few; small = f.rules.small; service = f.rules.service };
+          rules = record { at_least = bounds.0; at_most = few; small = f.rules.small; service = f.rules.service };
           busy = f.busy;
           line = inr (omega arith);
-          short = f.short;
+          length_max = f.length_max;
           done = omega (arith, f.done);
           lost = omega (arith, f.lost);
         } in

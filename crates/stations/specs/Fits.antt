@@ -23,10 +23,10 @@ use Rattle.stations.specs.declared.sender.TheConstants.{MAX_STAY_SUM, MAX_EVENT_
 
 -- links over which jobs may travel
 pub record AreLinks (links : List Link) : Type 0 where
-  pub some : 1 ≤ length links
-  pub few : length links ≤ MAX_LINKS
+  pub nonempty : 1 ≤ length links
+  pub at_most : length links ≤ MAX_LINKS
   pub weights : AllByRecursion (λ l. IsWeight l.weight) links
-  pub near : AllByRecursion (λ l. l.delay ≤ MAX_TIME) links
+  pub delay_max : AllByRecursion (λ l. l.delay ≤ MAX_TIME) links
 
 -- a station that sends has links
 abbrev pub HasLinks : KindState → List Link → Type 0
@@ -45,7 +45,7 @@ pub record FitsServer (handled : ℕ) (s : ServerState) : Type 0 where
   pub rules : IsServer s.servers s.room s.lo s.hi
   pub busy : s.busy ≤ MAX_SERVERS
   pub line : (length s.waiting ≡ 0) ⊎ (s.servers ≤ s.busy)
-  pub short : length s.waiting ≤ MAX_ROOM
+  pub length_max : length s.waiting ≤ MAX_ROOM
   pub done : s.done ≤ handled
   pub lost : s.lost ≤ handled
 

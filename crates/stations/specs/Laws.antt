@@ -44,7 +44,7 @@ module _ (net : Net) where
   -- gets the next number
   pub record SendsNextNumbers : Type 0 where
     pub opens : (s : ℕ) → (setup net s).state.sender.next ≤ 1
-    pub few : (s : ℕ) (st : StateView) (m : Msg) → IsGood net s st → length (handle net st m).sends ≤ MAX_SENDS
+    pub at_most : (s : ℕ) (st : StateView) (m : Msg) → IsGood net s st → length (handle net st m).sends ≤ MAX_SENDS
     pub next : (s : ℕ) (st : StateView) (m : Msg) → IsGood net s st →
         (handle net st m).state.sender.next ≡ st.sender.next + length (handle net st m).sends
     pub sends : (s : ℕ) (st : StateView) (m : Msg) → IsGood net s st →
@@ -67,8 +67,8 @@ module _ (net : Net) where
 
   -- at a front no station's log is beyond the limit, and the decisions are all for stations, with numbers that fit
   pub record HasFewNumbers (c : Clone) (front : ℕ) : Type 0 where
-    pub there : AreForStations (simulation net) c.plans
-    pub short : length c.plans ≤ WORD_NUMBERS
+    pub in_range : AreForStations (simulation net) c.plans
+    pub length_max : length c.plans ≤ WORD_NUMBERS
     pub within : IsWithinLimit (simulation net) front c
 
   -- then each message of the clone's run, handled or pending there, has such a key

@@ -24,7 +24,7 @@ pub record MaySend (more now : ℕ) (sender : Sender) (sent : ℕ) : Type 0 wher
   pub free : sent + more ≤ MAX_SENDS
   pub next : sender.next + more ≤ MAX_COUNTS
   pub draws : sender.draws.count + 2 * more ≤ MAX_COUNTS
-  pub early : now < MAX_EVENT_TIMES
+  pub time_max : now < MAX_EVENT_TIMES
 
 -- one more message is sent, with the sender's next number
 abbrev pub send : ℕ → ℕ → Payload → Outgoing → Outgoing

@@ -87,8 +87,8 @@ pub(crate) fn send_over_link(
 )
     requires free { array_vec_len out.old < MAX_SENDS }
     requires next { sender.old.next < MAX_COUNTS }
-    requires near { link.now.delay ≤ MAX_TIME }
-    requires early { time < 2 * MAX_EVENT_TIMES }
+    requires delay_max { link.now.delay ≤ MAX_TIME }
+    requires time_max { time < 2 * MAX_EVENT_TIMES }
     ensures { send_over (Some link.now) time job (outgoing sender.old out.old.items)
         ≡ outgoing sender.new out.new.items }
 {
@@ -132,7 +132,7 @@ pub(crate) fn pick_by_model(sender: &mut Sender, links: &[Link]) -> Link
     requires draws { sender.old.draws.count < MAX_COUNTS }
     ensures link { slice_get links.now (pick_of (weights_of links.now) sender.old.draws) ≡ Some result }
     ensures drawn { sender.new ≡ record sender.old { draws = after_pick_by (weights_of links.now) sender.old.draws } }
-    ensures near { result.delay ≤ MAX_TIME }
+    ensures delay_max { result.delay ≤ MAX_TIME }
 {
     if links.len() == 1 {
         return links[0];

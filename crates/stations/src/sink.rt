@@ -11,7 +11,7 @@ use sim_base::Payload;
 /// A sink handles a message.
 pub(crate) fn sink_handles(sink: &mut SinkState, now: u64, payload: &Payload)
     requires fits { FitsSink MAX_LIMIT sink.old }
-    requires early { now < MAX_EVENT_TIMES }
+    requires time_max { now < MAX_EVENT_TIMES }
     ensures { sink.new ≡ sink_on now payload.now sink.old }
 {
     if let Payload::Job(job) = payload {

@@ -127,7 +127,7 @@ pub fn handle<L: Ledger>(
     requires empty { array_vec_len out.old ≡ 0 }
     requires own { msg.now.to ≡ state.old.sender.station }
     requires below { state.old.handled < MAX_LIMIT }
-    requires early { msg.now.key.time < MAX_EVENT_TIMES }
+    requires time_max { msg.now.key.time < MAX_EVENT_TIMES }
     // result: the state, the sends and the line of the definition; each send is later than the message, and they have
     // the sender's next numbers
     ensures ok { IfOk result (λ line. handle' model.now state.old msg.now

@@ -43,7 +43,7 @@ module _ (net : Net) (old w : WorldView) (first s t : ℕ) (gone : HasGoneOn net
       HasGoneOn-world net old v first t
       (ap (λ (x : WorldView). x.net) h.at_front ∙ same) (ap (λ (x : WorldView). x.clones) h.at_front ∙ gone.clones)
       (comes_in net w.net old.clones w.clones w.front (front_after w) same gone.clones refl below v.front front valid
-      come_before h.short)
+      come_before h.length_max)
       (steps_in net w.net old.clones w.clones w.front (front_after w) same gone.clones refl below
       (total_handled net old.clones old.front) v.front first s t front gone.steps h.steps)
 

@@ -32,7 +32,7 @@ IsWindow-made w bound s t (Ok v) valid below is value steps short fault = record
   valid = valid;
   below = below;
   at_front = subst (λ f. v ≡ record w { front = f }) is value;
-  short = subst (NoneBeyond w.net w.clones) is short;
+  length_max = subst (NoneBeyond w.net w.clones) is short;
   steps = subst (λ f. t + total_handled w.net w.clones w.front ≡ s + total_handled w.net w.clones f) is steps;
   fault = tt;
 }
@@ -40,7 +40,7 @@ IsWindow-made w bound s t (Err e) valid below is value steps short fault = recor
   valid = valid;
   below = below;
   at_front = tt;
-  short = tt;
+  length_max = tt;
   steps = tt;
   fault = subst (λ f. IsFault w.net w.clones w.front f s t e) is fault;
 }

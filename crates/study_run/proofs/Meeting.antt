@@ -64,7 +64,7 @@ module _ (net : Net) (valid : IsNet net) (cs : List Clone) where
       → MeetsFrom net cs front s c
   meets_next n front s c below (Some p) e h on =
       let f : ℕ = next_front net cs front in
-      let ahead = valid.ahead in
+      let ahead = valid.lookahead_min in
       let within : f ≤ net.horizon = window_end-within (simulation net) (least (simulation net) cs front) in
       let more = fronts-go_on (lawful-stations net valid) cs f (omega (arith, ahead)) within in
       record {

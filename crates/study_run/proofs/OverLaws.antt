@@ -133,7 +133,7 @@ module _ (net : Net) (cs : List Clone) where
   module _ (valid : IsNet net) where
     -- below the horizon a window goes on
     pub rises : (front : ℕ) → front < net.horizon → front < next_front net cs front
-    rises front l = let ahead = valid.ahead in
+    rises front l = let ahead = valid.lookahead_min in
         next_front-rises (lawful-stations net valid) cs front (omega (arith, ahead)) l
 
     -- from a front on, with enough windows

@@ -23,8 +23,8 @@ use Rattle.trace_report.specs.Outputs.{figures_of, figures_to, report}
 small : (net : Net) (cs : List Clone) → IsNet net → length cs ≤ MAX_CLONES
     → most_handled net (length cs) < 2 ^ 64
 small net cs valid few =
-    let a : length cs * net.limit ≤ 16777216 = mul-le-mul few valid.short in
-    let b : length net.sites * (length cs * net.limit) ≤ 1073741824 = mul-le-mul valid.few a in
+    let a : length cs * net.limit ≤ 16777216 = mul-le-mul few valid.limit_max in
+    let b : length net.sites * (length cs * net.limit) ≤ 1073741824 = mul-le-mul valid.at_most a in
     let c : 1073741824 < 2 ^ 64 = omega arith in
     omega (arith, b, c)
 

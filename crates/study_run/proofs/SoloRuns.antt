@@ -71,7 +71,7 @@ module _ (net : Net) (c : Clone) (plans : List Planned) (front : ℕ) (v : SoloV
       record {
         meets = met_alone net c station h.is_station some;
         is_it = refl;
-        few = omega (arith, none, steps, bounded);
+        at_most = omega (arith, none, steps, bounded);
       }
 
 -- ---- last_time

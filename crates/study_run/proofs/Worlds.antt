@@ -38,7 +38,7 @@ stops_at net cs front below valid start mid new station who kept come steps h =
     let most = h.2 in
     record {
       meets = found_met net valid cs station who (over_here net cs front below station who come h.0);
-      few = omega (arith, most, steps);
+      at_most = omega (arith, most, steps);
     }
 
 -- ---- next_front, HasCome, total_handled, IsFaultOfAll, after one more window

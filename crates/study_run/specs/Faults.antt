@@ -17,7 +17,7 @@ fault_of_window (window.EventLimit station who kept) = LimitMet station who
 -- the run of all clones stops at the limit, and no more was handled than the limit allows
 pub record StopsAll (net : Net) (clones : List Clone) (old_steps new_steps station who : ℕ) : Type 0 where
   pub meets : MeetsLimit net clones station who
-  pub few : IsFew net (length clones) old_steps new_steps
+  pub at_most : IsFew net (length clones) old_steps new_steps
 
 -- the causes of a fault of all clones: out of memory has none
 abbrev pub IsFaultOfAll : Net → List Clone → ℕ → ℕ → StudyFault → Type 0
@@ -28,7 +28,7 @@ IsFaultOfAll net clones old_steps new_steps (LimitMet station who) = StopsAll ne
 pub record StopsAlone (net : Net) (clone : Clone) (place old_steps new_steps station who : ℕ) : Type 0 where
   pub meets : MeetsLimitAlone net clone station
   pub is_it : who ≡ place
-  pub few : IsFew net 1 old_steps new_steps
+  pub at_most : IsFew net 1 old_steps new_steps
 
 -- the causes of a fault of one clone: out of memory has none
 abbrev pub IsFaultAlone : Net → List Clone → ℕ → ℕ → ℕ → StudyFault → Type 0

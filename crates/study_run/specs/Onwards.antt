@@ -28,7 +28,7 @@ pub record IsWindow (w : WorldView) (old_steps : ℕ) (window : Result WorldView
   pub valid : IsNet w.net
   pub below : w.front < w.net.horizon
   pub at_front : IfOk window (λ v. v ≡ record w { front = front_after w })
-  pub short : IfOk window (λ v. NoneBeyond w.net w.clones (front_after w))
+  pub length_max : IfOk window (λ v. NoneBeyond w.net w.clones (front_after w))
   pub steps : IfOk window (λ v.
       new_steps + total_handled w.net w.clones w.front ≡ old_steps + total_handled w.net w.clones (front_after w))
   pub fault : IfErr window (λ e. IsFault w.net w.clones w.front (front_after w) old_steps new_steps e)

@@ -36,7 +36,7 @@ pub fn run_alone_until<L: Ledger>(
     time: u64,
     steps: &mut Steps<L>,
 ) -> Result<Solo, StudyFault>
-    requires there { c < length lists.now.clones }
+    requires in_range { c < length lists.now.clones }
     requires planned { ArePlanned model.now lists.now.clones }
 
     // its states, its pending messages and its trace at that time, as if the time were its end
@@ -51,7 +51,7 @@ pub fn run_alone_until<L: Ledger>(
     ensures steps { OnOk result (steps.new
         ≡ steps.old + length (trace_of model.now (until model.now time (clone_at lists.now.clones c)))) }
     ensures within { OnOk result (IsWithin model.now (until model.now time (clone_at lists.now.clones c))) }
-    ensures few { OnOk result (IsFew model.now 1 steps.old steps.new) }
+    ensures at_most { OnOk result (IsFew model.now 1 steps.old steps.new) }
 
     // or out of memory, or the limit is met before that time
     ensures fault { IfErr result (λ e. IsFaultUntil model.now time lists.now.clones c steps.old steps.new e) }
@@ -75,14 +75,14 @@ pub fn run_alone<L: Ledger>(
     c: u32,
     steps: &mut Steps<L>,
 ) -> Result<Solo, StudyFault>
-    requires there { c < length lists.now.clones }
+    requires in_range { c < length lists.now.clones }
     requires planned { ArePlanned model.now lists.now.clones }
 
     // its trace, one step for each entry, and no log is beyond the limit
     ensures trace { IfOk result (λ solo. solo.trace ≡ trace_of model.now (clone_at lists.now.clones c)) }
     ensures steps { OnOk result (steps.new ≡ steps.old + length (trace_of model.now (clone_at lists.now.clones c))) }
     ensures within { OnOk result (IsWithin model.now (clone_at lists.now.clones c)) }
-    ensures few { OnOk result (IsFew model.now 1 steps.old steps.new) }
+    ensures at_most { OnOk result (IsFew model.now 1 steps.old steps.new) }
 
     // or out of memory, or the limit is met
     ensures fault { IfErr result (λ e. IsFaultAlone model.now lists.now.clones c steps.old steps.new e) }

@@ -77,7 +77,7 @@ fn finish_beside<A: Onwards, G: Gate, L: Ledger, R: Wait>(
     follow_up: &mut A,
     steps: &mut Steps<L>,
 ) -> Result<World, StudyFault>
-    requires there { (w : WorldView) × ((given.old ≡ Some (tt, w))
+    requires is_given { (w : WorldView) × ((given.old ≡ Some (tt, w))
         × HasComeTo A.has_gone_on (run_state follow_up.old w steps.old)) }
     ensures goes { IfSome given.old (λ g. GoesOn A.has_gone_on A.has_stopped (run_state follow_up.old g.1 steps.old)
         follow_up.new steps.new result) }

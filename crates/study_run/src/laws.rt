@@ -31,7 +31,7 @@ pub fn first_full_log()
 #[tactic(auto, using(crate::proofs::Reports::total_is_of_report, crate::proofs::Reports::total_is_few))]
 pub fn report_has_the_total()
     ensures total { TotalIsOfReport }
-    ensures few { TotalIsFew }
+    ensures at_most { TotalIsFew }
 {}
 
 /// A world may take at front 0 what a right journal without fronts accepted.

@@ -50,13 +50,13 @@ module _ (nodes : List ℕ) (count : ℕ) (t : IsTree nodes count) where
   -- the word at the top is the least of the words
   pub least_word : (word : ℕ) → get_or nodes 1 0 ≡ word → IsLeastWord word (drop count nodes)
   least_word word e =
-      let some : 1 ≤ count = t.some in
+      let some : 1 ≤ count = t.at_least in
       let h = word_of_node (2 * count) 1 (omega arith) (omega arith) (omega arith) in
       let long : length (drop count nodes) ≡ count = let a = length-drop count nodes in let b = t.size in
       omega (arith, a, b) in
       record {
         place = h.0;
-        there = let l : h.0 < count = h.1 in omega (arith, l, long);
+        in_range = let l : h.0 < count = h.1 in omega (arith, l, long);
         is = get_or-drop count nodes h.0 0 ∙ h.2 ∙ e;
         least = λ i l.
             let a = top_least (2 * count) (count + i) (omega arith) (omega (arith, l, long)) (omega (arith, l, long)) in

@@ -63,11 +63,11 @@ module _ (w : ℕ) (words : List ℕ) (ls : List (List E)) (reserved most : ℕ)
     (h : IsLeastWord w words) where
   -- the words are few
   length-words : length words ≤ WORD_PLACES
-  length-words = c.few
+  length-words = c.at_most
 
   -- and there is one for each list
   place : length ls ≤ length words
-  place = let a = c.within in let b = c.there in omega (arith, a, b)
+  place = let a = c.within in let b = c.in_range in omega (arith, a, b)
 
   -- no list's word is less
   not_less : (j : ℕ) → j < length words → w ≤ word_of j (get_or ls j [])
@@ -75,13 +75,13 @@ module _ (w : ℕ) (words : List ℕ) (ls : List (List E)) (reserved most : ℕ)
 
   -- the least word determines its list
   at_place : word_of h.place (get_or ls h.place []) ≡ w
-  at_place = sym (c.words_are h.place h.there) ∙ h.is
+  at_place = sym (c.words_are h.place h.in_range) ∙ h.is
 
   -- the least word is that of the list whose place it has
   word_of-list : (l : List E) → get_or ls h.place [] ≡ l → word_of h.place l ≡ w → w % WORD_PLACES < length ls →
       word_of (w % WORD_PLACES) (get_or ls (w % WORD_PLACES) []) ≡ w
   word_of-list (x ∷ xs) is e there =
-      let p = h.there in
+      let p = h.in_range in
       let same : w % WORD_PLACES ≡ h.place = omega (arith, e, p, length-words) in
       ap (λ i. word_of i (get_or ls i [])) same ∙ at_place
   word_of-list [] is e there =
@@ -125,7 +125,7 @@ module _ (w : ℕ) (words : List ℕ) (ls : List (List E)) (reserved most : ℕ)
       → w ≡ NO_WORD
   greatest_of [] is e none = sym e
   greatest_of (x ∷ xs) is e none =
-      let p = h.there in
+      let p = h.in_range in
       let same : w % WORD_PLACES ≡ h.place = omega (arith, e, p, length-words) in
       let q : get_or ls h.place [] ≡ [] = subst (λ i. get_or ls i [] ≡ []) same none in
       let a : ⊥ = cc in absurd a
@@ -174,13 +174,13 @@ pub cursor_set : (ls : List (List E)) (words : List ℕ) (reserved most i : ℕ)
     IsCursor ls words reserved most →
     i < length ls → FitWords l → IsCursor (set ls i l) (set words i (word_of i l)) reserved most
 cursor_set ls words reserved most i l c there fit =
-    let place : length ls ≤ length words = let a = c.within in let b = c.there in omega (arith, a, b) in
+    let place : length ls ≤ length words = let a = c.within in let b = c.in_range in omega (arith, a, b) in
     let long_ls = length-set ls i l in
     let long_words = length-set words i (word_of i l) in
     record {
-      few = let a = c.few in omega (arith, a, long_words);
+      at_most = let a = c.at_most in omega (arith, a, long_words);
       within = let a = c.within in omega (arith, a, long_ls);
-      there = let a = c.there in omega (arith, a, long_words);
+      in_range = let a = c.in_range in omega (arith, a, long_words);
       enough = c.enough;
       fit = all_set FitWords ls i l c.fit fit;
       words_are = λ j lj. elim (cases_eq j i) [

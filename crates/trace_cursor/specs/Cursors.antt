@@ -21,9 +21,9 @@ AreWordsOf words ls = (j : ℕ) → j < length words → get_or words j 0 ≡ wo
 -- the remaining lists, the words of their keys, the number of lists that memory is reserved for, and the most that may
 -- be added
 pub record IsCursor (ls : List (List (Entry Msg Line))) (words : List ℕ) (reserved most : ℕ) : Type 0 where
-  pub few : length words ≤ WORD_PLACES
+  pub at_most : length words ≤ WORD_PLACES
   pub within : length ls ≤ most
-  pub there : most ≤ length words
+  pub in_range : most ≤ length words
   pub enough : most ≤ reserved
   pub fit : AllFitWords ls
   pub words_are : AreWordsOf words ls

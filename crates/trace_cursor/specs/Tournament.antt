@@ -17,23 +17,23 @@ AreNodesBut nodes count p = (i : ℕ) → 1 ≤ i → i < count → i ≢ p → 
 
 -- count nodes, the first unused, followed by count words
 pub record IsTree (nodes : List ℕ) (count : ℕ) : Type 0 where
-  pub some : 1 ≤ count
-  pub few : count ≤ MAX_WORDS
+  pub at_least : 1 ≤ count
+  pub at_most : count ≤ MAX_WORDS
   pub size : length nodes ≡ 2 * count
   pub right : AreNodesBut nodes count 0
 
 -- the least of a list's words, and its place
 pub record IsLeastWord (word : ℕ) (words : List ℕ) : Type 0 where
   pub place : ℕ
-  pub there : place < length words
+  pub in_range : place < length words
   pub is : get_or words place 0 ≡ word
   pub least : (i : ℕ) → i < length words → word ≤ get_or words i 0
 
 -- a tree with these words in which the parent of this node may be wrong; `least` is the word of this node
 pub record IsMending (nodes : List ℕ) (count node least : ℕ) (words : List ℕ) : Type 0 where
-  pub few : count ≤ MAX_WORDS
+  pub at_most : count ≤ MAX_WORDS
   pub size : length nodes ≡ 2 * count
-  pub some : 1 ≤ node
+  pub at_least : 1 ≤ node
   pub low : node < 2 * count
   pub here : get_or nodes node 0 ≡ least
   pub right : AreNodesBut nodes count (node / 2)

@@ -40,8 +40,8 @@ impl<'a> Model for Cursor<'a> {
 impl<'a> Cursor<'a> {
     /// A cursor without logs; `most` may be added. It allocates all its memory here.
     pub fn new(alloc: Global, most: usize) -> Result<Cursor<'a>, NoMemory>
-        requires some { 1 ≤ most }
-        requires few { most ≤ WORD_PLACES }
+        requires at_least { 1 ≤ most }
+        requires at_most { most ≤ WORD_PLACES }
         ensures value { IfOk result (λ c. c ≡ record { left = []; logs = 0; most = most }) }
     {
         let walks = Vec::with_capacity(alloc, most)?;
@@ -93,7 +93,7 @@ impl<'a> Cursor<'a> {
     /// The next entry, as its log stores it. The cursor must not be at its end.
     #[inline(always)]
     pub fn take(&mut self) -> StoredEntry<'a>
-        requires some { 1 ≤ length self.old.left }
+        requires nonempty { 1 ≤ length self.old.left }
         ensures value { self.old ≡ record self.new { left = entry_in result ∷ self.new.left } }
     {
         let place = self.tree.least() % WORD_PLACES;
@@ -106,10 +106,10 @@ impl<'a> Cursor<'a> {
 
 // The least power of two that is not less than `most`.
 fn places(most: usize) -> usize
-    requires few { most ≤ WORD_PLACES }
+    requires at_most { most ≤ WORD_PLACES }
     ensures all { most ≤ result }
-    ensures some { 1 ≤ result }
-    ensures few { result ≤ WORD_PLACES }
+    ensures at_least { 1 ≤ result }
+    ensures at_most { result ≤ WORD_PLACES }
 {
     most.next_power_of_two()
 }
@@ -117,7 +117,7 @@ fn places(most: usize) -> usize
 // The key of the next entry as a word, with the place of the walk; the greatest word at the end.
 #[inline(always)]
 fn word(walk: &Walk<'_>, place: u64) -> u64
-    requires few { place < WORD_PLACES }
+    requires at_most { place < WORD_PLACES }
     requires fit { FitWords walk.now }
     ensures value { result ≡ word_of place walk.now }
 {

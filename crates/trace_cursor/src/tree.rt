@@ -35,8 +35,8 @@ impl Model for Tree {
 impl Tree {
     /// `count` words, each the greatest.
     pub fn new(alloc: Global, count: usize) -> Result<Tree, NoMemory>
-        requires some { 1 ≤ count }
-        requires few { count ≤ MAX_WORDS }
+        requires at_least { 1 ≤ count }
+        requires at_most { count ≤ MAX_WORDS }
         ensures value { IfOk result (λ t. t ≡ replicate count NO_WORD) }
     {
         let nodes = vec![in alloc; NO_WORD; 2 * count]?;
@@ -53,7 +53,7 @@ impl Tree {
     /// Replaces a word.
     #[inline(always)]
     pub fn set(&mut self, i: usize, word: u64)
-        requires there { i < length self.old }
+        requires in_range { i < length self.old }
         ensures value { self.new ≡ slice_set self.old i word }
     {
         let mut node = self.count + i;
@@ -69,7 +69,7 @@ impl Tree {
     /// Replaces a word, as `set` does, but does nothing if it does not change.
     #[inline(always)]
     pub fn update(&mut self, i: usize, word: u64)
-        requires there { i < length self.old }
+        requires in_range { i < length self.old }
         ensures value { self.new ≡ slice_set self.old i word }
     {
         if self.nodes[self.count + i] != word {

@@ -12,6 +12,6 @@ slot_of net s = record { name = station_name net s; class = class_from net s }
 
 -- the slots of a network, for the numbers from 0 to the greatest possible station number
 pub record AreNames (net : Net) (slots : List Slot) : Type 0 where
-  pub few : length net.sites ≤ MAX_STATIONS
+  pub at_most : length net.sites ≤ MAX_STATIONS
   pub size : length slots ≡ SLOTS
   pub each : (s : ℕ) → s < SLOTS → slice_get slots s ≡ Some (slot_of net s)

@@ -5,7 +5,7 @@ use Rattle.std.specs.Prelude.{◌≡◌, ℕ, ◌+◌, ◌≤◌, List, ◌++◌
 pub record WritesPiece (piece : List ℕ) (most at end : ℕ) (old new : List ℕ) : Type 0 where
   pub text : take end new ≡ take at old ++ piece
   pub size : length new ≡ length old
-  pub near : end ≤ at + most
+  pub end_max : end ≤ at + most
 
 -- the piece is appended to what was written before the place, and ends its own length after it
 pub record WritesExactly (piece : List ℕ) (at end : ℕ) (old new : List ℕ) : Type 0 where

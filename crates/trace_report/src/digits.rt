@@ -16,7 +16,7 @@ pub const LEAST_LONG: u64 = 10_000_000_000;
 #[inline(always)]
 pub fn digits(n: u64) -> usize
     ensures count { result ≡ length (decimal n) }
-    ensures few { result ≤ MAX_NUMBER_LEN }
+    ensures at_most { result ≤ MAX_NUMBER_LEN }
 {
     if n < LEAST_LONG {
         few_digits(n)
@@ -30,7 +30,7 @@ pub fn digits(n: u64) -> usize
 fn few_digits(n: u64) -> usize
     requires small { n < LEAST_LONG }
     ensures count { result ≡ length (decimal n) }
-    ensures few { result ≤ SHORT_NUMBER }
+    ensures at_most { result ≤ SHORT_NUMBER }
 {
     if n < 100_000 {
         if n < 10 {

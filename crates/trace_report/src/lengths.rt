@@ -46,7 +46,7 @@ pub const MAX_END_LEN: usize = MAX_COUNTS_LEN + 1;
 fn station_len(model: &Model, names: &Names, s: u32) -> usize
     requires names { AreNames model.now names.now }
     ensures value { result ≡ length (station_name model.now s) }
-    ensures short { result ≤ MAX_NAME_LEN }
+    ensures length_max { result ≤ MAX_NAME_LEN }
 {
     names.slot(model, s).name.len()
 }
@@ -55,7 +55,7 @@ fn station_len(model: &Model, names: &Names, s: u32) -> usize
 fn class_len(model: &Model, names: &Names, source: u32) -> usize
     requires names { AreNames model.now names.now }
     ensures value { result ≡ length (class_text model.now source) }
-    ensures short { result ≤ MAX_CLASS_LEN }
+    ensures length_max { result ≤ MAX_CLASS_LEN }
 {
     if model.format() == 2 {
         1 + digits(u64::from(names.slot(model, source).class))
@@ -68,7 +68,7 @@ fn class_len(model: &Model, names: &Names, source: u32) -> usize
 fn job_len(model: &Model, names: &Names, job: &Job) -> usize
     requires names { AreNames model.now names.now }
     ensures value { result ≡ length (job_text model.now job.now) }
-    ensures short { result ≤ MAX_JOB_LEN }
+    ensures length_max { result ≤ MAX_JOB_LEN }
 {
     station_len(model, names, job.source)
         + 1
@@ -78,7 +78,7 @@ fn job_len(model: &Model, names: &Names, job: &Job) -> usize
 
 fn values_len(change: &Change) -> usize
     ensures value { result ≡ length (values_text change.now) }
-    ensures short { result ≤ MAX_VALUES_LEN }
+    ensures length_max { result ≤ MAX_VALUES_LEN }
 {
     if change.param.values() == 1 {
         digits(change.a)
@@ -89,7 +89,7 @@ fn values_len(change: &Change) -> usize
 
 fn change_len(change: &Change) -> usize
     ensures value { result ≡ length (change_text change.now) }
-    ensures short { result ≤ MAX_CHANGE_LEN }
+    ensures length_max { result ≤ MAX_CHANGE_LEN }
 {
     word_of(change.param).len() + 1 + values_len(change)
 }
@@ -98,7 +98,7 @@ fn change_len(change: &Change) -> usize
 fn payload_len(model: &Model, names: &Names, payload: &Payload) -> usize
     requires names { AreNames model.now names.now }
     ensures value { result ≡ length (payload_text model.now payload.now) }
-    ensures short { result ≤ MAX_PAYLOAD_LEN }
+    ensures length_max { result ≤ MAX_PAYLOAD_LEN }
 {
     match payload {
         Payload::Tick => 4,
@@ -111,7 +111,7 @@ fn payload_len(model: &Model, names: &Names, payload: &Payload) -> usize
 #[inline(always)]
 fn counts_len(counts: &Line) -> usize
     ensures value { result ≡ length (counts_text counts.now) }
-    ensures short { result ≤ MAX_COUNTS_LEN }
+    ensures length_max { result ≤ MAX_COUNTS_LEN }
 {
     match counts {
         Line::Source { sent } => 5 + digits(*sent),
@@ -130,7 +130,7 @@ fn counts_len(counts: &Line) -> usize
 pub fn line_len(model: &Model, names: &Names, entry: &Entry) -> usize
     requires names { AreNames model.now names.now }
     ensures value { result ≡ length (entry_line model.now entry.now) }
-    ensures short { result ≤ MAX_LINE }
+    ensures length_max { result ≤ MAX_LINE }
 {
     let key = entry.msg.key;
     6 + digits(key.time)

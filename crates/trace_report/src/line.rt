@@ -61,7 +61,7 @@ fn put_job(bytes: &mut [u8], at: usize, model: &Model, names: &Names, job: &Job)
 /// The script's word for a parameter.
 pub fn word_of(param: Param) -> &'static [u8]
     ensures value { result.now ≡ param_word param }
-    ensures short { length result.now ≤ MAX_WORD_LEN }
+    ensures length_max { length result.now ≤ MAX_WORD_LEN }
 {
     param.word().as_bytes()
 }

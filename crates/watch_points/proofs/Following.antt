@@ -71,7 +71,7 @@ module _ {S M N : Type 0} {sim : Simulation S M N} {Good : ℕ → S → Type 0}
       handled-added law same (clones_with_fork cs name k) front s (length cs) p
       (sim.set_message (length (clone_at (clones_with_fork cs name k) (length cs)).plans) p)
       (record {
-        there = omega (arith, length-append cs (fork_of (clone_at cs k) name ∷ []));
+        in_range = omega (arith, length-append cs (fork_of (clone_at cs k) name ∷ []));
         is = refl;
         late = omega (arith, late, at (length (clone_at (clones_with_fork cs name k) (length cs)).plans) p);
       })

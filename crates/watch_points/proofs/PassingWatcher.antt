@@ -381,4 +381,4 @@ module _ (w : WatcherView) (world : WorldView) (i : ℕ) (a : ActiveWatch) (k du
     due-handled = station_sum-same (λ s. handled_once world.net with_branch s world.front)
         (λ s. handled_once world.net world.clones s world.front) (length world.net.sites)
         (λ s. handled-branch due_law same_entry same_entry-Decides (λ k p. refl) world.clones k a.watch.new plan s
-        world.front (record { there = due-in_range; going = due-no_end }) due-not_late)
+        world.front (record { in_range = due-in_range; going = due-no_end }) due-not_late)

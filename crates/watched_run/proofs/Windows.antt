@@ -152,7 +152,7 @@ module _ (first : WatcherView) (old : WorldView) (s0 : ℕ) (w : WatcherView) (n
               now.net.horizon (window_end-within (simulation now.net)
               (fronts.least (simulation now.net) now.clones now.front))
               over.beyond;
-          few = few;
+          at_most = few;
         }
 
     -- the run stops at the limit, with the clone's number

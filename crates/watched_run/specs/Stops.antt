@@ -24,7 +24,7 @@ pub record StopsWatched (net : Net) (script : List Clone) (ws : List Watch)
   pub name : clone.name ≡ numbered_name script ws number
   pub is_station : HasStation net station
   pub beyond : IsBeyond net station net.horizon clone
-  pub few : IsFew net (length (clones_with_branches net script ws)) old_steps new_steps
+  pub at_most : IsFew net (length (clones_with_branches net script ws)) old_steps new_steps
 
 -- the causes of a fault: out of memory has none; the limit names a clone by its number
 abbrev pub IsFaultOfWatched : Net → List Clone → List Watch → ℕ → ℕ → StudyFault → Type 0

@@ -28,8 +28,8 @@ pub record MaySet (net : Net) (cs : List Clone) (front c at : ℕ) (station : Li
   pub found : station_named station net ≡ Some number
   pub low : 1 ≤ number
   pub late : front ≤ at
-  pub early : at < net.horizon
-  pub short : length (clone_at cs c).plans < MAX_DECISIONS
+  pub time_max : at < net.horizon
+  pub length_max : length (clone_at cs c).plans < MAX_DECISIONS
 
 -- this holds for each set that no row refuses
 pub may_set : (net : Net) (cs : List Clone) (front c at : ℕ) (who station : List ℕ) (change : Change)
@@ -52,8 +52,8 @@ may_set net cs front c at who station change h = by (station_named station net) 
           found = e;
           low = station_named-low station net s e;
           late = t.0;
-          early = t.1;
-          short = leb-false MAX_DECISIONS (length (clone_at cs c).plans) b.0;
+          time_max = t.1;
+          length_max = leb-false MAX_DECISIONS (length (clone_at cs c).plans) b.0;
         }
 
     by : (o : Option ℕ) → station_named station net ≡ o

@@ -98,7 +98,7 @@ module _ (net : Net) (cs : List Clone) (front bound : ℕ) (procs : List ProcVie
       let a = st.carried c there in
       let copy = all_in (IsCopy net p.0.station) p.0.copies a.0 (world.stood i p.0 p.1).station.proc.copies a.1 in
       let short : length (log_at (simulation net) (clone_at cs c) (i + 1) front) ≤ net.limit =
-      subst (λ k. length k ≤ net.limit) (st.log a.0 c a.1 a.2) copy.short in
+      subst (λ k. length k ≤ net.limit) (st.log a.0 c a.1 a.2) copy.length_max in
       omega (arith, short, long)
 
   -- with what was handled before, a station has handled at most the limit for each clone

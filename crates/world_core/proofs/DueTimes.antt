@@ -233,7 +233,7 @@ module _ (net : Net) (cs : List Clone) (front i : ℕ) (p : ProcView) (here : St
 pub all_short : (net : Net) (s : ℕ) (xs : List StationCopy) → net.limit ≤ MAX_LIMIT → AllByRecursion (IsCopy net s) xs
     → AllByRecursion (λ (a : StationCopy). length a.log ≤ MAX_LIMIT) xs
 all_short net s xs l h = all_weaker (IsCopy net s) (λ (a : StationCopy). length a.log ≤ MAX_LIMIT) xs
-    (λ a is. let e = is.short in omega (arith, e, l)) h
+    (λ a is. let e = is.length_max in omega (arith, e, l)) h
 
 -- ---- the figures of a station of a world
 
@@ -256,7 +256,7 @@ module _ (net : Net) (cs : List Clone) (ended : List (ℕ × ℕ)) (front : ℕ)
         once = w.once;
         each_alone = sym (many_alone net cs front (s - 1) p w);
         sizes = let e = clones-copies has size (simulation net) cs front (s - 1 + 1) p.copies
-            (λ a i. size_is_count a.set) w.copies in let f = world.few in let g = sizes_sum p.copies in
+            (λ a i. size_is_count a.set) w.copies in let f = world.at_most in let g = sizes_sum p.copies in
             omega (arith, e, f, g);
       })
     where

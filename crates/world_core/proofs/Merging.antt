@@ -79,7 +79,7 @@ module _ (net : Net) (cs : List Clone) (ended : List (ℕ × ℕ)) (front : ℕ)
   log_short i p copy got is_copy =
       let is : IsCopy net p.station copy =
       all_in (IsCopy net p.station) p.copies copy (world.each i p got).station.proc.copies is_copy in
-      is.short
+      is.length_max
 
   -- a clone with the same log as a clone of the copy is in the copy
   pub alike_is_in : (i : ℕ) (p : ProcView) (copy : StationCopy) (who c : ℕ) → slice_get procs i ≡ Some p

@@ -60,9 +60,9 @@ pub world_begins : (net : Net) (procs : List ProcView) → IsNet net → length 
     → AreFirst net procs → WorldStands net (base ∷ []) [] 0 procs
 world_begins net procs valid count first = record {
   valid = valid;
-  early = omega arith;
+  time_max = omega arith;
   count = count;
-  few = omega arith;
+  at_most = omega arith;
   ends = fun_ext (no_ends net);
   for_stations = λ c l. no_plans net c;
   each = λ i p got.

@@ -72,7 +72,7 @@ module _ (net : Net) (cs : List Clone) (name : List ℕ) (old : ℕ) (there : ol
 
   -- its old one may be forked
   may_fork : MayFork cs old
-  may_fork = record { there = there; going = open_end }
+  may_fork = record { in_range = there; going = open_end }
 
   -- no clone has another end
   ends_forked : (c : ℕ) → ends_of (simulation net) cs c ≡ ends_of (simulation net) (clones_with_fork cs name old) c
@@ -119,9 +119,9 @@ module _ (net : Net) (cs : List Clone) (name : List ℕ) (old : ℕ) (there : ol
       → WorldStands net (clones_with_fork cs name old) ended front news
   world_forked ended front procs news few world done = record {
     valid = world.valid;
-    early = world.early;
+    time_max = world.time_max;
     count = done.count ∙ world.count;
-    few = let many = length_push cs new_clone in omega (arith, few, many);
+    at_most = let many = length_push cs new_clone in omega (arith, few, many);
     ends = world.ends ∙ fun_ext ends_forked;
     for_stations = plans_forked world.for_stations;
     each = each_forked;
@@ -162,9 +162,9 @@ module _ (net : Net) (cs : List Clone) (who : ℕ) (plan : Planned) (there : who
       (clones_with_plan cs who plan) ended front news
   world_added ended front procs news is late world done = record {
     valid = world.valid;
-    early = world.early;
+    time_max = world.time_max;
     count = done.count ∙ world.count;
-    few = let many = length-set cs who with_set in let f = world.few in omega (arith, f, many);
+    at_most = let many = length-set cs who with_set in let f = world.at_most in omega (arith, f, many);
     ends = world.ends ∙ fun_ext (λ c.
         sym (set_cases (λ c k. end_of (simulation net) k ≡ end_of (simulation net) (clone_at cs c)) cs who with_set
         there refl (λ c n. refl) c));
@@ -193,7 +193,7 @@ module _ (net : Net) (cs : List Clone) (who : ℕ) (plan : Planned) (there : who
           }
         where
           timely : IsTimelyPlan (simulation net) cs front who plan tells
-          timely = record { there = there; is = refl; late = late }
+          timely = record { in_range = there; is = refl; late = late }
 
           by : (b : Bool) → (plan.station == i + 1) ≡ b → (olds : List StationCopy)
               → Stands (simulation net) has cs front (i + 1) olds →
@@ -227,9 +227,9 @@ module _ (net : Net) (cs : List Clone) (who at : ℕ) (there : who < length cs)
       WorldStands net cs olds front procs → WorldStands net (clones_with_end cs who at) news front procs
   world_ended olds news front procs late early ends world = record {
     valid = world.valid;
-    early = world.early;
+    time_max = world.time_max;
     count = world.count;
-    few = let many = length-set cs who with_end in let f = world.few in omega (arith, f, many);
+    at_most = let many = length-set cs who with_end in let f = world.at_most in omega (arith, f, many);
     ends = fun_ext ends_are;
     for_stations = λ c l. set_cases (λ c k. c < length cs → AreForStations (simulation net) k.plans) cs who with_end
         there

@@ -29,7 +29,7 @@ pub record HasStepped (net : Net) (cs : List Clone) (ended : List (ℕ × ℕ)) 
       → WorldStands net cs ended bound given
   pub steps : over ≡ None → steps1 + total_handled w.net w.clones w.front
       ≡ steps0 + total_handled w.net w.clones bound
-  pub short : over ≡ None → NoneBeyond w.net w.clones bound
+  pub length_max : over ≡ None → NoneBeyond w.net w.clones bound
 
 module _ (net : Net) (cs : List Clone) (ended : List (ℕ × ℕ)) (front bound : ℕ) (procs : List ProcView) (w : WorldView)
     (world : WorldStands net cs ended front procs) (is : (record { net = net; clones = cs; front = front }) ≡ w)
@@ -50,7 +50,7 @@ module _ (net : Net) (cs : List Clone) (ended : List (ℕ × ℕ)) (front bound 
     are_stations net cs ended front procs world,
     record {
       count = count;
-      early = λ i d l. let s = same i d l in let b =
+      time_max = λ i d l. let s = same i d l in let b =
           bound-within net cs ended front bound procs world later no_later in omega (arith, s, b);
     },
   )
@@ -88,7 +88,7 @@ module _ (net : Net) (cs : List Clone) (ended : List (ℕ × ℕ)) (front bound 
           (subst (λ k. AllDelivered sent k given) s.procs d));
       steps = λ o. let grown = total_grows net cs front bound procs flows stepped world.for_stations (none o) in
           let taken = s.steps_are in omega (arith, grown, taken);
-      short = λ o. none_beyond net cs front bound procs flows stepped (none o);
+      length_max = λ o. none_beyond net cs front bound procs flows stepped (none o);
     }
 
   -- after the step, this holds

@@ -36,7 +36,7 @@ stands_for_reader net shown_net cs shown front i p e f at =
 pub are_stations : (net : Net) (cs : List Clone) (ended : List (ℕ × ℕ)) (front : ℕ) (procs : List ProcView)
     → WorldStands net cs ended front procs → AreStations net procs
 are_stations net cs ended front procs world = record {
-  few = let n = world.count in let k = world.valid.few in omega (arith, n, k);
+  at_most = let n = world.count in let k = world.valid.at_most in omega (arith, n, k);
   procs_in_order = λ i p got. (world.each i p got).station;
 }
 
@@ -80,9 +80,9 @@ module _ (net : Net) (cs : List Clone) (ended : List (ℕ × ℕ)) (front bound 
           → WorldStands net cs ended bound news
       world_after news given = record {
         valid = world.valid;
-        early = bound-within;
+        time_max = bound-within;
         count = given.count ∙ length-map flows (λ (f : Flow). f.done) ∙ world_stepped.all_flows;
-        few = world.few;
+        at_most = world.at_most;
         ends = world.ends;
         for_stations = world.for_stations;
         each = each_after;

@@ -38,9 +38,9 @@ pub record StandsAt (net : Net) (cs : List Clone) (front i : ℕ) (p : ProcView)
 pub record WorldStands (net : Net) (cs : List Clone) (ended : List (ℕ × ℕ)) (front : ℕ) (procs : List ProcView) :
     Type 0 where
   pub valid : IsNet net
-  pub early : front ≤ net.horizon
+  pub time_max : front ≤ net.horizon
   pub count : length procs ≡ length net.sites
-  pub few : length cs ≤ MAX_CLONES
+  pub at_most : length cs ≤ MAX_CLONES
   pub ends : ends_in net.horizon ended ≡ ends_of (simulation net) cs
   pub for_stations : AllAreForStations (simulation net) cs
   pub each : (i : ℕ) (p : ProcView) → slice_get procs i ≡ Some p → StandsAt net cs front i p

@@ -16,8 +16,8 @@ use stations::due::{earlier, window_end};
 
 // The number of messages that the clones of these copies would have handled, each alone.
 fn alone_in(copies: &[PhysCopy]) -> u64
-    requires short { AllByRecursion (λ a. length a.log ≤ MAX_LIMIT) copies.now }
-    requires few { all_sizes copies.now ≤ MAX_CLONES }
+    requires length_max { AllByRecursion (λ a. length a.log ≤ MAX_LIMIT) copies.now }
+    requires at_most { all_sizes copies.now ≤ MAX_CLONES }
     ensures value { result ≡ handled_alone_by copies.now }
 {
     let mut sum = 0;
@@ -30,7 +30,7 @@ fn alone_in(copies: &[PhysCopy]) -> u64
 impl World {
     /// The least time that is due in a clone, below its end; None exactly if there is none. It allocates nothing.
     pub fn least_of(&self, c: u32) -> Option<u64>
-        requires there { c < length self.now.clones }
+        requires in_range { c < length self.now.clones }
         ensures value { result ≡ least_of (simulation self.now.net) (clone_at self.now.clones c) self.now.front }
     {
         let mut least = None;

@@ -89,10 +89,10 @@ impl World {
     ///
     /// Out of memory: the world is dropped.
     pub fn with_fork(self, alloc: Global, new: Name, old: u32) -> Result<World, NoMemory>
-        requires there { old < length self.clones }
+        requires in_range { old < length self.clones }
         requires open { (clone_at self.clones old).end ≡ None }
         requires unused { place_of new self.clones ≡ None }
-        requires few { length self.clones < MAX_CLONES }
+        requires at_most { length self.clones < MAX_CLONES }
         // the same world with the new clone
         ensures value { IfOk result (λ w. w ≡ record self { clones = clones_with_fork self.clones new old }) }
     {
@@ -125,7 +125,7 @@ impl World {
     ///
     /// Out of memory: the world is dropped.
     pub fn with_set(self, who: u32, plan: Planned) -> Result<World, NoMemory>
-        requires there { who < length self.clones }
+        requires in_range { who < length self.clones }
         requires is_station { HasStation self.net plan.station }
         requires not_late { self.front ≤ plan.at }
         // the same world, in which this clone has the decision
@@ -156,10 +156,10 @@ impl World {
 
     // Ends a clone: it takes nothing from that time on.
     fn with_end(self, alloc: Global, who: u32, at: u64) -> Result<World, NoMemory>
-        requires there { who < length self.clones }
+        requires in_range { who < length self.clones }
         requires open { (clone_at self.clones who).end ≡ None }
         requires not_late { self.front ≤ at }
-        requires early { at ≤ self.net.horizon }
+        requires time_max { at ≤ self.net.horizon }
         // the same world, in which this clone has the end
         ensures value { IfOk result (λ w. w ≡ record self { clones = clones_with_end self.clones who at }) }
     {

@@ -74,12 +74,12 @@ fn copy_of(copies: &[PhysCopy], c: u32) -> Option<&PhysCopy>
 impl World {
     // The copy of a station that represents a clone: its log is that of each of its clones.
     fn copy(&self, who: u32, station: u32) -> &PhysCopy
-        requires there { who < length self.now.clones }
+        requires in_range { who < length self.now.clones }
         requires is_station { HasStation self.now.net station }
         ensures is_in { has result.now.set who ≡ true }
         ensures log { (c : ℕ) → has result.now.set c ≡ true →
             result.now.log ≡ log_at (simulation self.now.net) (clone_at self.now.clones c) station self.now.front }
-        ensures short { length result.now.log ≤ self.now.net.limit }
+        ensures length_max { length result.now.log ≤ self.now.net.limit }
         ensures alike { (c : ℕ) → c < length self.now.clones →
             log_at (simulation self.now.net) (clone_at self.now.clones c) station self.now.front
             ≡ log_at (simulation self.now.net) (clone_at self.now.clones who) station self.now.front →
@@ -94,18 +94,18 @@ impl World {
     /// The log of a clone at a station, up to the front: that of the copy that represents the clone there. It allocates
     /// nothing.
     pub fn log(&self, who: u32, station: u32) -> &Log
-        requires there { who < length self.now.clones }
+        requires in_range { who < length self.now.clones }
         requires is_station { HasStation self.now.net station }
         ensures value { result.now ≡ log_at (simulation self.now.net) (clone_at self.now.clones who) station
             self.now.front }
-        ensures short { length result.now ≤ self.now.net.limit }
+        ensures length_max { length result.now ≤ self.now.net.limit }
     {
         self.copy(who, station).log()
     }
 
     /// The number of entries in the log of a clone at a station, up to the front. It allocates nothing.
     pub fn log_len(&self, who: u32, station: u32) -> u64
-        requires there { who < length self.now.clones }
+        requires in_range { who < length self.now.clones }
         requires is_station { HasStation self.now.net station }
         ensures value { result ≡ length (log_at (simulation self.now.net) (clone_at self.now.clones who) station
             self.now.front) }
@@ -115,7 +115,7 @@ impl World {
 
     /// The entry at place i, from 0, of the log of a clone at a station, up to the front. It allocates nothing.
     pub fn entry(&self, who: u32, station: u32, i: u64) -> Entry
-        requires there { who < length self.now.clones }
+        requires in_range { who < length self.now.clones }
         requires is_station { HasStation self.now.net station }
         requires within { i < length (log_at (simulation self.now.net) (clone_at self.now.clones who) station
             self.now.front) }
@@ -128,7 +128,7 @@ impl World {
     /// The first clone that shares a copy with the clone `who` at a station; it may be `who`. It is the first with the
     /// same log there. It allocates nothing.
     pub fn first_with(&self, who: u32, station: u32) -> u32
-        requires there { who < length self.now.clones }
+        requires in_range { who < length self.now.clones }
         requires is_station { HasStation self.now.net station }
         ensures within { result ≤ who }
         ensures same { log_at (simulation self.now.net) (clone_at self.now.clones result) station self.now.front
@@ -149,7 +149,7 @@ impl World {
     ///
     /// Out of memory.
     pub fn trace(&self, alloc: Global, who: u32) -> Result<Vec<Entry>, NoMemory>
-        requires there { who < length self.now.clones }
+        requires in_range { who < length self.now.clones }
         ensures value { IfOk result (λ es.
             es.items ≡ (run_of (simulation self.now.net) (clone_at self.now.clones who) self.now.front).at.trace) }
     {

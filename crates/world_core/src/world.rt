@@ -84,7 +84,7 @@ fn open_all(alloc: Global, model: &Model) -> Result<Vec<TimedProc>, NoMemory>
 
 /// The fault of a window whose first station over the limit is at this place, from 0, with this first clone there.
 pub fn beyond_limit(model: &Model, place: u32, who: u32) -> WorldFault
-    requires few { place < MAX_STATIONS }
+    requires at_most { place < MAX_STATIONS }
     ensures value { result ≡ EventLimit (place + 1) who model.now.limit }
 {
     WorldFault::EventLimit {
@@ -137,9 +137,9 @@ impl World {
     pub fn lists(&self) -> &Lists
         ensures clones { result.now.clones ≡ self.now.clones }
         // what is proved of the clones of a world
-        ensures few { length self.now.clones ≤ MAX_CLONES }
+        ensures at_most { length self.now.clones ≤ MAX_CLONES }
         ensures in_net { AreInNet self.now.net self.now.clones }
-        ensures short { NoneBeyond self.now.net self.now.clones self.now.front }
+        ensures length_max { NoneBeyond self.now.net self.now.clones self.now.front }
     {
         self.lists.lists()
     }
@@ -164,7 +164,7 @@ impl World {
         ensures steps { IfOk result (λ w. steps.new + total_handled self.net self.clones self.front
             ≡ steps.old + total_handled self.net self.clones bound) }
         // no log is beyond the limit, or the fault names the first that is
-        ensures short { IfOk result (λ w. NoneBeyond self.net self.clones bound) }
+        ensures length_max { IfOk result (λ w. NoneBeyond self.net self.clones bound) }
         ensures fault { IfErr result (λ e. IsFault self.net self.clones self.front bound steps.old steps.new e) }
     {
         let World {
@@ -214,7 +214,7 @@ impl World {
         ensures value { IfOk result (λ w. w ≡ record self { front = bound }) }
         ensures steps { IfOk result (λ w. steps.new + total_handled self.net self.clones self.front
             ≡ steps.old + total_handled self.net self.clones bound) }
-        ensures short { IfOk result (λ w. NoneBeyond self.net self.clones bound) }
+        ensures length_max { IfOk result (λ w. NoneBeyond self.net self.clones bound) }
         ensures fault { IfErr result (λ e. IsFault self.net self.clones self.front bound steps.old steps.new e) }
     {
         let World {
@@ -272,7 +272,7 @@ impl World {
         ensures steps { IfOk result (λ w. steps.new + total_handled self.net self.clones self.front
             ≡ steps.old + total_handled self.net self.clones bound) }
         // no log is beyond the limit, or the fault names the first that is
-        ensures short { IfOk result (λ w. NoneBeyond self.net self.clones bound) }
+        ensures length_max { IfOk result (λ w. NoneBeyond self.net self.clones bound) }
         ensures fault { IfErr result (λ e. IsFault self.net self.clones self.front bound steps.old steps.new e) }
     {
         let large = self.wants_crew() || crew.gate().shares_small_work();

@@ -79,7 +79,7 @@ fn desk_goes_on<L: Ledger>(
 fn every_kind<L: Ledger>(alloc: Global, blank: Blank) -> bool
     requires name { blank.name ≡ L.name }
     requires parts { blank.parts ≡ L.parts }
-    requires some { 0 < L.parts }
+    requires nonempty { 0 < L.parts }
 {
     let mut steps = Steps::<L>::new(blank);
     let Ok(model) = read_model(alloc, FIVE_KINDS.as_bytes()) else {

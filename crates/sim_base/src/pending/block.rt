@@ -121,7 +121,7 @@ impl<S: Marks> Block<S> {
 
     /// Removes the first message and returns it without its marks.
     pub(crate) fn take_message(&mut self) -> Msg
-        requires some { 0 < length self.old }
+        requires nonempty { 0 < length self.old }
         ensures value { (k : S) × (slice_get self.old 0 ≡ Some (result, k)) }
         ensures rest { self.new ≡ drop 1 self.old }
     {
@@ -286,7 +286,7 @@ fn is_same(msg: &Msg, other: &Msg) -> bool
 
 /// The next place to compare, from `low` on and before `high`. New messages are usually late.
 fn next_look(low: usize, high: usize) -> usize
-    requires some { low < high }
+    requires nonempty { low < high }
     ensures from { low ≤ result }
     ensures below { result < high }
 {

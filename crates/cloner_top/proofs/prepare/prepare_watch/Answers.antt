@@ -12,8 +12,8 @@ returns-in-Err-plan_study-clause-err g c =
     no_watch_decisions _ _ _ _ c.requires.watch c.requires.model _ c.in-Ok.ensures.ok _
     c.in-Err-plan_study.ensures.err
 
-pub returns-in-Err-fetch_text-clause-few : goal.returns-in-Err-fetch_text-clause-few
-returns-in-Err-fetch_text-clause-few g c =
+pub returns-in-Err-fetch_text-clause-at_most : goal.returns-in-Err-fetch_text-clause-at_most
+returns-in-Err-fetch_text-clause-at_most g c =
     few_of_two _ _ _ _ _ c.fetch_script.ensures.counted c.fetch_text.ensures.counted
 
 pub returns-in-Err-read_watches_text-clause-err : goal.returns-in-Err-read_watches_text-clause-err
@@ -22,8 +22,8 @@ returns-in-Err-read_watches_text-clause-err g c =
     (rw c.fetch_script.ensures.same at c.in-Ok-fetch_text.ensures.ok) _
     (rw c.as_slice.ensures.value at c.in-Err-read_watches_text.ensures.err)
 
-pub returns-in-Err-read_watches_text-clause-few : goal.returns-in-Err-read_watches_text-clause-few
-returns-in-Err-read_watches_text-clause-few g c =
+pub returns-in-Err-read_watches_text-clause-at_most : goal.returns-in-Err-read_watches_text-clause-at_most
+returns-in-Err-read_watches_text-clause-at_most g c =
     few_of_two _ _ _ _ _ c.fetch_script.ensures.counted c.fetch_text.ensures.counted
 
 pub returns-in-Ok-check_watches-clause-ok : goal.returns-in-Ok-check_watches-clause-ok
@@ -37,8 +37,8 @@ pub returns-in-Ok-check_watches-clause-fetched : goal.returns-in-Ok-check_watche
 returns-in-Ok-check_watches-clause-fetched g c =
     counted_both _ _ _ _ _ c.fetch_script.ensures.counted c.fetch_text.ensures.counted
 
-pub returns-in-Ok-check_watches-clause-few : goal.returns-in-Ok-check_watches-clause-few
-returns-in-Ok-check_watches-clause-few g c =
+pub returns-in-Ok-check_watches-clause-at_most : goal.returns-in-Ok-check_watches-clause-at_most
+returns-in-Ok-check_watches-clause-at_most g c =
     few_of_two _ _ _ _ _ c.fetch_script.ensures.counted c.fetch_text.ensures.counted
 
 pub returns-clause-err : goal.returns-clause-err
@@ -48,5 +48,5 @@ returns-clause-err g c =
     (rw c.as_slice.ensures.value at c.in-Ok-read_watches_text.ensures.ok) _ c.in-Ok-plan_study.ensures.model _
     c.in-Err-check_watches.ensures.err
 
-pub returns-clause-few : goal.returns-clause-few
-returns-clause-few g c = few_of_two _ _ _ _ _ c.fetch_script.ensures.counted c.fetch_text.ensures.counted
+pub returns-clause-at_most : goal.returns-clause-at_most
+returns-clause-at_most g c = few_of_two _ _ _ _ _ c.fetch_script.ensures.counted c.fetch_text.ensures.counted

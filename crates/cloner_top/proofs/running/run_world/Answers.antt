@@ -17,7 +17,7 @@ returns-in-Ok-clause-may_report g c =
 pub returns-in-Ok-clause-within : goal.returns-in-Ok-clause-within
 returns-in-Ok-clause-within g c = c.in-Ok.ensures.ran.within
 
-pub returns-in-Ok-clause-short : goal.returns-in-Ok-clause-short
-returns-in-Ok-clause-short g c =
+pub returns-in-Ok-clause-length_max : goal.returns-in-Ok-clause-length_max
+returns-in-Ok-clause-length_max g c =
     let short = short_planned _ _ c.lists-lists.ensures.planned in
     subst AreShort (c.lists-lists.ensures.value ∙ sym c.in-Ok.ensures.ran.clones_are) short

@@ -9,4 +9,4 @@ pub another-seat-requires : goal.another-seat-requires
 another-seat-requires g c =
     let e : (worker_view c.args.deque.now).parts ≡ MAX_PARTS - c.args.out =
     ap (λ (u : SeatView _). u.parts) c.requires.dealt.dealt in
-    TasksOnce-forks _ _ (omega (arith, e, c.requires.few))
+    TasksOnce-forks _ _ (omega (arith, e, c.requires.at_most))

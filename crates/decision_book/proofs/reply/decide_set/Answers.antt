@@ -12,6 +12,6 @@ returns-in-Ok-add c =
         planned = rw c.in-Ok-add.ensures.ok (planned_added c.args.model.now c.args.lists.now.clones c.args.clone _
             c.requires.lists.planned (omega (arith, c.if-list.false, ap length c.list.ensures.value))
             (plan_taken c.args.model.now c.args.at c.in-Some.s c.args.station.now c.args.change.now _
-            (sym c.in-Some.ensures.value) c.in-Some.ensures.there (sym c.in-Ok.ensures) early));
+            (sym c.in-Some.ensures.value) c.in-Some.ensures.in_range (sym c.in-Ok.ensures) early));
       };
     }

@@ -14,7 +14,7 @@ returns c =
     record {
       two = subst (λ (v : WorldView). AreTwoAt v.net v.front racks) (sym c.two_racks.ensures.same) two;
       opening = two_open w.net w.front racks two;
-      few = omega (arith, ap length items);
+      at_most = omega (arith, ap length items);
       gate = first_has w.net w.front racks two;
       desk = second_has w.net w.front racks two;
     }

@@ -7,8 +7,8 @@ use Rattle.engine_tests.proofs.shelf_looks.publish_two.Goals as goal
 
 -- ---- the first station's rack
 
-pub publish-requires-clause-there : goal.publish-requires-clause-there
-publish-requires-clause-there g c =
+pub publish-requires-clause-has_rack : goal.publish-requires-clause-has_rack
+publish-requires-clause-has_rack g c =
     let w = c.args.world.now in
     let racks = c.args.stocker.now.published in
     subst (λ s. HasRack s racks) (sym c.in_ok-gate.ensures.gate.station)
@@ -26,8 +26,8 @@ publish-requires-clause-may g c =
 
 -- ---- the second station's rack
 
-pub publish-requires-2-clause-there : goal.publish-requires-2-clause-there
-publish-requires-2-clause-there g c =
+pub publish-requires-2-clause-has_rack : goal.publish-requires-2-clause-has_rack
+publish-requires-2-clause-has_rack g c =
     let w = c.args.world.now in
     let racks = c.args.stocker.now.published in
     let gate = c.in_ok-gate.gate in

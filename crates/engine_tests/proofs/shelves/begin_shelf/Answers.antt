@@ -11,13 +11,13 @@ returns-clause-seen g c =
     subst (λ (l : List RackView). AreSeenUpTo w.net w.front l) (sym c.in_ok-stocker.ensures.published)
     c.in_ok-world.ensures.seen
 
-pub returns-clause-there : goal.returns-clause-there
-returns-clause-there g c =
-    subst (λ (l : List RackView). HasRack 1 l) (sym c.in_ok-stocker.ensures.published) c.in_ok-world.ensures.there
+pub returns-clause-has_rack : goal.returns-clause-has_rack
+returns-clause-has_rack g c =
+    subst (λ (l : List RackView). HasRack 1 l) (sym c.in_ok-stocker.ensures.published) c.in_ok-world.ensures.has_rack
 
 pub returns-clause-seats : goal.returns-clause-seats
 returns-clause-seats g c =
     let racks = c.in_ok-world.racks.items in
     All-weaker (λ (l : List RackView). l ≡ racks) (λ (l : List RackView). HasRack 1 l)
-    (λ l e. subst (λ (k : List RackView). HasRack 1 k) (sym e) c.in_ok-world.ensures.there)
+    (λ l e. subst (λ (k : List RackView). HasRack 1 k) (sym e) c.in_ok-world.ensures.has_rack)
     c.in_ok-stocker.seats.items c.in_ok-stocker.ensures.seats

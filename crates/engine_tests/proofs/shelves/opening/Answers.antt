@@ -18,10 +18,10 @@ returns c =
     let items = c.in_ok-racks.ensures.items in
     record {
       opening = subst MayOpen (sym items) (one_opens w.net w.front c.in_ok-gate.gate gate);
-      few = omega (arith, ap length items);
+      at_most = omega (arith, ap length items);
       seen = subst (λ (v : WorldView). AreSeenUpTo v.net v.front c.in_ok-racks.racks.items) (sym same)
           (subst (λ (l : List RackView). AreSeenUpTo w.net w.front l) (sym items)
           (one_seen w.net w.front c.in_ok-gate.gate gate));
-      there = subst (λ (l : List RackView). HasRack 1 l) (sym items)
+      has_rack = subst (λ (l : List RackView). HasRack 1 l) (sym items)
           (one_has w.net w.front c.in_ok-gate.gate gate);
     }

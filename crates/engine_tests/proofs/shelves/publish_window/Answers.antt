@@ -21,11 +21,11 @@ returns-clause-seen g c =
     (subst (λ (n : Net). AreSeenUpTo n w.front after) (sym c.in-Some.ensures.net.0)
     (subst (λ (f : ℕ). AreSeenUpTo c.args.world.net f after) (sym later.1) seen))
 
-pub returns-clause-there : goal.returns-clause-there
-returns-clause-there g c =
+pub returns-clause-has_rack : goal.returns-clause-has_rack
+returns-clause-has_rack g c =
     subst (λ (l : List RackView). HasRack 1 l) (sym c.in_ok-publish.ensures.published)
-    (HasRack-push 1 c.args.stocker.now.published c.in-Some.rack c.requires.there)
+    (HasRack-push 1 c.args.stocker.now.published c.in-Some.rack c.requires.has_rack)
 
-pub publish-requires-clause-there : goal.publish-requires-clause-there
-publish-requires-clause-there g c =
-    subst (λ s. HasRack s c.args.stocker.now.published) (sym c.in-Some.ensures.gate) c.requires.there
+pub publish-requires-clause-has_rack : goal.publish-requires-clause-has_rack
+publish-requires-clause-has_rack g c =
+    subst (λ s. HasRack s c.args.stocker.now.published) (sym c.in-Some.ensures.gate) c.requires.has_rack

@@ -4,6 +4,6 @@ use Rattle.phys_proc.specs.Racks.{RackView}
 use Rattle.shelf.specs.Racks.{HasRack}
 use Rattle.engine_tests.proofs.shelves.take_seat.Goals as goal
 
-pub returns-clause-there : goal.returns-clause-there
-returns-clause-there g c =
-    (All-pop (λ (l : List RackView). HasRack 1 l) _ _ c.pop.result c.pop.ensures.items c.requires.there).0
+pub returns-clause-has_rack : goal.returns-clause-has_rack
+returns-clause-has_rack g c =
+    (All-pop (λ (l : List RackView). HasRack 1 l) _ _ c.pop.result c.pop.ensures.items c.requires.has_rack).0

@@ -8,5 +8,5 @@ pub returns-clause-looked : goal.returns-clause-looked
 returns-clause-looked g c acts h =
     let e = c.see-looked.ensures in
     looked_next c.args.model.now acts c.args.who c.args.station c.args.analyst.now _ c.args.seat.now _
-    c.see-looked.result h e.begins e.there e.read e.later e.number e.who e.station
+    c.see-looked.result h e.begins e.has_rack e.read e.later e.number e.who e.station
     (ap (λ (r : ReservedView Looked). r.items) c.in-Ok.ensures.ok) refl

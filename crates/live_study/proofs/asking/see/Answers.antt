@@ -6,13 +6,13 @@ use Rattle.live_study.proofs.Doing.{none_later, racks_later, seen_later}
 use Rattle.live_study.proofs.asking.see.Goals as goal
 use Rattle.live_study.proofs.asking.see.Goals.{in-Some, in-None}
 
-pub returns-clause-there : goal.returns-clause-there
-returns-clause-there g c =
+pub returns-clause-has_rack : goal.returns-clause-has_rack
+returns-clause-has_rack g c =
     let net = c.args.model.now in
     elim c.match-find.branch [
       | in-Some w ↦ subst (HasRacks net) (sym w.seat-is)
-          (racks_later net c.args.seat.now w.look.new.self w.look.ensures.begins c.requires.there)
-      | in-None w ↦ subst (HasRacks net) (sym w.seat-is) c.requires.there
+          (racks_later net c.args.seat.now w.look.new.self w.look.ensures.begins c.requires.has_rack)
+      | in-None w ↦ subst (HasRacks net) (sym w.seat-is) c.requires.has_rack
     ]
 
 pub returns-clause-later : goal.returns-clause-later
@@ -35,8 +35,8 @@ pub look-requires : goal.look-requires
 look-requires g c =
     let s = c.in-Some.s in
     record {
-      there = c.requires.there s (record {
+      has_rack = c.requires.has_rack s (record {
         low = station_named-low c.args.station c.args.model.now s (sym c.find.ensures.value ∙ c.in-Some.is);
-        high = c.in-Some.ensures.there;
+        high = c.in-Some.ensures.in_range;
       });
     }

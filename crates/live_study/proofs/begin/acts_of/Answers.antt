@@ -18,8 +18,8 @@ returns-clause-value c =
     c.loop-i.invariant ∙ ap (acts_by c.args.a)
     (take_all c.loop-i.i c.args.script.now.items (omega (arith, c.loop-i-test.false, c.len-i-end.ensures.value)))
 
-pub returns-clause-few : goal.returns-clause-few
-returns-clause-few c =
+pub returns-clause-at_most : goal.returns-clause-at_most
+returns-clause-at_most c =
     let items = c.args.script.now.items in
     let whole : take c.loop-i.i items ≡ items =
     take_all c.loop-i.i items (omega (arith, c.loop-i-test.false, c.len-i-end.ensures.value)) in

@@ -9,7 +9,7 @@ turns-init g c = record {
   counted = refl;
   shown = c.requires.may_drive.shown;
   readers = refl;
-  tells = λ at. let ahead = c.requires.may_drive.ahead in absurd (omega (arith, at, ahead));
+  tells = λ at. let ahead = c.requires.may_drive.below_horizon in absurd (omega (arith, at, ahead));
 }
 
 pub returns-clause-tells : goal.returns-clause-tells

@@ -31,7 +31,7 @@ all_leasts w all k enough are =
 
 pub least_of-requires : goal.least_of-requires
 least_of-requires c = record {
-  there = omega (arith, c.loop-c-test.true, c.len-many.ensures.value, ap length c.lists.ensures.clones);
+  in_range = omega (arith, c.loop-c-test.true, c.len-many.ensures.value, ap length c.lists.ensures.clones);
 }
 
 pub loop-c-preserved : goal.loop-c-preserved

@@ -81,6 +81,6 @@ pub returns-clause-tells : goal.returns-clause-tells
 returns-clause-tells g c at =
     let i = c.loop-s.invariant in
     let horizon = ap (λ (n : Net). n.horizon) c.model.ensures.value in
-    let some = c.len-many.ensures.valid.some in
+    let some = c.len-many.ensures.valid.nonempty in
     i.tells (grind (arith, nat_tests, at, c.front.ensures.value, c.horizon.ensures.value, horizon))
     (omega (arith, c.loop-s-test.false, c.len-many.ensures.value, some))

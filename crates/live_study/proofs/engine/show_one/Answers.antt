@@ -2,8 +2,8 @@ use Rattle.std.proofs.Common.{arith, length}
 use Rattle.live_study.proofs.Publishing.{may_show, shows_if, tells_if}
 use Rattle.live_study.proofs.engine.show_one.Goals as goal
 
-pub publish-requires-clause-there : goal.publish-requires-clause-there
-publish-requires-clause-there g c =
+pub publish-requires-clause-has_rack : goal.publish-requires-clause-has_rack
+publish-requires-clause-has_rack g c =
     let may = c.requires.may_show in
     let within = c.front-within.ensures in
     (may_show c.args.helm.now c.args.world.now c.args.station c.in_ok-rack.rack _ c.requires.is_station

@@ -13,12 +13,13 @@ take-requires g c =
           c.as_slice-2.ensures.value;
     }
 
-pub returns-clause-ahead : goal.returns-clause-ahead
-returns-clause-ahead g c =
+pub returns-clause-raised : goal.returns-clause-raised
+returns-clause-raised g c =
     let t = c.in_ok-turn.ensures.turn in
     goes_ahead _ c.args.world c.in_ok-turn.turn _ t.0 _ c.in_ok-world.world c.requires.may_turn.in_step t.1
     c.as_slice-2.ensures.value c.in_ok-world.ensures.value
-    (subst (λ (n : Net). IsNet n) c.model.ensures.value c.lookahead-valid.ensures.valid) c.lists-short.ensures.short
+    (subst (λ (n : Net). IsNet n) c.model.ensures.value c.lookahead-valid.ensures.valid)
+    c.lists-short.ensures.length_max
 
 pub returns-clause-raises : goal.returns-clause-raises
 returns-clause-raises g c =

@@ -42,7 +42,7 @@ returns-clause-asked g c =
     c.close-book.ensures.closed
     (subst (λ (b : BookView). IsRight b.net b.events) c.book.ensures.value c.front-legal.ensures.right)
     c.book.ensures.fronts s.acted.len (λ i d less. (s.acted.each i d less).done)
-    (λ i d less. (s.acted.each i d less).same) c.requires.few
+    (λ i d less. (s.acted.each i d less).same) c.requires.at_most
 
 -- ---- close_seats
 

@@ -18,9 +18,9 @@ pub take_seats-requires-clause-opening : goal.take_seats-requires-clause-opening
 take_seats-requires-clause-opening g c =
     may_begin c.args.model.now (length c.args.script.now.analysts) c.args.prepared c.requires.prepared
 
-pub take_seats-requires-clause-few : goal.take_seats-requires-clause-few
-take_seats-requires-clause-few g c =
-    omega (arith, c.requires.prepared.racks.many_is, c.len-stations.ensures.valid.few)
+pub take_seats-requires-clause-at_most : goal.take_seats-requires-clause-at_most
+take_seats-requires-clause-at_most g c =
+    omega (arith, c.requires.prepared.racks.many_is, c.len-stations.ensures.valid.at_most)
 
 pub take_seats-requires-clause-many : goal.take_seats-requires-clause-many
 take_seats-requires-clause-many g c =
@@ -37,7 +37,7 @@ run_live-requires-clause-may_drive g c κs within =
       in_step = begins_in_step (desk_id p.desk) c.args.model.now (length c.args.script.now.analysts) p.helm
           p.world of.helm of.world;
       shown = shown_first c.args.model.now (length c.args.script.now.analysts) p _ of c.in_ok-stocker.ensures.published;
-      ahead = subst (λ (w : WorldView). w.front < w.net.horizon) (sym of.world)
+      below_horizon = subst (λ (w : WorldView). w.front < w.net.horizon) (sym of.world)
           (let valid = c.len-stations.ensures.valid.horizon in omega (arith, valid));
     }
 
@@ -56,8 +56,8 @@ run_live-requires-clause-ready g c κs within k d less =
     c.requires.prepared c.in_ok-stocker.ensures.passes
     c.in_ok-stocker.ensures.fresh k d less
 
-pub run_live-requires-clause-few : goal.run_live-requires-clause-few
-run_live-requires-clause-few g c κs within =
+pub run_live-requires-clause-at_most : goal.run_live-requires-clause-at_most
+run_live-requires-clause-at_most g c κs within =
     little_todo c.args.model.now c.args.script.now c.args.prepared c.in_ok-stocker.seated.items c.requires.prepared
     c.analysts-valid.ensures.valid.few_items c.in_ok-stocker.ensures.todo
 

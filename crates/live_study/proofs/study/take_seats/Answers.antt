@@ -2,8 +2,8 @@ use Rattle.std.proofs.Common.{◌∙◌, arith}
 use Rattle.std.proofs.lemmas.Option.{slice_get_within}
 use Rattle.live_study.proofs.study.take_seats.Goals as goal
 
-pub begin-requires-clause-some : goal.begin-requires-clause-some
-begin-requires-clause-some g c =
+pub begin-requires-clause-at_least : goal.begin-requires-clause-at_least
+begin-requires-clause-at_least g c =
     let valid = c.analysts.ensures.valid in
     omega (arith, slice_get_within c.args.script.now.analysts 0 _ valid.first, c.analysts.ensures.value)
 
@@ -12,7 +12,7 @@ begin-requires-clause-most g c = omega (arith, c.analysts.ensures.valid.few_anal
 
 pub analysts_of-requires : goal.analysts_of-requires
 analysts_of-requires g c = record {
-  few = omega (arith, c.requires.many, c.analysts.ensures.valid.few_analysts);
+  at_most = omega (arith, c.requires.many, c.analysts.ensures.valid.few_analysts);
   seats = omega (arith, c.requires.many, c.in_ok-stocker.ensures.many, c.analysts.ensures.value);
 }
 

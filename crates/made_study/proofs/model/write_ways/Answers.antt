@@ -17,6 +17,6 @@ returns c =
     let e : c.further.i ≡ c.args.wards + 1 = omega arith in
     let further = flat_map (λ i. codes ", " ++ way_text i) (range_with_len 2 (c.args.wards + 1 - 2)) in
     record {
-      value = rw (join_by-range way_text (codes ", ") c.args.wards c.requires.some, c.further.invariant, e)
+      value = rw (join_by-range way_text (codes ", ") c.args.wards c.requires.at_least, c.further.invariant, e)
           (append_assoc (string_bytes c.args.text.now) (way_text 1) further);
     }

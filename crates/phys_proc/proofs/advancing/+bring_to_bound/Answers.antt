@@ -37,9 +37,13 @@ handle_together-requires g t c =
     c.args.bound c.args.copy c.args.stage.now.sent.items c.args.steps.now c.requires.may_advance.fits
     c.args.stage.now.takers (rw c.in-Parts.is at c.requires.stop) c.in_ok-some-in-Parts.some
     c.in_ok-some-in-Parts.others c.in_ok-some-in-Parts.ensures.first c.in_ok-some-in-Parts.ensures.second in
-    let few = c.requires.may_advance.few in
+    let few = c.requires.may_advance.at_most in
     record {
-      may_advance = record { fits = fits; early = c.requires.may_advance.early; few = omega (arith, both, few) };
+      may_advance = record {
+        fits = fits;
+        time_max = c.requires.may_advance.time_max;
+        at_most = omega (arith, both, few);
+      };
     }
 
 pub bring_to_bound-requires : goal.bring_to_bound-requires
@@ -58,14 +62,14 @@ bring_to_bound-requires g t c =
     c.in_ok-some-in-Parts.others c.in_ok-some-in-Parts.ensures.first c.in_ok-some-in-Parts.ensures.second in
     let left = left_few net c.args.station ends c.args.bound a a1 c.args.stage.now.sent.items
     c.handle_together.new.stage.sent.items c.args.steps.now c.handle_together.new.steps o in
-    let few0 = c.requires.may_advance.few in
+    let few0 = c.requires.may_advance.at_most in
     let counted = o.counted in
     let handled = first.handled in
     let few : c.handle_together.new.stage.handled + may_handle net.limit a1 ≤ MAX_COUNTS =
     omega (arith, both, left, few0, counted, handled) in
     λ κs within. (
       subst (λ n. size a1.set < n) c.decreases fall,
-      (within, (record { fits = o.fits; early = c.requires.may_advance.early; few = few }, first.stop)),
+      (within, (record { fits = o.fits; time_max = c.requires.may_advance.time_max; at_most = few }, first.stop)),
     )
 
 -- ---- Parts: the others
@@ -85,18 +89,18 @@ handle_together-requires-in-Parts g t c =
     c.in_ok-some-in-Parts.ensures.second in
     let left = left_few net c.args.station ends c.args.bound c.in_ok-some-in-Parts.some c.handle_together.new.copy
     c.args.stage.now.sent.items c.handle_together.new.stage.sent.items c.args.steps.now c.handle_together.new.steps o in
-    let few = c.requires.may_advance.few in
+    let few = c.requires.may_advance.at_most in
     let counted = o.counted in
     let handled = first.handled in
     let come = c.in_ok-bring_to_bound-in-Parts.ensures.comes in
-    let gained = come.few in
+    let gained = come.at_most in
     let steps = come.steps in
     let handled1 = c.in_ok-bring_to_bound-in-Parts.ensures.handled in
     record {
       may_advance = record {
         fits = fits;
-        early = c.requires.may_advance.early;
-        few = omega (arith, both, left, few, counted, handled, gained, steps, handled1);
+        time_max = c.requires.may_advance.time_max;
+        at_most = omega (arith, both, left, few, counted, handled, gained, steps, handled1);
       };
     }
 
@@ -120,11 +124,11 @@ bring_to_bound-requires-in-Parts g t c =
     c.handle_together.new.steps first.onward in
     let left1 = left_few net c.args.station ends c.args.bound b b1 c.bring_to_bound.new.stage.sent.items
     c.handle_together-in-Parts.new.stage.sent.items c.bring_to_bound.new.steps c.handle_together-in-Parts.new.steps o in
-    let few0 = c.requires.may_advance.few in
+    let few0 = c.requires.may_advance.at_most in
     let counted = first.onward.counted in
     let handled = first.handled in
     let come = c.in_ok-bring_to_bound-in-Parts.ensures.comes in
-    let gained = come.few in
+    let gained = come.at_most in
     let steps = come.steps in
     let handled1 = c.in_ok-bring_to_bound-in-Parts.ensures.handled in
     let counted2 = o.counted in
@@ -133,7 +137,7 @@ bring_to_bound-requires-in-Parts g t c =
     omega (arith, both, left, left1, few0, counted, handled, gained, steps, handled1, counted2, handled2) in
     λ κs within. (
       subst (λ n. size b1.set < n) c.decreases fall,
-      (within, (record { fits = o.fits; early = c.requires.may_advance.early; few = few }, second.stop)),
+      (within, (record { fits = o.fits; time_max = c.requires.may_advance.time_max; at_most = few }, second.stop)),
     )
 
 -- ---- Parts: both

@@ -19,7 +19,7 @@ returns-then-not-is_empty-clause-some c =
     let f = first_marked _ c.in-Some.time c.in-Some-least_marks.marks c.in-Some.ensures.value
     c.in-Some-least_marks.ensures.value in (
       f.0,
-      next_is_due c.args.horizon c.args.ends.now c.args.bound c.requires.early c.args.copy.now _ f.0
+      next_is_due c.args.horizon c.args.ends.now c.args.bound c.requires.time_max c.args.copy.now _ f.0
           c.in-Some-least_marks.marks c.minus-takers.result c.meet.result c.ended_clones.result c.loop-time.invariant
           c.meet.ensures.members c.minus-takers.ensures.members
           (λ x. c.ended_clones.ensures.ended x ∙ ap (λ t. has_ended t c.args.ends.now x) (sym f.2))
@@ -29,7 +29,7 @@ returns-then-not-is_empty-clause-some c =
 
 pub take_message-passed-requires : goal.take_message-passed-requires
 take_message-passed-requires c =
-    record { some = some_waits _ c.in-Some.time c.in-Some.ensures.value }
+    record { nonempty = some_waits _ c.in-Some.time c.in-Some.ensures.value }
 
 pub loop-time-init : goal.loop-time-init
 loop-time-init c =
@@ -43,7 +43,7 @@ loop-time-preserved c =
     c.in-Some-least_marks.ensures.value in
     same_more (ends_in c.args.horizon c.args.ends.now) c.args.copy.now _ _ f.0 c.in-Some-least_marks.marks
     c.loop-time.invariant (first_is _ _ _ _ f.1 c.take_message-passed.ensures.value.1) refl refl refl
-    (none_takes c.args.horizon c.args.ends.now c.args.bound c.requires.early c.args.copy.now _ f.0
+    (none_takes c.args.horizon c.args.ends.now c.args.bound c.requires.time_max c.args.copy.now _ f.0
     c.in-Some-least_marks.marks c.minus-takers.result c.meet.result c.ended_clones.result c.loop-time.invariant
     c.meet.ensures.members c.minus-takers.ensures.members
     (λ x. c.ended_clones.ensures.ended x ∙ ap (λ t. has_ended t c.args.ends.now x) (sym f.2))

@@ -91,11 +91,11 @@ handle_together-requires g c = record {
         (ends_in c.args.model.now.horizon c.args.ends.now) c.args.bound c.loop-i.invariant.far
         (omega (arith, c.loop-i-test.true, c.len.ensures)) c.index_mut.result.now c.index_mut.ensures.value
         c.requires.may_step.fits;
-    early = c.requires.may_step.early;
-    few = stepped_to-few c.args.model.now c.requires.may_step.valid c.args.station
+    time_max = c.requires.may_step.time_max;
+    at_most = stepped_to-few c.args.model.now c.requires.may_step.valid c.args.station
         (ends_in c.args.model.now.horizon c.args.ends.now) c.args.bound c.loop-i.invariant.far
         (omega (arith, c.loop-i-test.true, c.len.ensures)) c.index_mut.result.now c.index_mut.ensures.value
-        c.requires.may_step.few c.loop-i.stage.handled c.loop-i.invariant.handled;
+        c.requires.may_step.at_most c.loop-i.stage.handled c.loop-i.invariant.handled;
   };
 }
 
@@ -141,7 +141,7 @@ bring_to_bound-requires g c =
     let there : l.i < length cs = omega (arith, c.loop-i-test.true, c.len.ensures) in
     let same : z ≡ y = set_there cs l.i z y there c.remove-copy.ensures.value in
     let few = stepped_to-few net c.requires.may_step.valid c.args.station ends c.args.bound l.invariant.far there x
-    c.index_mut.ensures.value c.requires.may_step.few l.stage.handled l.invariant.handled in
+    c.index_mut.ensures.value c.requires.may_step.at_most l.stage.handled l.invariant.handled in
     let left = left_few net c.args.station ends c.args.bound x y l.stage.sent.items
     c.handle_together.new.stage.sent.items l.steps c.handle_together.new.steps one.onward in
     let counted = one.onward.counted in
@@ -150,8 +150,8 @@ bring_to_bound-requires g c =
     record {
       may_advance = record {
         fits = subst (IsCopy net c.args.station) (sym same) one.onward.fits;
-        early = c.requires.may_step.early;
-        few = omega (arith, few, left, counted, handled, is);
+        time_max = c.requires.may_step.time_max;
+        at_most = omega (arith, few, left, counted, handled, is);
       };
       stop = subst (λ (u : StationCopy). IsStop net.limit ends c.args.bound u c.handle_together.new.stage.takers
           c.in_ok-stop.stop) (sym same) one.stop;

@@ -17,7 +17,7 @@ returns c = record {
       little (min front (end_of (simulation net) clone)) q.queue
       (all_weaker (λ x. x.time < min front (end_of (simulation net) clone))
       (λ x. x.time ≤ min front (end_of (simulation net) clone)) (moments (log_at net clone s front))
-      (λ x l. omega (arith, l)) q.early);
+      (λ x l. omega (arith, l)) q.time_max);
   lindley = λ net valid clone s front room lo hi by_class there is unchanged.
       let q = logs-are_queues net valid clone s front 1 room lo hi by_class there is in lindley q.queue unchanged;
   order = λ net valid. runs-serve_in_order net valid;

@@ -28,7 +28,7 @@ stats_until-requires-clause-until_max c = until-le c.args.model.now c.station.en
 pub stats_until-requires-clause-entries_max : goal.stats_until-requires-clause-entries_max
 stats_until-requires-clause-entries_max c =
     let entries = c.requires.entries_max in
-    let limit = c.station.ensures.valid.short in
+    let limit = c.station.ensures.valid.limit_max in
     omega (arith, entries, limit)
 
 pub returns-clause-value : goal.returns-clause-value

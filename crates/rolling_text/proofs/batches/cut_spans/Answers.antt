@@ -13,7 +13,7 @@ cut-preserved c =
           (sym c.in_ok-push.ensures.items)
           (AreJoined-push c.args.span.c c.args.span.from c.cut.spans.items c.cut.from _ h.joined refl refl order);
       within = next.within;
-      few = omega (arith, c.if-len-most.true, c.len.ensures, c.in_ok-push.ensures.len);
+      at_most = omega (arith, c.if-len-most.true, c.len.ensures, c.in_ok-push.ensures.len);
       later = omega (arith, h.later, next.later);
       further = λ some. omega (arith, h.later, next.later);
     }

@@ -6,7 +6,7 @@ abbrev pub invariant-cut : goal.invariant-cut
 invariant-cut l = record {
   joined : AreJoined l.span.c l.span.from l.spans.items l.from;
   within : l.from ≤ l.span.until;
-  few : length l.spans.items ≤ l.most;
+  at_most : length l.spans.items ≤ l.most;
   later : l.span.from ≤ l.from;
   further : 1 ≤ length l.spans.items → l.span.from < l.from;
 }

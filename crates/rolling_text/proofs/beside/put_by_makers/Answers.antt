@@ -36,11 +36,11 @@ start_batch-requires-clause-span g c =
     let h = c.batch.invariant in
     let traces = c.args.traces.now in
     let span : HasSpan traces c.args.span.c c.batch.left.from c.args.span.until =
-    record { there = c.requires.may.has_span.there; order = h.within } in
+    record { in_range = c.requires.may.has_span.in_range; order = h.within } in
     subst (λ (s : TextSpan). HasSpan traces s.c s.from s.until) (sym h.left) span
 
-pub start_batch-requires-clause-some : goal.start_batch-requires-clause-some
-start_batch-requires-clause-some g c =
+pub start_batch-requires-clause-nonempty : goal.start_batch-requires-clause-nonempty
+start_batch-requires-clause-nonempty g c =
     let until = ap (λ (s : TextSpan). s.until) c.batch.invariant.left in omega (arith, c.batch-test.true, until)
 
 -- ---- no batch can be started: the ready part and the rest are put

@@ -8,6 +8,6 @@ use Rattle.rolling_text.proofs.bounds.bound_of.Given as goal
 abbrev pub invariant-loop-s : goal.invariant-loop-s
 invariant-loop-s l = record {
   bound : first_lengths l.world.net (clone_at l.world.clones l.c) 0 l.s ≤ l.bound;
-  few : l.bound ≤ l.s * (MAX_LINE * MAX_LIMIT);
+  at_most : l.bound ≤ l.s * (MAX_LINE * MAX_LIMIT);
   within : l.s ≤ length l.world.net.sites;
 }

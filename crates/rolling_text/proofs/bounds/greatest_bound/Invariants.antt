@@ -8,6 +8,6 @@ use Rattle.rolling_text.proofs.bounds.greatest_bound.Given as goal
 abbrev pub invariant-loop-c : goal.invariant-loop-c
 invariant-loop-c l = record {
   bound : (k : ℕ) → k < l.c → length (body l.traces.net (clone_at l.traces.clones k)) ≤ l.most;
-  short : 1 ≤ l.c → HaveShortLines l.traces.net (trace_of l.traces.net (clone_at l.traces.clones (l.c - 1)));
-  few : l.most ≤ MAX_TEXT;
+  length_max : 1 ≤ l.c → HaveShortLines l.traces.net (trace_of l.traces.net (clone_at l.traces.clones (l.c - 1)));
+  at_most : l.most ≤ MAX_TEXT;
 }

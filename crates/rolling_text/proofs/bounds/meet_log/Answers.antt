@@ -11,13 +11,13 @@ loop-entry-init c = λ h. subst (HaveShortLines c.args.model.now) c.walk_from_ti
 pub loop-entry-preserved : goal.loop-entry-preserved
 loop-entry-preserved c =
     let value = c.line_len-len.ensures.value in
-    let short = c.line_len-len.ensures.short in
+    let short = c.line_len-len.ensures.length_max in
     let here : length (entry_line c.args.model.now c.in-Some.entry) ≤ MAX_LINE = omega (arith, value, short) in
     λ h. c.loop-entry.invariant (subst (HaveShortLines c.args.model.now) (sym c.in-Some.ensures.some)
     (short_more c.args.model.now c.in-Some.entry c.next.new.self here h))
 
 pub returns : goal.returns
 returns c = record {
-  short = c.loop-entry.invariant (subst (HaveShortLines c.args.model.now) (sym c.in_default.ensures.none.0)
+  length_max = c.loop-entry.invariant (subst (HaveShortLines c.args.model.now) (sym c.in_default.ensures.none.0)
       (short_none c.args.model.now));
 }

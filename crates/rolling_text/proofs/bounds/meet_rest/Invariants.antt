@@ -8,7 +8,7 @@ use Rattle.rolling_text.proofs.bounds.meet_rest.Given as goal
 
 abbrev pub invariant-loop-s : goal.invariant-loop-s
 invariant-loop-s l = record {
-  short : HaveShortLines l.world.net (merge_of_rests (simulation l.world.net) sender_of number_of
+  length_max : HaveShortLines l.world.net (merge_of_rests (simulation l.world.net) sender_of number_of
       (clone_at l.world.clones l.c) l.from l.s);
   within : l.s ≤ length l.world.net.sites;
 }

@@ -11,7 +11,7 @@ invariant-loop-s l = record {
   left : l.cursor.left ≡ merge_of_rests (simulation l.world.net) sender_of number_of
       (clone_at l.world.clones l.c) l.time l.s;
   count : l.count ≡ length l.cursor.left;
-  few : l.count ≤ l.s * MAX_LIMIT;
+  at_most : l.count ≤ l.s * MAX_LIMIT;
   logs : l.cursor.logs ≡ l.s;
   most : l.cursor.most ≡ l.fn.cursor.most;
   within : l.s ≤ length l.world.net.sites;

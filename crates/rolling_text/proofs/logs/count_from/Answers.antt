@@ -9,7 +9,7 @@ use Rattle.rolling_text.proofs.logs.count_from.Goals as goal
 
 pub place_of_time-requires : goal.place_of_time-requires
 place_of_time-requires c = record {
-  rises = log_rises_by_time c.args.world.now c.requires.clone.over c.args.c c.requires.clone.there (c.loop-s.s + 1)
+  rises = log_rises_by_time c.args.world.now c.requires.clone.over c.args.c c.requires.clone.in_range (c.loop-s.s + 1)
       c.log-log.result.now c.log-log.ensures.value;
 }
 
@@ -21,11 +21,12 @@ loop-s-preserved c =
     let dropped = length-drop c.place_of_time.result log in
     let rest = ap length c.place_of_time.ensures.value in
     let long = c.len.ensures.value in
-    let more = counted_log c.args.world.now c.requires.clone.over c.args.c c.requires.clone.there c.loop-s.s c.args.time
+    let more = counted_log c.args.world.now c.requires.clone.over c.args.c c.requires.clone.in_range c.loop-s.s
+    c.args.time
     log c.log-log.ensures.value in
     record {
       count = omega (arith, h.count, more, dropped, rest, long, c.saturating_sub-count.ensures);
-      few = omega (arith, h.few, long, c.log-log.ensures.short, c.saturating_sub-count.ensures);
+      at_most = omega (arith, h.at_most, long, c.log-log.ensures.length_max, c.saturating_sub-count.ensures);
       within = omega (arith, c.loop-s-test.true, c.loop-s.auto.s-end, c.len-s-end.ensures.value, sites);
     }
 
@@ -35,7 +36,7 @@ returns c =
     let sites = ap (λ (n : Net). length n.sites) c.model.ensures.value in
     record {
       value = c.loop-s.invariant.count ∙ ap length (all_gathered world c.requires.clone.over c.args.c
-          c.requires.clone.there c.loop-s.s c.args.time
+          c.requires.clone.in_range c.loop-s.s c.args.time
           (merge_of_rests (simulation world.net) sender_of number_of (clone_at world.clones c.args.c) c.args.time
           c.loop-s.s)
           (omega (arith, c.loop-s-test.false, c.loop-s.auto.s-end, c.len-s-end.ensures.value, sites)) refl);

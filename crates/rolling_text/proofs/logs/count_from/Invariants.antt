@@ -10,6 +10,6 @@ abbrev pub invariant-loop-s : goal.invariant-loop-s
 invariant-loop-s l = record {
   count : l.count ≡ length (merge_of_rests (simulation l.world.net) sender_of number_of
       (clone_at l.world.clones l.c) l.time l.s);
-  few : l.count ≤ l.s * MAX_LIMIT;
+  at_most : l.count ≤ l.s * MAX_LIMIT;
   within : l.s ≤ length l.world.net.sites;
 }

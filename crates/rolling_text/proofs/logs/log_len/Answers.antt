@@ -18,7 +18,7 @@ loop-entry-init c =
       sum = omega (arith, all);
       late = ap (from_time c.args.until) walk ∙ later_of_rest c.args.from c.args.until c.args.log.now c.requires.order;
       rises = rw walk (rise_from c.args.from c.args.log.now c.requires.rises);
-      bound = omega (arith, same, short, c.requires.short);
+      bound = omega (arith, same, short, c.requires.length_max);
     }
 
 pub returns-then-entry-until-clause-value : goal.returns-then-entry-until-clause-value

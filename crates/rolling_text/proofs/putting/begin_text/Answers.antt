@@ -9,7 +9,7 @@ pub overflow_sub-keep : goal.overflow_sub-keep
 overflow_sub-keep c =
     let v = c.args.traces.now in
     let is = c.len-clones.ensures in
-    let a = can_drop v.net is.valid v.clones is.in_net c.args.c c.args.dropped c.requires.there c.args.page.now.text
+    let a = can_drop v.net is.valid v.clones is.in_net c.args.c c.args.dropped c.requires.in_range c.args.page.now.text
     c.requires.margin c.requires.left in
     omega (arith, a, c.len.ensures.value)
 
@@ -21,7 +21,7 @@ joined c =
     let v = c.args.traces.now in
     let is = c.len-clones.ensures in
     ap (λ t. drop MARGIN c.cut.new.self.text ++ rest v.net (clone_at v.clones c.args.c) t) c.requires.time
-    ∙ kept_joined v.net is.valid v.clones is.in_net c.args.c c.args.dropped c.requires.there c.args.page.now.text
+    ∙ kept_joined v.net is.valid v.clones is.in_net c.args.c c.args.dropped c.requires.in_range c.args.page.now.text
     c.requires.margin c.requires.left c.cut.new.self.text
     (c.cut.ensures.text ∙ ap (λ n. take (n - c.args.dropped) c.args.page.now.text) c.len.ensures.value)
 
@@ -30,7 +30,7 @@ put_head-requires c =
     let v = c.args.traces.now in
     let is = c.len-clones.ensures in
     record {
-      margin = margin_stays v.net is.valid v.clones is.in_net c.args.c c.args.dropped c.requires.there
+      margin = margin_stays v.net is.valid v.clones is.in_net c.args.c c.args.dropped c.requires.in_range
           c.args.page.now.text c.requires.margin c.requires.left c.cut.new.self.text
           (c.cut.ensures.text ∙ ap (λ n. take (n - c.args.dropped) c.args.page.now.text) c.len.ensures.value);
     }
@@ -49,7 +49,7 @@ pub returns-clause-margin : goal.returns-clause-margin
 returns-clause-margin c =
     let v = c.args.traces.now in
     let is = c.len-clones.ensures in
-    let a = margin_stays v.net is.valid v.clones is.in_net c.args.c c.args.dropped c.requires.there
+    let a = margin_stays v.net is.valid v.clones is.in_net c.args.c c.args.dropped c.requires.in_range
     c.args.page.now.text c.requires.margin c.requires.left c.cut.new.self.text
     (c.cut.ensures.text ∙ ap (λ n. take (n - c.args.dropped) c.args.page.now.text) c.len.ensures.value) in
     omega (arith, a, c.put_head.ensures.size)

@@ -9,7 +9,7 @@ pub returns-in-Ok-put_lines-clause-ok : goal.returns-in-Ok-put_lines-clause-ok
 returns-in-Ok-put_lines-clause-ok g c =
     let n = ap (λ (n : Net). n.horizon) c.model.ensures.value in
     let place = place_seen _ _ _ _ c.traces.view_is c.traces.invariant.order_is c.args.kept.c
-    c.requires.may.has_span.there in
+    c.requires.may.has_span.in_range in
     both_taken _ _ _ _ _ _ _ _ _
     (no_rest c.traces.inside.world.now c.traces.invariant.may_trace.over c.args.traces.now _ c.traces.view_is
     c.args.kept.c place.0 place.1 place.2 c.max.result (omega (arith, n, c.max.ensures, c.horizon.ensures.value)))

@@ -16,7 +16,7 @@ put_rest-requires g c =
     let v = c.args.traces.now in
     let clone = clone_at v.clones c.args.c in
     let begun = c.begin_text-start in
-    let fits = c.requires.fits c.args.c c.requires.there in
+    let fits = c.requires.fits c.args.c c.requires.in_range in
     λ κs. (
       (refl, tt),
       (
@@ -24,7 +24,7 @@ put_rest-requires g c =
         (
           refl,
           record {
-            has_span = record { there = c.requires.there; order = omega (arith, c.max-late.ensures) };
+            has_span = record { in_range = c.requires.in_range; order = omega (arith, c.max-late.ensures) };
             can = record { walk = c.requires.can.walk; line = c.requires.can.line };
             fits = λ is.
                 rest_fits begun.new.page.text (rest v.net clone c.parting_at-time.result) (body v.net clone)

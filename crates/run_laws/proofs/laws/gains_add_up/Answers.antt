@@ -8,8 +8,8 @@ returns-clause-to_limit g c = λ w cs front bound s total old h short.
     handled_grows_to_limit g.T.Stations.lawful w.joins cs s front bound old h.stand h.window.later h.window.within
     w.same total w.tells short h.gained
 
-pub returns-clause-few : goal.returns-clause-few
-returns-clause-few g c = λ w cs front bound s total old h short.
+pub returns-clause-at_most : goal.returns-clause-at_most
+returns-clause-at_most g c = λ w cs front bound s total old h short.
     handled_is_few g.T.Stations.lawful w.joins cs s front bound old h.stand h.window.later h.window.within w.same total
     w.tells short h.gained
 

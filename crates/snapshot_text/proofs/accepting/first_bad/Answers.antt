@@ -22,7 +22,7 @@ loop-index-init c = record {
 pub returns-then-not-may_be_due-clause-value : goal.returns-then-not-may_be_due-clause-value
 returns-then-not-may_be_due-clause-value c =
     let l = c.loop-index in
-    sym (l.invariant.same ∙ bad_here c.args.model.now c.args.front c.args.saved.now c.may_be_due.ensures.few
+    sym (l.invariant.same ∙ bad_here c.args.model.now c.args.front c.args.saved.now c.may_be_due.ensures.stations_max
     c.args.due.now l.index no_message c.loop-index-test.true l.counts l.invariant.counts l.last
     (sym c.may_be_due.ensures.value ∙ c.if-not-may_be_due.true))
 
@@ -31,7 +31,7 @@ count_completion-requires-clause-room c =
     let l = c.loop-index in
     let station = c.may_be_due.ensures.station c.if-not-may_be_due.false in
     let small : length c.args.due.now < 2 ^ 64 = search rules in
-    count_room c.args.model.now c.args.front c.args.saved.now c.may_be_due.ensures.few
+    count_room c.args.model.now c.args.front c.args.saved.now c.may_be_due.ensures.stations_max
     c.args.due.now l.index no_message c.loop-index-test.true l.counts l.invariant.counts l.last
     (get_or c.args.due.now l.index no_message).to station.low
     (c.may_be_due.ensures.at_most c.if-not-may_be_due.false) small
@@ -39,7 +39,7 @@ count_completion-requires-clause-room c =
 pub loop-index-preserved : goal.loop-index-preserved
 loop-index-preserved c =
     let l = c.loop-index in
-    let few = c.may_be_due.ensures.few in
+    let few = c.may_be_due.ensures.stations_max in
     record {
       same = l.invariant.same ∙ bad_next c.args.model.now c.args.front c.args.saved.now few
           c.args.due.now l.index no_message c.loop-index-test.true l.counts l.invariant.counts l.last

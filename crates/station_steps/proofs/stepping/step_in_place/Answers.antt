@@ -22,7 +22,7 @@ loop-i-init g c =
       stepped = subst (λ l. SteppedTo net ends bounds 0 olds olds l None c.args.steps.now c.args.steps.now)
           (sym {A = MarkedMessages} c.clear.ensures.items) (SteppedTo-none net ends bounds olds c.args.steps.now);
       bounds = refl;
-      few = tt;
+      at_most = tt;
     }
 
 -- ---- a station with nothing due
@@ -58,7 +58,7 @@ loop-i-preserved-then-is_idle g c =
           (c.requires.stations.procs_in_order c.loop-i.i p (sym (far.others c.loop-i.i (omega arith)) ∙ got)) late
           c.is_idle.ensures.shared refl c.clear.ensures.items refl refl;
       bounds = c.loop-i.invariant.bounds;
-      few = c.loop-i.invariant.few;
+      at_most = c.loop-i.invariant.at_most;
     }
 
 -- ---- a station that is stepped
@@ -84,7 +84,7 @@ loop-i-preserved g c =
           c.step_place.new.steps l far stepped c.in_ok-gain.ensures.steps
           c.first_so_far-over.ensures.first;
       bounds = c.step_place.ensures.bounds ∙ c.loop-i.invariant.bounds;
-      few = c.first_so_far-over.ensures.few;
+      at_most = c.first_so_far-over.ensures.at_most;
     }
 
 -- ---- the result

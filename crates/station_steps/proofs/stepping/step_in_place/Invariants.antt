@@ -9,5 +9,5 @@ invariant-loop-i g l = record {
   stepped : SteppedTo l.model (ends_in l.model.horizon l.ends) (bound_of l.fn.buffers.bounds.items) l.i l.fn.olds.items
       l.procs.items l.buffers.sent.items l.over l.fn.steps l.steps;
   bounds : l.buffers.bounds ≡ l.fn.buffers.bounds;
-  few : IsPlaceOfOver l.over;
+  at_most : IsPlaceOfOver l.over;
 }

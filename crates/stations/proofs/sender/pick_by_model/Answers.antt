@@ -9,6 +9,6 @@ pub pick_link-requires-clause-valid : goal.pick_link-requires-clause-valid
 pick_link-requires-clause-valid c = rw (c.as_slice.ensures.value, c.link_weights-weights.ensures)
     (are_weights c.args.links.now c.requires.valid)
 
-pub returns-clause-near : goal.returns-clause-near
-returns-clause-near c = AllByRecursion-slice_get (λ (l : Link). l.delay ≤ MAX_TIME) c.args.links.now _
-    c.pick_link.result c.requires.valid.near c.pick_link.ensures.link
+pub returns-clause-delay_max : goal.returns-clause-delay_max
+returns-clause-delay_max c = AllByRecursion-slice_get (λ (l : Link). l.delay ≤ MAX_TIME) c.args.links.now _
+    c.pick_link.result c.requires.valid.delay_max c.pick_link.ensures.link

@@ -20,7 +20,7 @@ invariant_of-state-2 g c =
     c.kind_handles.new.out.items c.kind_handles.new.kind c.kind_handles.new.sender c.station-station.ensures.value
     c.requires.empty c.in_ok-kind_handles.ensures.ok in
     let well = handles-fitting c.args.model.now st c.args.msg.now c.station-station.ensures.valid c.state.invariant
-    (subst (SuitsNet c.args.model.now) (sym c.state.view_is) c.requires.suits) c.requires.early in
+    (subst (SuitsNet c.args.model.now) (sym c.state.view_is) c.requires.suits) c.requires.time_max in
     subst (λ (h : Outcome StateView Msg Line). FitsState h.state) is well.fits
 
 pub returns : goal.returns
@@ -34,7 +34,7 @@ returns g c =
     c.kind_handles.new.out.items c.kind_handles.new.kind c.kind_handles.new.sender c.station-station.ensures.value
     c.requires.empty c.in_ok-kind_handles.ensures.ok in
     let well = handles-fitting c.args.model.now st c.args.msg.now c.station-station.ensures.valid c.state.invariant
-    (subst (SuitsNet c.args.model.now) (sym c.state.view_is) c.requires.suits) c.requires.early in
+    (subst (SuitsNet c.args.model.now) (sym c.state.view_is) c.requires.suits) c.requires.time_max in
     record {
       ok = rw (← c.state.view_is, c.kind_line.ensures) is;
       sends = rw (← c.state.view_is)

@@ -48,8 +48,8 @@ returns-in-Ok-run_to-clause-within g c =
     c.in-Ok-run_to.solo c.args.steps.now c.run_to.new.steps c.in-Ok-run_to.ensures.ok c.in-Ok-run_to.ensures.solo
     c.in-Ok-run_to.ensures.steps
 
-pub returns-in-Ok-run_to-clause-few : goal.returns-in-Ok-run_to-clause-few
-returns-in-Ok-run_to-clause-few g c =
+pub returns-in-Ok-run_to-clause-at_most : goal.returns-in-Ok-run_to-clause-at_most
+returns-in-Ok-run_to-clause-at_most g c =
     let net = c.args.model.now in
     let clone = clone_at c.args.lists.now.clones c.args.c in
     let is = last_time-is net c.args.time c.min-front.result c.last_front.result clone c.end_of.result

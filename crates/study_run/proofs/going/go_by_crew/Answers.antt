@@ -25,7 +25,7 @@ after_window-requires g c =
     omega (arith, c.window-test.true, c.front.ensures.value, c.horizon.ensures.value, horizon) in
     let e = c.window-window.ensures in
     let is = IsWindow-made w c.bound-bound.result c.window.steps c.window-window.new.steps c.window-window.result
-    valid below c.bound-bound.ensures.value e.value e.steps e.short e.fault in
+    valid below c.bound-bound.ensures.value e.value e.steps e.length_max e.fault in
     let old = run_state c.args.follow_up.now c.args.world c.args.steps.now in
     record {
       next = next_window g.A.Onwards.has_gone_on g.A.Onwards.has_stopped old c.window.follow_up w c.window.steps
@@ -42,7 +42,7 @@ returns-in-Err-clause-goes g c =
     omega (arith, c.window-test.true, c.front.ensures.value, c.horizon.ensures.value, horizon) in
     let e = c.window-window.ensures in
     let is = IsWindow-made w c.bound-bound.result c.window.steps c.window-window.new.steps c.window-window.result
-    valid below c.bound-bound.ensures.value e.value e.steps e.short e.fault in
+    valid below c.bound-bound.ensures.value e.value e.steps e.length_max e.fault in
     let old = run_state c.args.follow_up.now c.args.world c.args.steps.now in
     goes_after g.A.Onwards.has_gone_on g.A.Onwards.has_stopped old c.window.follow_up w c.window.steps
     c.window-window.new.steps c.window-window.result c.window.invariant.leads is c.after_window.new.self _ c.in-Err.ensures.goes
@@ -73,7 +73,7 @@ window-preserved g c =
     omega (arith, c.window-test.true, c.front.ensures.value, c.horizon.ensures.value, horizon) in
     let e = c.window-window.ensures in
     let is = IsWindow-made w c.bound-bound.result c.window.steps c.window-window.new.steps c.window-window.result
-    valid below c.bound-bound.ensures.value e.value e.steps e.short e.fault in
+    valid below c.bound-bound.ensures.value e.value e.steps e.length_max e.fault in
     let old = run_state c.args.follow_up.now c.args.world c.args.steps.now in
     record {
       leads = leads_after g.A.Onwards.has_gone_on g.A.Onwards.has_stopped old c.window.follow_up w c.window.steps

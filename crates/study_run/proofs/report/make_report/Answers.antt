@@ -29,12 +29,12 @@ report_text-requires-clause-all c =
 
 pub report_text-requires-clause-sums : goal.report_text-requires-clause-sums
 report_text-requires-clause-sums c =
-    let few = c.lists-short.ensures.few in
+    let few = c.lists-short.ensures.at_most in
     let may = c.requires.may_report in
     let within : AreWithin c.args.model.now c.args.world.now.clones =
     subst (NoneBeyond c.args.model.now c.args.world.now.clones) may.ended
     (subst (λ (n : Net). NoneBeyond n c.args.world.now.clones c.args.world.now.front) may.net
-    c.lists-short.ensures.short) in
+    c.lists-short.ensures.length_max) in
     let last : c.loop-s.s ≡ length c.args.model.now.sites =
     omega (arith, c.loop-s-test.false, c.loop-s.auto.s-end, c.len-s-end.ensures.value) in
     let all = c.as_slice.ensures.value

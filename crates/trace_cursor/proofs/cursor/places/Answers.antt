@@ -4,13 +4,13 @@ use Rattle.std.proofs.lemmas.Bool.{cases_lt}
 use Rattle.std.proofs.lemmas.Nat.{pow_pos}
 use Rattle.trace_cursor.proofs.cursor.places.Goals as goal
 
-pub returns-clause-some : goal.returns-clause-some
-returns-clause-some c =
+pub returns-clause-at_least : goal.returns-clause-at_least
+returns-clause-at_least c =
     let power = c.next_power_of_two.ensures.power in
     omega (arith, power.1, pow_pos power.0)
 
-pub returns-clause-few : goal.returns-clause-few
-returns-clause-few c =
+pub returns-clause-at_most : goal.returns-clause-at_most
+returns-clause-at_most c =
     let next = c.next_power_of_two.ensures in
     elim (cases_lt 6 next.power.0) [
       | inl large ↦

@@ -20,6 +20,6 @@ returns c =
             ∙ append_assoc before (param_word change.param) (codes " " ++ values_text change)
             ∙ ap (λ t. before ++ t) (sym (change_in_parts change.param change.a change.b));
         size = values.size ∙ space.size ∙ word.size;
-        near = omega (arith, values.near, space.place, word.place, c.word_of.ensures.short);
+        end_max = omega (arith, values.end_max, space.place, word.place, c.word_of.ensures.length_max);
       };
     }

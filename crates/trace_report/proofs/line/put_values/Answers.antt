@@ -13,7 +13,7 @@ returns-then-values-eq1 c =
         text = first.text
             ∙ ap (λ t. take c.args.at c.args.bytes.now ++ t) (sym (values-one change.param change.a change.b one));
         size = first.size;
-        near = omega (arith, first.near);
+        end_max = omega (arith, first.end_max);
       };
     }
 
@@ -29,6 +29,6 @@ returns-else-values-eq1 c =
             ∙ append_assoc (take c.args.at c.args.bytes.now) (decimal change.a) (codes " " ++ decimal change.b)
             ∙ ap (λ t. take c.args.at c.args.bytes.now ++ t) (sym (values-two change.param change.a change.b other));
         size = second.size ∙ first.size;
-        near = omega (arith, first.near, second.near);
+        end_max = omega (arith, first.end_max, second.end_max);
       };
     }

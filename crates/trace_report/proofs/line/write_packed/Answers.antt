@@ -33,10 +33,10 @@ returns c =
       arith,
       size,
       c.requires.free,
-      c.put_end.ensures.written.near,
+      c.put_end.ensures.written.end_max,
       c.put-at.ensures.written.place,
-      c.put_payload-at.ensures.written.near,
-      c.put_key-at.ensures.written.near,
+      c.put_payload-at.ensures.written.end_max,
+      c.put_key-at.ensures.written.end_max,
     ) in
     record {
       written = record {

@@ -12,7 +12,7 @@ loop-s-preserved c =
     (record { copies = 0; handled = 0; alone = 0 }) (take c.args.start c.args.bytes.now) (omega arith)
     (omega arith) c.station.ensures.value in (
       cc (more, c.write_figures-at.ensures.written.text, c.loop-s.invariant.0),
-      omega (arith, c.write_figures-at.ensures.written.near, c.loop-s.invariant.1),
+      omega (arith, c.write_figures-at.ensures.written.end_max, c.loop-s.invariant.1),
     )
 
 pub returns : goal.returns
@@ -24,6 +24,6 @@ returns c =
       written = record {
         text = rw (c.loop-s.invariant.0, whole) refl;
         size = omega arith;
-        near = omega arith;
+        end_max = omega arith;
       };
     }

@@ -10,8 +10,8 @@ pub overflow_add-sum : goal.overflow_add-sum
 overflow_add-sum c =
     let xs = c.args.copies.now in
     let x = c.copy-item.result in
-    let few = c.requires.few in
-    let l = alone_within xs c.loop-copy.copy-index x c.loop-copy-test.true c.copy-item.is c.requires.short in
+    let few = c.requires.at_most in
+    let l = alone_within xs c.loop-copy.copy-index x c.loop-copy-test.true c.copy-item.is c.requires.length_max in
     let a = c.loop-copy.invariant in
     let b : c.len.result * c.len-in-loop-copy.result ≡ size x.set * length x.log =
     ap₂ (λ m n. m * n) (c.len.ensures.value ∙ ap size c.set.ensures.value) (c.len-in-loop-copy.ensures.value

@@ -14,7 +14,7 @@ in_order-requires-clause-once g c κs within x =
     let deque = c.self.inside.deque in
     let done = parts_back (length c.self.inside.busy.items) (worker_view deque).dealt (worker_view deque)
     (worker_view c.pop_all.new.owner) (worker_view c.gather.new.owner) (worker_view c.pop_all-2.new.owner) _ _ _
-    inv.0.few inv.0.dealt c.in_ok-pop_all.ensures.taken.0 c.in_ok-callers.ensures.taken.0
+    inv.0.at_most inv.0.dealt c.in_ok-pop_all.ensures.taken.0 c.in_ok-callers.ensures.taken.0
     c.in_ok-pop_all-2.ensures.taken.0 in
     sym (ap (occurrences x) done.2)
     ∙ (c.in_ok-pop_all-2.ensures.complete done.0 x
@@ -26,7 +26,7 @@ in_order-requires-clause-answers g c κs within =
     let deque = c.self.inside.deque in
     let done = parts_back (length c.self.inside.busy.items) (worker_view deque).dealt (worker_view deque)
     (worker_view c.pop_all.new.owner) (worker_view c.gather.new.owner) (worker_view c.pop_all-2.new.owner) _ _ _
-    inv.0.few inv.0.dealt c.in_ok-pop_all.ensures.taken.0 c.in_ok-callers.ensures.taken.0
+    inv.0.at_most inv.0.dealt c.in_ok-pop_all.ensures.taken.0 c.in_ok-callers.ensures.taken.0
     c.in_ok-pop_all-2.ensures.taken.0 in
     let items = (worker_view deque).dealt in
     let pairs = c.pop_all-2.new.outs.items in (
@@ -42,7 +42,7 @@ invariant_of-idle g c =
     let deque = c.self.inside.deque in
     let done = parts_back (length c.self.inside.busy.items) (worker_view deque).dealt (worker_view deque)
     (worker_view c.pop_all.new.owner) (worker_view c.gather.new.owner) (worker_view c.pop_all-2.new.owner) _ _ _
-    inv.0.few inv.0.dealt c.in_ok-pop_all.ensures.taken.0 c.in_ok-callers.ensures.taken.0
+    inv.0.at_most inv.0.dealt c.in_ok-pop_all.ensures.taken.0 c.in_ok-callers.ensures.taken.0
     c.in_ok-pop_all-2.ensures.taken.0 in
     let callers = c.in_ok-callers.callers.items in
     let idle = c.self.inside.idle.items in
@@ -64,7 +64,7 @@ returns g c =
     let deque = c.self.inside.deque in
     let done = parts_back (length c.self.inside.busy.items) (worker_view deque).dealt (worker_view deque)
     (worker_view c.pop_all.new.owner) (worker_view c.gather.new.owner) (worker_view c.pop_all-2.new.owner) _ _ _
-    inv.0.few inv.0.dealt c.in_ok-pop_all.ensures.taken.0 c.in_ok-callers.ensures.taken.0
+    inv.0.at_most inv.0.dealt c.in_ok-pop_all.ensures.taken.0 c.in_ok-callers.ensures.taken.0
     c.in_ok-pop_all-2.ensures.taken.0 in
     let items = (worker_view deque).dealt in
     let pairs = c.pop_all-2.new.outs.items in

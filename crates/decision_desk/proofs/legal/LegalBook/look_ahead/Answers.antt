@@ -28,7 +28,7 @@ returns c =
     c.in_ok-extend_from_slice.ensures.items
     ∙ ap (λ (ts : List (Option ℕ)). ts ++ c.args.least.now) c.new-times.ensures.items in
     record {
-      ahead = subst (λ (v : BookView). IsTurnAhead v (helm_at c.args.known v.events)
+      is_next = subst (λ (v : BookView). IsTurnAhead v (helm_at c.args.known v.events)
           (calls_at c.args.known v.events) fresh c.window_end-front.result) c.book-book.ensures.value
           (is_turn_ahead b fresh c.args.known c.window_end-front.result c.args.least.now
           c.take_calls.new.times.items all

@@ -6,8 +6,8 @@ use Rattle.link_clocks.specs.NetClocks.{AreNextClocks, HasClocks}
 use Rattle.link_clocks.proofs.NextClocks.{HasClocks-after, clocks_early}
 use Rattle.link_clocks.proofs.clocks.Clocks.after_round.Goals as goal
 
-pub set_to_next-requires-clause-early : goal.set_to_next-requires-clause-early
-set_to_next-requires-clause-early c =
+pub set_to_next-requires-clause-time_max : goal.set_to_next-requires-clause-time_max
+set_to_next-requires-clause-time_max c =
     let net = c.args.model.now in
     let self = c.args.self in
     subst (AllByRecursion (λ t. t ≤ net.horizon)) (sym c.as_slice.ensures.value)

@@ -5,8 +5,8 @@ use Rattle.link_clocks.specs.NetClocks.{AreNextClocks}
 use Rattle.link_clocks.proofs.NextClocks.{HasClocks-first, all_of}
 use Rattle.link_clocks.proofs.clocks.Clocks.new.Goals as goal
 
-pub set_to_next-requires-clause-early : goal.set_to_next-requires-clause-early
-set_to_next-requires-clause-early c =
+pub set_to_next-requires-clause-time_max : goal.set_to_next-requires-clause-time_max
+set_to_next-requires-clause-time_max c =
     let net = c.args.model.now in
     let now = c.in_ok-now.now in
     subst (AllByRecursion (λ t. t ≤ net.horizon)) (sym c.as_slice.ensures.value)

@@ -108,8 +108,8 @@ returns-clause-steps g c =
     all.stepped in
     h.steps c.in_default.is
 
-pub returns-clause-short : goal.returns-clause-short
-returns-clause-short g c =
+pub returns-clause-length_max : goal.returns-clause-length_max
+returns-clause-length_max g c =
     let i = c.self.inside in
     let first = c.in_ok-bound_by.ensures.same in
     let second = c.as_slice.ensures.value in
@@ -122,4 +122,4 @@ returns-clause-short g c =
     all.news all.sent s.over c.args.steps.now c.step_by_crew.new.steps (ap (λ v. v.net) c.in_ok-work.ensures.value)
     (ap (λ v. v.ends) c.in_ok-work.ensures.value)
     all.stepped in
-    h.short c.in_default.is
+    h.length_max c.in_default.is

@@ -127,8 +127,8 @@ returns-clause-steps g c =
     c.in_ok-stepped.ensures.stepped in
     h.steps c.in_default.is
 
-pub returns-clause-short : goal.returns-clause-short
-returns-clause-short g c =
+pub returns-clause-length_max : goal.returns-clause-length_max
+returns-clause-length_max g c =
     let i = c.self.inside in
     let first = c.in_ok-bound_by.ensures.same in
     let second = c.as_slice.ensures.value in
@@ -140,4 +140,4 @@ returns-clause-short g c =
     s.procs.items s.buffers.sent.items s.over c.args.steps.now c.step_in_place.new.steps c.deref.ensures
     c.ends-2.ensures.value
     c.in_ok-stepped.ensures.stepped in
-    h.short c.in_default.is
+    h.length_max c.in_default.is

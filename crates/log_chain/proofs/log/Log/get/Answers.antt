@@ -7,5 +7,5 @@ unreachable-requires c =
       arith,
       ap length (sym c.in-None.ensures.none.0 ∙ c.walk_from-walk.ensures.value),
       length-drop c.args.i c.args.self.now,
-      c.requires.there,
+      c.requires.in_range,
     )

@@ -30,7 +30,7 @@ overflow_cast-result c =
     )) in
     omega (arith, less)
 
-pub returns-clause-few : goal.returns-clause-few
-returns-clause-few c short =
+pub returns-clause-at_most : goal.returns-clause-at_most
+returns-clause-at_most c short =
     let less = power_below c.len.result (MAX_SEGMENTS + 1) _ (returns-clause-many c) (omega (arith, short)) in
     omega (arith, less)

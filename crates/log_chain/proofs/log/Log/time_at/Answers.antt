@@ -11,6 +11,6 @@ pub returns : goal.returns
 returns c =
     let key = λ (w : List (Entry Msg Line)). option_map (λ (e : Entry Msg Line). e.msg.key) (slice_get w 0) in
     record {
-      value = times_of-at c.args.self.now c.args.i c.in-Some.key c.requires.there
+      value = times_of-at c.args.self.now c.args.i c.in-Some.key c.requires.in_range
           (c.in-Some.ensures.value ∙ ap key c.walk_from.ensures.value);
     }

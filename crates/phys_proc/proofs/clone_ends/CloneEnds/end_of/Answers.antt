@@ -7,5 +7,5 @@ pub loop-i-init : goal.loop-i-init
 loop-i-init c = record {
   so_far = let s = ends_in-bound c.args.horizon c.self.inside.ended.items c.args.clone in let e =
       ap (λ l. ends_in c.args.horizon l c.args.clone) c.self.view_is in omega (arith, s, e);
-  soon = omega arith;
+  horizon_max = omega arith;
 }

@@ -6,5 +6,5 @@ abbrev pub invariant-loop-i : goal.invariant-loop-i
 invariant-loop-i l = record {
   so_far : min l.end (ends_in l.horizon (drop l.i l.self-inside.ended.items) l.clone)
       ≡ ends_in l.horizon l.self l.clone;
-  soon : l.end ≤ l.horizon;
+  horizon_max : l.end ≤ l.horizon;
 }

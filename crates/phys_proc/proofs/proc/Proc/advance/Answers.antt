@@ -38,8 +38,8 @@ step_copies-requires-clause-may_step g c =
       valid = h.valid;
       fits = h.copies;
       disjoint = c.self.invariant.shares.disjoint;
-      early = c.requires.early;
-      few = few_clones i.living i.copies c.self.invariant.shares
+      time_max = c.requires.time_max;
+      at_most = few_clones i.living i.copies c.self.invariant.shares
           (few_members i.living c.len-clones.result c.len-clones.ensures.value c.len-clones.ensures.members);
     }))
 
@@ -58,10 +58,10 @@ overflow_add-self g c =
     c.take_copies-copies.ensures.copies c.in_ok-step_copies.ensures.stepped in
     let sizes = few_clones i.living i.copies c.self.invariant.shares
     (few_members i.living c.len-clones.result c.len-clones.ensures.value c.len-clones.ensures.members) in
-    let a = few_handled net i.station i.handled i.copies h.copies sizes h.valid.short c.self.invariant.once in
+    let a = few_handled net i.station i.handled i.copies h.copies sizes h.valid.limit_max c.self.invariant.once in
     let b = all_few net h.valid i.station ends c.args.bound i.copies st.done st.sent.items st.over c.args.steps.now
     c.step_copies.new.steps h.copies far st.handled c.in_ok-step_copies.ensures.handled in
-    let m = mul-le (all_sizes i.copies) net.limit MAX_CLONES MAX_LIMIT sizes h.valid.short in
+    let m = mul-le (all_sizes i.copies) net.limit MAX_CLONES MAX_LIMIT sizes h.valid.limit_max in
     omega (arith, a, b, m)
 
 pub invariant_of-self-then-is_empty : goal.invariant_of-self-then-is_empty
@@ -139,8 +139,8 @@ returns-clause-gained g c =
     c.args.steps.now c.step_copies.new.steps h.copies far st.handled
     c.in_ok-step_copies.ensures.handled)
 
-pub returns-clause-few : goal.returns-clause-few
-returns-clause-few g c =
+pub returns-clause-at_most : goal.returns-clause-at_most
+returns-clause-at_most g c =
     let net = c.args.model.now in
     let ends = ends_in net.horizon c.args.ends.now in
     let i = c.self.inside in

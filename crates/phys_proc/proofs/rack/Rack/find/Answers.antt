@@ -12,7 +12,7 @@ unreachable-requires c =
     let i = c.self.inside in
     let cs = i.lists.value.clones in
     let l : c.in-Some.c < length cs =
-    subst (λ k. c.in-Some.c < length k) (ap (λ u. u.clones) c.deref.ensures) c.in-Some.ensures.there in
+    subst (λ k. c.in-Some.c < length k) (ap (λ u. u.clones) c.deref.ensures) c.in-Some.ensures.in_range in
     not_none i.model.value cs i.station i.front i.copies.items c.in-Some.c c.self.invariant l
     (subst (AllByRecursion (λ (h : RackCopyView). has h.set c.in-Some.c ≡ false)) c.as_slice.ensures.value
     c.in_default-find_copy.ensures.none)

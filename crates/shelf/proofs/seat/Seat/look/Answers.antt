@@ -8,9 +8,9 @@ pub glance_at-requires : goal.glance_at-requires
 glance_at-requires g c =
     let known = c.self.inside.newest.value in
     let now = c.refresh.new.newest.value in
-    let has = subst (λ (l : List RackView). HasRack c.args.station l) (sym c.self.view_is) c.requires.there in
+    let has = subst (λ (l : List RackView). HasRack c.args.station l) (sym c.self.view_is) c.requires.has_rack in
     record {
-      there = subst (λ (l : List RackView). HasRack c.args.station l) (sym c.deref-2.ensures)
+      has_rack = subst (λ (l : List RackView). HasRack c.args.station l) (sym c.deref-2.ensures)
           (HasRack-later c.args.station known now c.refresh.ensures.begins has);
     }
 

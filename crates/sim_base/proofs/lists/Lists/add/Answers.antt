@@ -15,5 +15,5 @@ invariant_of-self c =
 
 pub returns-clause-reserved : goal.returns-clause-reserved
 returns-clause-reserved c fits =
-    c.push_plan.ensures.reserved (reserved_to_add _ _ _ _ (ap (λ l. l.clones) c.self.view_is) c.requires.there
+    c.push_plan.ensures.reserved (reserved_to_add _ _ _ _ (ap (λ l. l.clones) c.self.view_is) c.requires.in_range
     c.self.invariant.0.plans (rw (ap (λ l. l.reserved_plans) c.self.view_is) fits))

@@ -9,7 +9,7 @@ invariant_of-self c =
     let l = c.self.inside in
     let held = c.self.invariant in
     let forked = clones_after_fork l.clones.items _ c.args.new c.args.old _
-    (ap (λ l. l.clones) c.self.view_is) c.requires.unused c.requires.few held.2 in
+    (ap (λ l. l.clones) c.self.view_is) c.requires.unused c.requires.at_most held.2 in
     let both = holds_after (λ k. AreReserved k l.reserved_clones l.spare l.reserved_plans × AreClones (map clone_of k))
     c.push_fork.result _ _ _ c.push_fork.ensures.ok c.push_fork.ensures.err (
       reserved_push _ _ _ _ _ c.args.new c.args.old held.0

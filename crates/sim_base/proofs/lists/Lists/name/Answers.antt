@@ -6,4 +6,4 @@ pub returns-clause-only : goal.returns-clause-only
 returns-clause-only c =
     rw (ap (λ k. k.name) c.clone.view_is)
     (seen_by_name c.self.inside.clones.items _ c.args.c _ (ap (λ l. l.clones) c.self.view_is) c.self.invariant.2
-    c.requires.there c.index-clone.ensures)
+    c.requires.in_range c.index-clone.ensures)

@@ -7,7 +7,7 @@ pub invariant_of-result : goal.invariant_of-result
 invariant_of-result c =
     let end : c.loop-station._station ≡ c.args.stations = omega arith in
     is_event_list-nothing c.args.stations c.loop-station.lists.items c.in_ok-words.words
-    c.requires.few (c.loop-station.invariant ∙ ap (λ n. replicate n []) end) c.in_ok-words.ensures.value
+    c.requires.at_most (c.loop-station.invariant ∙ ap (λ n. replicate n []) end) c.in_ok-words.ensures.value
 
 pub returns : goal.returns
 returns c =

@@ -6,13 +6,13 @@ use Rattle.solo_run.proofs.event_list.EventList.take_before.Goals as goal
 
 pub take_message-msg-requires : goal.take_message-msg-requires
 take_message-msg-requires c = record {
-  some = has_first-some c.self.inside.lists.items c.self.invariant.lists_are c.args.bound c.in_ok-i.i
+  nonempty = has_first-some c.self.inside.lists.items c.self.invariant.lists_are c.args.bound c.in_ok-i.i
       c.in_ok-i.ensures.some c.index_mut.result.now c.index_mut.ensures.value;
 }
 
 pub invariant_of-self : goal.invariant_of-self
 invariant_of-self c =
-    is_event_list-change c.self.inside.lists.items _ c.self.invariant c.in_ok-i.i c.in_ok-i.ensures.some.there
+    is_event_list-change c.self.inside.lists.items _ c.self.invariant c.in_ok-i.i c.in_ok-i.ensures.some.in_range
     c.take_message-msg.new.self
     (is_list_of-take c.self.inside.lists.items c.self.invariant.lists_are c.args.bound c.in_ok-i.i
     c.in_ok-i.ensures.some c.index_mut.result.now c.index_mut.ensures.value c.take_message-msg.result

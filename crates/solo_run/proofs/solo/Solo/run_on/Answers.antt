@@ -16,7 +16,7 @@ pub turn-requires : goal.turn-requires
 turn-requires g c = λ κs below.
     let taken = ap (solo_view c.self.inside.states.items c.self.inside.trace) c.in-Some.ensures.some.0 in
     let horizon = c.requires.1.1 in
-    let soon = c.requires.1.0.valid.soon in
+    let soon = c.requires.1.0.valid.horizon_max in
     let early = c.in-Some.ensures.some.1 in (
       below,
       (

@@ -19,7 +19,8 @@ rack-requires c =
           (view_of_copy-mail (mail_for p.station (mail_in c.self.inside.mail)) p.copies)
           (subst (λ (q : ProcView). ShowsClones net cs q.station front (map view_of_copy q.copies))
           (sym c.self.view_is)
-          (shows_clones net cs c.args.self.now.station front c.args.self.now.copies c.requires.few c.requires.early
+          (shows_clones net cs c.args.self.now.station front c.args.self.now.copies c.requires.at_most
+          c.requires.time_max
           c.requires.copies)));
     }
 

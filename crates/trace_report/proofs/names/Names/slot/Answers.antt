@@ -11,7 +11,7 @@ returns-then-s-ge-SLOTS c =
     (c.requires.names.each 0 (omega arith)) in
     record {
       value = get_or_from_slice_get c.self.inside.slots 0 (slot_of net 0) c.index-self-0.result there
-          ∙ sym (slot_past net c.args.s (omega (arith, c.requires.names.few)));
+          ∙ sym (slot_past net c.args.s (omega (arith, c.requires.names.at_most)));
     }
 
 pub returns : goal.returns

@@ -13,9 +13,9 @@ overflow_add-at c =
     let below : c.args.due < c.args.world.front =
     due-below c.args.self.now c.args.world c.args.i c.args.active c.args.clone c.args.due c.requires.is_due in
     let within = d.passing.with_window.within in
-    let soon = d.passing.valid.soon in
+    let soon = d.passing.valid.horizon_max in
     let ahead = c.lookahead.ensures.value in
-    let near = c.lookahead.ensures.valid.near in
+    let near = c.lookahead.ensures.valid.lookahead_max in
     omega (arith, below, within, soon, ahead, near)
 
 pub set_progress-requires : goal.set_progress-requires
@@ -46,8 +46,8 @@ pub with_fork-requires-clause-unused : goal.with_fork-requires-clause-unused
 with_fork-requires-clause-unused c =
     due-unused c.args.self.now c.args.world c.args.i c.args.active c.args.clone c.args.due c.requires.is_due
 
-pub with_fork-requires-clause-few : goal.with_fork-requires-clause-few
-with_fork-requires-clause-few c =
+pub with_fork-requires-clause-at_most : goal.with_fork-requires-clause-at_most
+with_fork-requires-clause-at_most c =
     due-room c.args.self.now c.args.world c.args.i c.args.active c.args.clone c.args.due c.requires.is_due
 
 pub with_set-requires-clause-is_station : goal.with_set-requires-clause-is_station

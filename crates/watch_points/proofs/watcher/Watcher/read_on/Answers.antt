@@ -16,8 +16,8 @@ returns-in_default-clause-passing c =
     watch_absent c.args.self.now c.args.world c.args.i c.requires.passing c.args.active c.requires.is_watch c.args.seen
     c.requires.waits (sym c.source_place.ensures.value ∙ c.in_default.is)
 
-pub log-log-requires-clause-there : goal.log-log-requires-clause-there
-log-log-requires-clause-there c =
+pub log-log-requires-clause-in_range : goal.log-log-requires-clause-in_range
+log-log-requires-clause-in_range c =
     watch-in_range c.args.self.now c.args.world c.args.i c.requires.passing c.args.active c.requires.is_watch
     c.args.seen
     c.requires.waits c.in-Some.clone c.in-Some.start (sym c.source_place.ensures.value ∙ c.in-Some.is)

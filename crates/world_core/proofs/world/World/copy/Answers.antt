@@ -17,7 +17,7 @@ unreachable-requires c =
     let procs = w.procs.items in
     let i = c.args.station - 1 in
     let p = c.index.result.now in
-    let there = subst (λ (w : WorldView). c.args.who < length w.clones) (sym c.self.view_is) c.requires.there in
+    let there = subst (λ (w : WorldView). c.args.who < length w.clones) (sym c.self.view_is) c.requires.in_range in
     let is = subst (λ (w : WorldView). HasStation w.net c.args.station) (sym c.self.view_is) c.requires.is_station in
     let many = c.self.invariant.count in
     let got = got_at procs i p (omega (arith, is.low, is.high, many)) c.index.ensures in
@@ -46,8 +46,8 @@ returns-clause-log c =
     (subst (λ (a : StationCopy). has a.set d ≡ true) like.same is_in)
     ∙ ap (λ s. log_at (simulation w.model.value) (clone_at w.lists.clones d) s w.front) same)
 
-pub returns-clause-short : goal.returns-clause-short
-returns-clause-short c =
+pub returns-clause-length_max : goal.returns-clause-length_max
+returns-clause-length_max c =
     let w = c.self.inside in
     let procs = w.procs.items in
     let i = c.args.station - 1 in

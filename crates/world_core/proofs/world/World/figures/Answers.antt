@@ -14,22 +14,22 @@ use Rattle.world_core.proofs.world.World.figures.Goals as goal
 
 -- ---- alone_in
 
-pub alone_in-requires-clause-short : goal.alone_in-requires-clause-short
-alone_in-requires-clause-short c =
+pub alone_in-requires-clause-length_max : goal.alone_in-requires-clause-length_max
+alone_in-requires-clause-length_max c =
     let procs = c.self.inside.procs.items in
     let p = c.index-proc.result.now in
     let is = subst (λ (w : WorldView). HasStation w.net c.args.station) (sym c.self.view_is) c.requires.is_station in
     let many = c.self.invariant.count in
     let got = got_at procs (c.args.station - 1) p (omega (arith, is.low, is.high, many)) c.index-proc.ensures in
     let proc = (c.self.invariant.each (c.args.station - 1) p got).station.proc in
-    let short = c.self.invariant.valid.short in
+    let short = c.self.invariant.valid.limit_max in
     all_of_map (λ (a : StationCopy). length a.log ≤ MAX_LIMIT) but_pending c.copies-2.result.now
     (subst (AllByRecursion (λ (a : StationCopy). length a.log ≤ MAX_LIMIT)) (sym c.copies-2.ensures.same)
     (all_map (λ (a : StationCopy). length a.log ≤ MAX_LIMIT) but_pending p.copies
     (all_short c.self.inside.model.value p.station p.copies (omega (arith, short)) proc.copies)))
 
-pub alone_in-requires-clause-few : goal.alone_in-requires-clause-few
-alone_in-requires-clause-few c =
+pub alone_in-requires-clause-at_most : goal.alone_in-requires-clause-at_most
+alone_in-requires-clause-at_most c =
     let procs = c.self.inside.procs.items in
     let p = c.index-proc.result.now in
     let is = subst (λ (w : WorldView). HasStation w.net c.args.station) (sym c.self.view_is) c.requires.is_station in

@@ -23,5 +23,5 @@ pub returns-clause-first : goal.returns-clause-first
 returns-clause-first c = λ d less alike.
     let first = subst (λ (k : CloneSet). IsFirst k c.in-Some.first) c.set.ensures.value c.in-Some.ensures.some in
     let within = first_within c.copy.result.now.set c.in-Some.first c.args.who first c.copy.ensures.is_in in
-    let there = c.requires.there in
+    let there = c.requires.in_range in
     false≢true (sym (first.least d less) ∙ c.copy.ensures.alike d (omega (arith, less, within, there)) alike)

@@ -18,7 +18,7 @@ loop-i-preserved c =
     let p = c.index.result.now in
     let l : c.loop-i.i < length procs =
     omega (arith, c.loop-i-test.true, c.loop-i.auto.i-end, c.len-i-end.ensures, c.self.inside.procs.ok.0) in
-    let there = subst (λ (w : WorldView). c.args.c < length w.clones) (sym c.self.view_is) c.requires.there in
+    let there = subst (λ (w : WorldView). c.args.c < length w.clones) (sym c.self.view_is) c.requires.in_range in
     record {
       within = omega (arith, l);
       least = c.earlier-least.ensures.value ∙ least_of_next net c.self.inside.lists.clones ended c.self.inside.front
@@ -32,7 +32,7 @@ loop-i-preserved c =
 
 pub returns : goal.returns
 returns c =
-    let there = subst (λ (w : WorldView). c.args.c < length w.clones) (sym c.self.view_is) c.requires.there in
+    let there = subst (λ (w : WorldView). c.args.c < length w.clones) (sym c.self.view_is) c.requires.in_range in
     let within = c.loop-i.invariant.within in
     record {
       value = subst (λ (w : WorldView). c.loop-i.least ≡ least_of (simulation w.net)

@@ -10,7 +10,7 @@ returns-clause-in_net c = subst (λ (w : WorldView). AreInNet w.net w.clones) c.
     (clones_in_net c.self.inside.model.value c.self.inside.lists.clones c.self.inside.ends c.self.inside.front
     c.self.inside.procs.items c.self.invariant)
 
-pub returns-clause-short : goal.returns-clause-short
-returns-clause-short c = subst (λ (w : WorldView). NoneBeyond w.net w.clones w.front) c.self.view_is
+pub returns-clause-length_max : goal.returns-clause-length_max
+returns-clause-length_max c = subst (λ (w : WorldView). NoneBeyond w.net w.clones w.front) c.self.view_is
     (none_is_beyond c.self.inside.model.value c.self.inside.lists.clones c.self.inside.ends c.self.inside.front
     c.self.inside.procs.items c.self.invariant)

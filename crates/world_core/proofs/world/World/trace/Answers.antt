@@ -28,7 +28,7 @@ loop-i-preserved c =
 pub returns : goal.returns
 returns c =
     let w = c.self.inside in
-    let there = subst (λ (w : WorldView). c.args.who < length w.clones) (sym c.self.view_is) c.requires.there in
+    let there = subst (λ (w : WorldView). c.args.who < length w.clones) (sym c.self.view_is) c.requires.in_range in
     let many = ap (λ (n : Net). length n.sites) c.deref.ensures in
     let merged = subst (λ (w : WorldView). c.loop-i.trace.items
     ≡ merge_of_logs (simulation w.net) sender_of number_of (clone_at w.clones c.args.who) w.front c.loop-i.i)

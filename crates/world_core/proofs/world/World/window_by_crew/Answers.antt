@@ -79,8 +79,8 @@ returns-clause-steps g c =
     all.stepped in
     h.steps c.in_default.is
 
-pub returns-clause-short : goal.returns-clause-short
-returns-clause-short g c =
+pub returns-clause-length_max : goal.returns-clause-length_max
+returns-clause-length_max g c =
     let i = c.self.inside in
     let procs = i.procs.items in
     let bounds = c.bound_all.new.self.bounds.items in
@@ -92,4 +92,4 @@ returns-clause-short g c =
     c.self.view_is c.requires.above c.requires.within bounds many c.in_ok-bound_all.ensures.bounds c.in_ok-work.work.value.net c.in_ok-work.work.value.ends
     all.news all.sent s.over c.args.steps.now c.step_by_crew.new.steps (ap (λ v. v.net) c.in_ok-work.ensures.value) (ap (λ v. v.ends) c.in_ok-work.ensures.value)
     all.stepped in
-    h.short c.in_default.is
+    h.length_max c.in_default.is

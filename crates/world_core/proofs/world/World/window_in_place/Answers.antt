@@ -96,8 +96,8 @@ returns-clause-steps g c =
     c.in_ok-stepped.ensures.stepped in
     h.steps c.in_default.is
 
-pub returns-clause-short : goal.returns-clause-short
-returns-clause-short g c =
+pub returns-clause-length_max : goal.returns-clause-length_max
+returns-clause-length_max g c =
     let i = c.self.inside in
     let procs = i.procs.items in
     let bounds = c.bound_all.new.self.bounds.items in
@@ -108,4 +108,4 @@ returns-clause-short g c =
     c.self.view_is c.requires.above c.requires.within bounds many c.in_ok-bound_all.ensures.bounds c.deref.result.now c.ends-2.result.now
     s.procs.items s.buffers.sent.items s.over c.args.steps.now c.step_in_place.new.steps c.deref.ensures c.ends-2.ensures.value
     c.in_ok-stepped.ensures.stepped in
-    h.short c.in_default.is
+    h.length_max c.in_default.is

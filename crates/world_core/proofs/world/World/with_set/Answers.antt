@@ -15,7 +15,7 @@ pub invariant_of-result : goal.invariant_of-result
 invariant_of-result c =
     let net = c.self.inside.model.value in
     let cs = c.self.inside.lists.clones in
-    let there = subst (λ (w : WorldView). c.args.who < length w.clones) (sym c.self.view_is) c.requires.there in
+    let there = subst (λ (w : WorldView). c.args.who < length w.clones) (sym c.self.view_is) c.requires.in_range in
     let is = subst (λ (w : WorldView). HasStation w.net c.args.plan.station)
     (sym c.self.view_is) c.requires.is_station in
     let late = subst (λ (w : WorldView). w.front ≤ c.args.plan.at) (sym c.self.view_is) c.requires.not_late in
