@@ -9,7 +9,7 @@
 //! ```
 //!
 //! If some argument is not text, `cloner` gets no words, and reports that the command line has no known form. If memory
-//! runs out while the words are made, `run_or_complain` writes the line of status 1. Its exit code is the status that
+//! runs out while the words are made, `run_words` writes the line of status 1. Its exit code is the status that
 //! `cloner` returns, for inputs and sinks of every kind. `main` makes the words and the real files and sinks, and
 //! returns that exit code.
 //!
@@ -86,7 +86,7 @@ fn run<I: Inputs, O: Sink, E: Sink, L: Ledger, R: Threads + Wait + Sync>(
 }
 
 // Writes the error line for out of memory.
-fn complain<E: Sink>(err: &mut E) -> ExitCode
+fn report_no_memory<E: Sink>(err: &mut E) -> ExitCode
     ensures status { exit_status result ≡ 1 }
     ensures told { ArePutOrCut (error_line Refusal.OutOfMemory ∷ []) (E.view err.old) (E.view err.new) }
 {
@@ -97,7 +97,7 @@ fn complain<E: Sink>(err: &mut E) -> ExitCode
 }
 
 // The exit code: that of the run, or that of out of memory if the words could not be made.
-fn run_or_complain<I: Inputs, O: Sink, E: Sink, L: Ledger, R: Threads + Wait + Sync>(
+fn run_words<I: Inputs, O: Sink, E: Sink, L: Ledger, R: Threads + Wait + Sync>(
     rt: &R,
     alloc: Global,
     words: Result<Vec<Word>, NoMemory>,
@@ -129,7 +129,7 @@ fn run_or_complain<I: Inputs, O: Sink, E: Sink, L: Ledger, R: Threads + Wait + S
 {
     match words {
         Ok(words) => run::<I, O, E, L, R>(rt, alloc, words.as_slice(), inputs, out, err, blank),
-        Err(NoMemory) => complain(err),
+        Err(NoMemory) => report_no_memory(err),
     }
 }
 
@@ -138,7 +138,7 @@ fn main(rt: HostRuntime) -> ExitCode {
     let mut inputs = FileInputs::new(&rt);
     let mut out = OutSink::new(&rt);
     let mut err = ErrSink::new(&rt);
-    run_or_complain::<_, _, _, Brand, HostRuntime>(
+    run_words::<_, _, _, Brand, HostRuntime>(
         &rt,
         rt.alloc(),
         words,

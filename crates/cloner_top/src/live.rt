@@ -78,7 +78,7 @@ fn run_and_journal<G: Gate, L: Ledger, R: Threads + Wait + Sync>(
 }
 
 // Runs the study to its end. Returns the world at the horizon and the text of its journal.
-fn run_live<G: Gate, L: Ledger, R: Threads + Wait + Sync>(
+fn run_to_end<G: Gate, L: Ledger, R: Threads + Wait + Sync>(
     resources: &Resources<'_, G, R>,
     study: &Study,
     steps: &mut Steps<L>,
@@ -105,7 +105,7 @@ pub(crate) fn write_live<O: Sink, G: Gate, L: Ledger, R: Threads + Wait + Sync>(
     ensures err { IfErr result (λ h. IsHalted (MayLive study.now.model.value study.now.script) steps.old steps.new
         (O.view out.old) (O.view out.new) h) }
 {
-    let (world, journal) = match run_live(resources, study, steps) {
+    let (world, journal) = match run_to_end(resources, study, steps) {
         Ok(ran) => ran,
         Err(halt) => return Err(halt),
     };

@@ -65,7 +65,7 @@ fn prepare_and_write<I: Inputs, O: Sink, G: Gate, L: Ledger, R: Threads + Wait +
 }
 
 // Writes the error line. A failed write changes nothing else.
-fn complain<E: Sink>(err: &mut E, refusal: &Refusal) -> u8
+fn report_error<E: Sink>(err: &mut E, refusal: &Refusal) -> u8
     ensures status { result ≡ status_of refusal.now }
     ensures told { ArePutOrCut (error_line refusal.now ∷ []) (E.view err.old) (E.view err.new) }
 {
@@ -76,7 +76,7 @@ fn complain<E: Sink>(err: &mut E, refusal: &Refusal) -> u8
 
 // Writes the journal of a live study that exceeded the limit, and then the error line. If the journal is cut off, the
 // line is not written.
-fn complain_of_limit<E: Sink>(err: &mut E, journal: &[u8], excess: &Excess) -> u8
+fn report_limit<E: Sink>(err: &mut E, journal: &[u8], excess: &Excess) -> u8
     ensures status { result ≡ excess_status excess.now }
     ensures told { ArePutOrCut (journal.now ∷ excess_line excess.now ∷ []) (E.view err.old) (E.view err.new) }
 {
@@ -99,7 +99,7 @@ fn words_refused(fault: WordsFault) -> Refusal
 }
 
 // Runs the command line, and writes the error line if there is no output. Returns the exit status.
-fn obey_or_complain<I: Inputs, O: Sink, E: Sink, G: Gate, L: Ledger, R: Threads + Wait + Sync>(
+fn run_or_report<I: Inputs, O: Sink, E: Sink, G: Gate, L: Ledger, R: Threads + Wait + Sync>(
     rt: &R,
     alloc: Global,
     words: &[Word],
@@ -121,16 +121,12 @@ fn obey_or_complain<I: Inputs, O: Sink, E: Sink, G: Gate, L: Ledger, R: Threads 
 {
     let request = match read_words(alloc, words) {
         Ok(request) => request,
-        Err(fault) => return complain(err, &words_refused(fault)),
+        Err(fault) => return report_error(err, &words_refused(fault)),
     };
     match prepare_and_write(rt, alloc, &request, inputs, out, gate, steps) {
         Ok(()) => 0,
-        Err(Halt::Refused(refusal)) => complain(err, &refusal),
-        Err(Halt::Overrun { journal, excess }) => complain_of_limit(
-            err,
-            journal.as_slice(),
-            &excess,
-        ),
+        Err(Halt::Refused(refusal)) => report_error(err, &refusal),
+        Err(Halt::Overrun { journal, excess }) => report_limit(err, journal.as_slice(), &excess),
     }
 }
 
@@ -214,5 +210,5 @@ pub fn cloner<R: Threads + Wait + Sync, I: Inputs, O: Sink, E: Sink, G: Gate, L:
         (outside_of (I.view inputs.new) (O.view out.new) (E.view err.new) steps.new)
         result }
 {
-    obey_or_complain(rt, alloc, words, inputs, out, err, gate, steps)
+    run_or_report(rt, alloc, words, inputs, out, err, gate, steps)
 }

@@ -33,18 +33,18 @@ fn is_memory(error: &Error) -> bool
 }
 
 // Recalls that a word is a text: its bytes are UTF-8.
-fn note_text(word: &Word)
+fn recall_text(word: &Word)
     ensures text { is_utf8 word.now ≡ true }
 {
     let _bytes = word.text().as_bytes();
 }
 
 // Recalls this for all words; it has no other effect.
-fn note_texts(words: &[Word])
+fn recall_texts(words: &[Word])
     ensures texts { list_all is_utf8 words.now ≡ true }
 {
     for word in words {
-        note_text(word);
+        recall_text(word);
     }
 }
 
@@ -60,7 +60,7 @@ pub(crate) fn given_words<'a>(
     // the values lead to the same request as the words
     ensures asks { IfOk result (λ g. option_and_then (λ v. form_of (given_view v)) g ≡ form words.entry.now) }
 {
-    note_texts(words);
+    recall_texts(words);
     let matches = match command(alloc)?.try_get_matches_from(words) {
         Ok(matches) => matches,
         Err(error) => {

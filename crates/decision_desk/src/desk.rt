@@ -9,7 +9,7 @@ ghost use Rattle.decision_desk.specs.Passes.{IsAsked, IsFinalBook, late_front, p
 
 use crate::helm::Helm;
 use crate::legal::LegalBook;
-use crate::pass::{Pass, Receipt, take_turn};
+use crate::pass::{Pass, Receipt, decide_in_turn};
 use crate::turns::{DeskRule, Share, look_at_front};
 use crate::view::View;
 use atomic_table::{Refused, Table};
@@ -134,7 +134,7 @@ impl Desk {
             caller,
             receipts,
         } = pass;
-        let receipt = take_turn(rt, &self.table.shared, seat, *caller, &d);
+        let receipt = decide_in_turn(rt, &self.table.shared, seat, *caller, &d);
         if receipt.entry.is_some() {
             let Ok(()) = receipts.push(receipt) else {
                 unreachable!()

@@ -128,7 +128,7 @@ pub(crate) fn leave_full(board: &Board, seat: &mut Chair, book: LegalBook)
 }
 
 /// A turn of a pass.
-pub(crate) fn take_turn<R: Wait>(
+pub(crate) fn decide_in_turn<R: Wait>(
     rt: &R,
     board: &Board,
     seat: &mut Chair,

@@ -132,28 +132,28 @@ look-holds who station = where_form-IfOk IsMeaning (is_name who && is_name stati
     (λ h. and_parts (is_name who) (is_name station) h)
 
 -- a fork too
-fork-holds : (new link old : List ℕ) → IfOk (fork new link old) IsMeaning
+fork-holds : (new keyword old : List ℕ) → IfOk (fork new keyword old) IsMeaning
 unfolding fork
-fork-holds new link old = where_form-IfOk IsMeaning ((bytes_eq link (codes "from") && is_name new) && is_name old)
+fork-holds new keyword old = where_form-IfOk IsMeaning ((bytes_eq keyword (codes "from") && is_name new) && is_name old)
     (Ok (Says (Decide (Fork new old)))) (λ h.
-    let (link_and_new, o) = and_parts (bytes_eq link (codes "from") && is_name new) (is_name old) h in
-    ((and_parts (bytes_eq link (codes "from")) (is_name new) link_and_new).1, o))
+    let (keyword_and_new, o) = and_parts (bytes_eq keyword (codes "from") && is_name new) (is_name old) h in
+    ((and_parts (bytes_eq keyword (codes "from")) (is_name new) keyword_and_new).1, o))
 
 -- an end has a name, and a time that fits
-end-holds : (who link time : List ℕ) → IfOk (end who link time) IsMeaning
+end-holds : (who keyword time : List ℕ) → IfOk (end who keyword time) IsMeaning
 unfolding end
-end-holds who link time = where_form-IfOk IsMeaning (bytes_eq link (codes "at") && is_name who) _ (λ h.
+end-holds who keyword time = where_form-IfOk IsMeaning (bytes_eq keyword (codes "at") && is_name who) _ (λ h.
     bind-IfOk Fits32 IsMeaning (word_number time) _ (word_number-fits time)
-    (λ at fits. ((and_parts (bytes_eq link (codes "at")) (is_name who) h).1, fits)))
+    (λ at fits. ((and_parts (bytes_eq keyword (codes "at")) (is_name who) h).1, fits)))
 
 -- a set has two names, a time that fits, and a change
-set-holds : (who link time station word : List ℕ) (values : List (List ℕ))
-    → IfOk (set who link time station word values) IsMeaning
+set-holds : (who keyword time station word : List ℕ) (values : List (List ℕ))
+    → IfOk (set who keyword time station word values) IsMeaning
 unfolding set
-set-holds who link time station word values =
-    where_form-IfOk IsMeaning ((bytes_eq link (codes "at") && is_name who) && is_name station) _ (λ h.
-    let (link_and_who, s) = and_parts (bytes_eq link (codes "at") && is_name who) (is_name station) h in
-    let w = (and_parts (bytes_eq link (codes "at")) (is_name who) link_and_who).1 in
+set-holds who keyword time station word values =
+    where_form-IfOk IsMeaning ((bytes_eq keyword (codes "at") && is_name who) && is_name station) _ (λ h.
+    let (keyword_and_who, s) = and_parts (bytes_eq keyword (codes "at") && is_name who) (is_name station) h in
+    let w = (and_parts (bytes_eq keyword (codes "at")) (is_name who) keyword_and_who).1 in
     bind-IfOk (Takes (length values)) IsMeaning (param_of word (length values)) _
     (with_values-holds (param_of_word word) (length values)) (λ param takes.
     bind-IfOk Fits32 IsMeaning (word_number time) _ (word_number-fits time) (λ at fits.

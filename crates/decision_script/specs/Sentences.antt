@@ -63,22 +63,23 @@ look who station = where_form (is_name who && is_name station) (Ok (Says (Look w
 
 -- fork NEW from OLD
 unfoldable pub fork : List ℕ → List ℕ → List ℕ → Result Meaning LineFault
-fork new link old =
-    where_form ((bytes_eq link (codes "from") && is_name new) && is_name old) (Ok (Says (Decide (Fork new old))))
+fork new keyword old =
+    where_form ((bytes_eq keyword (codes "from") && is_name new) && is_name old) (Ok (Says (Decide (Fork new old))))
 
 -- end CLONE at TIME
 unfoldable pub end : List ℕ → List ℕ → List ℕ → Result Meaning LineFault
-end who link time = where_form (bytes_eq link (codes "at") && is_name who) (do
+end who keyword time = where_form (bytes_eq keyword (codes "at") && is_name who) (do
   at ← word_number time
   Ok (Says (Decide (End who at))))
 
 -- set CLONE at TIME STATION PARAMETER VALUES
 unfoldable pub set : List ℕ → List ℕ → List ℕ → List ℕ → List ℕ → List (List ℕ) → Result Meaning LineFault
-set who link time station word values = where_form ((bytes_eq link (codes "at") && is_name who) && is_name station) (do
-  param ← param_of word (length values)
-  at ← word_number time
-  change ← change_of param values
-  Ok (Says (Decide (Set who at station change))))
+set who keyword time station word values = where_form ((bytes_eq keyword (codes "at") && is_name who) && is_name
+    station) (do
+      param ← param_of word (length values)
+      at ← word_number time
+      change ← change_of param values
+      Ok (Says (Decide (Set who at station change))))
 
 -- what follows each first word; analyst: a name
 abbrev pub after_analyst : List (List ℕ) → Result Meaning LineFault
@@ -92,17 +93,17 @@ after_look _ = Err BadLine
 
 -- fork: a new name, a keyword, and an old name
 abbrev pub after_fork : List (List ℕ) → Result Meaning LineFault
-after_fork (new ∷ link ∷ old ∷ []) = fork new link old
+after_fork (new ∷ keyword ∷ old ∷ []) = fork new keyword old
 after_fork _ = Err BadLine
 
 -- end: a clone, a keyword, and a time
 abbrev pub after_end : List (List ℕ) → Result Meaning LineFault
-after_end (who ∷ link ∷ time ∷ []) = end who link time
+after_end (who ∷ keyword ∷ time ∷ []) = end who keyword time
 after_end _ = Err BadLine
 
 -- set: a clone, a keyword, a time, a station, a parameter, and its values
 abbrev pub after_set : List (List ℕ) → Result Meaning LineFault
-after_set (who ∷ link ∷ time ∷ station ∷ word ∷ values) = set who link time station word values
+after_set (who ∷ keyword ∷ time ∷ station ∷ word ∷ values) = set who keyword time station word values
 after_set _ = Err BadLine
 
 -- the meaning of a line by its first word and the others

@@ -88,10 +88,10 @@ fn look_line(who: &[u8], station: &[u8]) -> Result<Meaning, LineFault>
 }
 
 #[tactic(auto, unfolding(crate::specs::Sentences::fork))]
-fn fork_line(new: &[u8], link: &[u8], old: &[u8]) -> Result<Meaning, LineFault>
-    ensures value { result ≡ fork new.now link.now old.now }
+fn fork_line(new: &[u8], keyword: &[u8], old: &[u8]) -> Result<Meaning, LineFault>
+    ensures value { result ≡ fork new.now keyword.now old.now }
 {
-    if link != b"from".as_slice() {
+    if keyword != b"from".as_slice() {
         return Err(LineFault::BadLine);
     }
     let new = read_name(new)?;
@@ -100,10 +100,10 @@ fn fork_line(new: &[u8], link: &[u8], old: &[u8]) -> Result<Meaning, LineFault>
 }
 
 #[tactic(auto, unfolding(crate::specs::Sentences::end))]
-fn end_line(who: &[u8], link: &[u8], time: &[u8]) -> Result<Meaning, LineFault>
-    ensures value { result ≡ end who.now link.now time.now }
+fn end_line(who: &[u8], keyword: &[u8], time: &[u8]) -> Result<Meaning, LineFault>
+    ensures value { result ≡ end who.now keyword.now time.now }
 {
-    if link != b"at".as_slice() {
+    if keyword != b"at".as_slice() {
         return Err(LineFault::BadLine);
     }
     let who = read_name(who)?;
@@ -114,15 +114,15 @@ fn end_line(who: &[u8], link: &[u8], time: &[u8]) -> Result<Meaning, LineFault>
 #[tactic(auto, unfolding(crate::specs::Sentences::set))]
 fn set_line(
     who: &[u8],
-    link: &[u8],
+    keyword: &[u8],
     time: &[u8],
     station: &[u8],
     word: &[u8],
     values: &[&[u8]],
 ) -> Result<Meaning, LineFault>
-    ensures value { result ≡ set who.now link.now time.now station.now word.now (map (λ w. w.now) values.now) }
+    ensures value { result ≡ set who.now keyword.now time.now station.now word.now (map (λ w. w.now) values.now) }
 {
-    if link != b"at".as_slice() {
+    if keyword != b"at".as_slice() {
         return Err(LineFault::BadLine);
     }
     let who = read_name(who)?;
@@ -160,7 +160,7 @@ fn fork_words(words: &[&[u8]]) -> Result<Meaning, LineFault>
     ensures value { result ≡ after_fork (map (λ w. w.now) words.now) }
 {
     match words {
-        [new, link, old] => fork_line(new, link, old),
+        [new, keyword, old] => fork_line(new, keyword, old),
         _ => Err(LineFault::BadLine),
     }
 }
@@ -169,7 +169,7 @@ fn end_words(words: &[&[u8]]) -> Result<Meaning, LineFault>
     ensures value { result ≡ after_end (map (λ w. w.now) words.now) }
 {
     match words {
-        [who, link, time] => end_line(who, link, time),
+        [who, keyword, time] => end_line(who, keyword, time),
         _ => Err(LineFault::BadLine),
     }
 }
@@ -178,14 +178,14 @@ fn set_words(words: &[&[u8]]) -> Result<Meaning, LineFault>
     ensures value { result ≡ after_set (map (λ w. w.now) words.now) }
 {
     match words {
-        [who, link, time, station, word, values @ ..] => {
-            set_line(who, link, time, station, word, values)
+        [who, keyword, time, station, word, values @ ..] => {
+            set_line(who, keyword, time, station, word, values)
         }
         _ => Err(LineFault::BadLine),
     }
 }
 
-fn sentence_of(verb: &[u8], rest: &[&[u8]]) -> Result<Meaning, LineFault>
+fn parse_command(verb: &[u8], rest: &[&[u8]]) -> Result<Meaning, LineFault>
     ensures value { result ≡ sentence verb.now (map (λ w. w.now) rest.now) }
 {
     if verb == b"analyst".as_slice() {
@@ -213,7 +213,7 @@ pub fn is_comment(word: &[u8]) -> bool
     }
 }
 
-fn saying_of_words(words: &[&[u8]]) -> Result<Meaning, LineFault>
+fn parse_words(words: &[&[u8]]) -> Result<Meaning, LineFault>
     ensures value { result ≡ saying (map (λ w. w.now) words.now) }
 {
     match words {
@@ -222,7 +222,7 @@ fn saying_of_words(words: &[&[u8]]) -> Result<Meaning, LineFault>
             if is_comment(verb) {
                 Ok(Meaning::Nothing)
             } else {
-                sentence_of(verb, rest)
+                parse_command(verb, rest)
             }
         }
     }
@@ -251,7 +251,7 @@ pub fn words_of(alloc: Global, line: &[u8]) -> Result<Vec<&[u8]>, AllocError>
 }
 
 /// The meaning of a line.
-pub(crate) fn saying_of_line(alloc: Global, line: &[u8]) -> Result<Meaning, LineFault>
+pub(crate) fn parse_line(alloc: Global, line: &[u8]) -> Result<Meaning, LineFault>
     ensures value { MatchResult result (λ s. line_saying line.now ≡ Ok s)
         (λ e. e ≢ LineFault.NoMemory → line_saying line.now ≡ Err e) }
 {
@@ -259,7 +259,7 @@ pub(crate) fn saying_of_line(alloc: Global, line: &[u8]) -> Result<Meaning, Line
         return Err(LineFault::NotAscii);
     }
     match words_of(alloc, line) {
-        Ok(words) => saying_of_words(words.as_slice()),
+        Ok(words) => parse_words(words.as_slice()),
         Err(_) => Err(LineFault::NoMemory),
     }
 }

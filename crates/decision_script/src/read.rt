@@ -7,7 +7,7 @@ ghost use Rattle.decision_script.specs.Reading.{after_lines, fault_at, script, n
 
 use crate::fault::{LineFault, ScriptFault};
 use crate::item::{Act, Item, push_item};
-use crate::line::{Meaning, saying_of_line};
+use crate::line::{Meaning, parse_line};
 use crate::script::{MAX_ANALYSTS, MAX_ITEMS, Script};
 use sim_base::{MAX_FILE_BYTES, Name};
 use std::alloc::Global;
@@ -106,7 +106,7 @@ impl Reader {
         ensures ok { OnOk result (after_line line self.old text.now ≡ Ok self.new) }
         ensures refused { IfErr result (λ e. e ≢ ScriptFault.NoMemory → after_line line self.old text.now ≡ Err e) }
     {
-        match saying_of_line(alloc, text) {
+        match parse_line(alloc, text) {
             Ok(said) => self.take(line, said),
             Err(broken) => Err(fault_of_line(line, broken)),
         }

@@ -30,7 +30,7 @@ pub struct LinkedWorld {
 }
 
 // Opens the world of all clones that the calls create, before the first round.
-fn open_world(alloc: Global, model: &Arc<Model>, calls: &[Call]) -> Result<LinkWorld, NoMemory>
+fn open_link_world(alloc: Global, model: &Arc<Model>, calls: &[Call]) -> Result<LinkWorld, NoMemory>
     requires accepted { AreAccepted model.now.value (base ∷ []) 0 calls.now }
     ensures opens { IfOk result (λ w. w ≡ record {
       net = model.now.value;
@@ -108,7 +108,7 @@ pub fn run_linked_sequentially<L: Ledger>(
     ensures runs { IsLinkedRun model.now.value (clones_after_calls model.now.value (base ∷ []) calls.now)
         steps.old steps.new result }
 {
-    match open_world(alloc, model, calls) {
+    match open_link_world(alloc, model, calls) {
         Ok(world) => run_alone_to_horizon(alloc, world, steps),
         Err(NoMemory) => Err(StudyFault::NoMemory),
     }
@@ -138,7 +138,7 @@ pub fn run_linked<G: Gate, L: Ledger, R: Threads + Wait + Sync>(
     if workers.count == 1 {
         return run_linked_sequentially(alloc, model, calls, steps);
     }
-    match open_world(alloc, model, calls) {
+    match open_link_world(alloc, model, calls) {
         Ok(world) => run_to_horizon(rt, alloc, workers, gate, world, steps),
         Err(NoMemory) => Err(StudyFault::NoMemory),
     }

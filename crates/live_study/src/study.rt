@@ -32,7 +32,7 @@ use std::thread::Threads;
 use world_core::World;
 
 // The world at time 0, and a rack of each of its stations.
-fn open_world(alloc: Global, model: &Arc<Model>) -> Result<(World, Vec<Rack>), NoMemory>
+fn open_world_and_racks(alloc: Global, model: &Arc<Model>) -> Result<(World, Vec<Rack>), NoMemory>
     ensures world { IfOk result (λ r. r.0 ≡ opening_world model.now.value) }
     ensures racks { IfOk result (λ r. AreOpeningRacks r.0 (length model.now.value.sites) r.1.items) }
 {
@@ -71,7 +71,7 @@ fn prepare(alloc: Global, model: &Arc<Model>, script: &Script) -> Result<Prepare
 {
     let reserve = reserve_for(alloc, script)?;
     let watched = watched_in(alloc, model, script)?;
-    let (world, racks) = open_world(alloc, model)?;
+    let (world, racks) = open_world_and_racks(alloc, model)?;
     let (desk, passes, helm) = open_desk(alloc, model, script)?;
     Ok(Prepared {
         world,

@@ -68,7 +68,7 @@ fn give(copy: &mut PhysCopy, lower_bound: &mut u64, msg: Msg, set: CloneSet) -> 
 
 // Adds a message to the copies, for their clones in the set, and returns the index of the last copy that got it. No
 // clone is in two copies, so the search stops once all clones of the set are found.
-fn deliver(
+fn deliver_in_order(
     copies: &mut Vec<PhysCopy>,
     bounds: &mut Vec<u64>,
     msg: Msg,
@@ -105,14 +105,14 @@ fn deliver_from(
     ensures each { AllZip IsLowerBound bounds.new.items copies.new.items }
 {
     if guess >= copies.len() {
-        return deliver(copies, bounds, msg, set);
+        return deliver_in_order(copies, bounds, msg, set);
     }
     let rest = set.minus(copies[guess].set);
     give(&mut copies[guess], &mut bounds[guess], msg, set)?;
     if rest.is_empty() {
         return Ok(guess);
     }
-    let place = deliver(copies, bounds, msg, rest)?;
+    let place = deliver_in_order(copies, bounds, msg, rest)?;
     Ok(place)
 }
 
@@ -202,7 +202,12 @@ impl Copies {
 
     /// Adds a message to the copies, for their clones in the set. The search begins at the index `guess`, and the index
     /// where it ends is returned.
-    pub fn deliver(&mut self, msg: Msg, set: CloneSet, guess: usize) -> Result<usize, NoMemory>
+    pub fn deliver_by_hint(
+        &mut self,
+        msg: Msg,
+        set: CloneSet,
+        guess: usize,
+    ) -> Result<usize, NoMemory>
         requires disjoint { Disjoint has self.old }
         ensures given { OnOk result (self.new ≡ map (with_message msg set) self.old) }
         ensures same { map but_pending self.new ≡ map but_pending self.old }

@@ -269,7 +269,7 @@ impl Proc {
         ensures handled { self.new.handled ≡ self.old.handled }
     {
         let guess = guess_of(self.places.as_slice(), set);
-        let place = self.copies.deliver(msg, set, guess)?;
+        let place = self.copies.deliver_by_hint(msg, set, guess)?;
         note_place(&mut self.places, set, place);
         Ok(())
     }

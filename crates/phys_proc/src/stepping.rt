@@ -19,7 +19,7 @@ use std::sync::ledger::Ledger;
 // Steps the copies in place, and returns a lower bound of their pending times. Copies whose clones part are taken out,
 // and the resulting copies are put with the finished ones. A copy is only read if its time in `bounds` is before the
 // bound.
-fn step_in_place<L: Ledger>(
+fn step_copies_in_place<L: Ledger>(
     alloc: Global,
     copies: &mut Vec<PhysCopy>,
     bounds: &mut Vec<u64>,
@@ -105,7 +105,7 @@ pub(crate) fn step_copies<L: Ledger>(
         return Ok(());
     }
     let (mut standing, mut bounds) = copies.into_parts();
-    let lower_bound = step_in_place(
+    let lower_bound = step_copies_in_place(
         alloc,
         &mut standing,
         &mut bounds,

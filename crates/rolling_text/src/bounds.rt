@@ -21,7 +21,7 @@ use trace_report::{MAX_LINE, Names, line_len};
 use world_core::World;
 
 // Recalls for each entry of a log from a time on that its line is at most `MAX_LINE` bytes.
-fn meet_log(model: &Model, names: &Names, log: &Log, from: u64)
+fn recall_log(model: &Model, names: &Names, log: &Log, from: u64)
     requires names { AreNames model.now names.now }
     requires rises { RiseByTime log.now }
     ensures length_max { HaveShortLines model.now (from_time from log.now) }
@@ -33,7 +33,7 @@ fn meet_log(model: &Model, names: &Names, log: &Log, from: u64)
 }
 
 // The same for all entries of a clone from a time on.
-fn meet_rest(world: &World, names: &Names, c: u32, from: u64)
+fn recall_rest(world: &World, names: &Names, c: u32, from: u64)
     requires may_trace { MayTrace world.now names.now }
     requires in_range { c < length world.now.clones }
     ensures length_max { HaveShortLines world.now.net (entries_from (simulation world.now.net) from
@@ -41,7 +41,7 @@ fn meet_rest(world: &World, names: &Names, c: u32, from: u64)
 {
     let model = world.model();
     for s in 0..model.len() {
-        meet_log(model, names, world.log(c, s + 1), from);
+        recall_log(model, names, world.log(c, s + 1), from);
     }
 }
 
@@ -80,7 +80,7 @@ pub(crate) fn greatest_bound(traces: &WorldTraces<'_>) -> usize
     for c in 0..traces.len() {
         let from = parting_at(traces, c);
         let place = place_in(traces.world, &traces.order, c);
-        meet_rest(traces.world, &traces.names, place, from);
+        recall_rest(traces.world, &traces.names, place, from);
         most = most.max(bound_of(traces.world, place));
     }
     most

@@ -126,7 +126,7 @@ fn bytes_between(traces: &WorldTraces<'_>, c: u32, from: u64, until: u64) -> usi
 
 // Puts the text of a clone. The page has lines of the previous clone; their last `dropped` bytes do not belong to this
 // clone. Returns the number of kept bytes that the next clone drops.
-fn put_text<'t, O: Sink, P: SpanPutter<'t>>(
+fn put_clone_text<'t, O: Sink, P: SpanPutter<'t>>(
     traces: &WorldTraces<'t>,
     putter: &mut P,
     texts: &mut Texts<'t>,
@@ -193,7 +193,7 @@ fn put_all<'t, O: Sink, P: SpanPutter<'t>>(
     let clones = traces.len();
     let mut dropped = 0;
     for c in 0..clones {
-        match put_text(traces, putter, texts, c, dropped, out) {
+        match put_clone_text(traces, putter, texts, c, dropped, out) {
             Ok(drops) => dropped = drops,
             Err(failed) => return Err(failed),
         }

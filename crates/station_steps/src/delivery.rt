@@ -17,7 +17,7 @@ pub fn deliver_to(procs: &mut Vec<TimedProc>, msg: Msg, set: CloneSet) -> Result
 {
     if 1 <= msg.to && msg.to as usize <= procs.len() {
         let i = msg.to as usize - 1;
-        procs[i].deliver(msg, set)?;
+        procs[i].deliver_at_once(msg, set)?;
     }
     Ok(())
 }

@@ -195,7 +195,7 @@ impl TimedProc {
     /// Delivers a message to those of its clones that are in the set.
     ///
     /// Out of memory: some of the copies may have it; nothing else of them has changed.
-    pub fn deliver(&mut self, msg: Msg, set: CloneSet) -> Result<(), NoMemory>
+    pub fn deliver_at_once(&mut self, msg: Msg, set: CloneSet) -> Result<(), NoMemory>
         requires target { msg.to ≡ self.old.station }
         ensures given { OnOk result (self.new.copies ≡ map (with_message msg set) self.old.copies) }
         ensures proc { OnOk result ((net : Net) → IsProc net self.old → IsProc net self.new) }

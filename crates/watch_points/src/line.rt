@@ -89,7 +89,7 @@ fn watch_of_words(line: u32, words: &[&[u8]]) -> Result<Watch, LineFault>
 }
 
 // What a line says, by its first word and the words after it.
-fn sentence_of(line: u32, verb: &[u8], rest: &[&[u8]]) -> Result<Option<Watch>, LineFault>
+fn parse_command(line: u32, verb: &[u8], rest: &[&[u8]]) -> Result<Option<Watch>, LineFault>
     ensures value { result ≡ sentence line verb.now (map (λ w. w.now) rest.now) }
 {
     if verb != b"watch".as_slice() {
@@ -100,7 +100,7 @@ fn sentence_of(line: u32, verb: &[u8], rest: &[&[u8]]) -> Result<Option<Watch>, 
 }
 
 // What a line of these words says.
-fn saying_of_words(line: u32, words: &[&[u8]]) -> Result<Option<Watch>, LineFault>
+fn parse_words(line: u32, words: &[&[u8]]) -> Result<Option<Watch>, LineFault>
     ensures value { result ≡ saying line (map (λ w. w.now) words.now) }
 {
     match words {
@@ -109,18 +109,14 @@ fn saying_of_words(line: u32, words: &[&[u8]]) -> Result<Option<Watch>, LineFaul
             if is_comment(verb) {
                 Ok(None)
             } else {
-                sentence_of(line, verb, rest)
+                parse_command(line, verb, rest)
             }
         }
     }
 }
 
 /// What the line of this number says: a watch, or nothing.
-pub(crate) fn saying_of_line(
-    alloc: Global,
-    line: u32,
-    text: &[u8],
-) -> Result<Option<Watch>, LineFault>
+pub(crate) fn parse_line(alloc: Global, line: u32, text: &[u8]) -> Result<Option<Watch>, LineFault>
     ensures value { MatchResult result (λ s. line_saying line text.now ≡ Ok s)
         (λ e. e ≢ LineFault.NoMemory → line_saying line text.now ≡ Err e) }
 {
@@ -128,7 +124,7 @@ pub(crate) fn saying_of_line(
         return Err(LineFault::NotAscii);
     }
     match words_of(alloc, text) {
-        Ok(words) => saying_of_words(line, words.as_slice()),
+        Ok(words) => parse_words(line, words.as_slice()),
         Err(_) => Err(LineFault::NoMemory),
     }
 }

@@ -5,7 +5,7 @@ ghost use Rattle.decision_script.specs.Lines.{lines};
 ghost use Rattle.watch_points.specs.Reading.{after_line, after_lines, after_saying, fault_at, watches};
 
 use crate::fault::WatchFault;
-use crate::line::saying_of_line;
+use crate::line::parse_line;
 use crate::watch::{MAX_WATCHES, Watch, Watches, push_watch};
 use decision_script::words::{LineFault, ends_line, without_return};
 use sim_base::MAX_FILE_BYTES;
@@ -51,7 +51,7 @@ impl Watches {
         ensures ok { OnOk result (after_line line self.old text.now ≡ Ok self.new) }
         ensures refused { IfErr result (λ e. e ≢ WatchFault.NoMemory → after_line line self.old text.now ≡ Err e) }
     {
-        match saying_of_line(alloc, line, text) {
+        match parse_line(alloc, line, text) {
             Ok(said) => self.add(line, said),
             Err(broken) => Err(fault_of_line(line, broken)),
         }

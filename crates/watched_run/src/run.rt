@@ -46,7 +46,7 @@ fn share_model(model: &Arc<Model>) -> Result<Arc<Model>, NoMemory>
 }
 
 // Opens the world of all clones that the calls create, before anything is handled.
-fn open_world(alloc: Global, model: &Arc<Model>, calls: &[Call]) -> Result<World, NoMemory>
+fn open_watched_world(alloc: Global, model: &Arc<Model>, calls: &[Call]) -> Result<World, NoMemory>
     requires accepted { AreAccepted model.now.value (base ∷ []) 0 calls.now }
     ensures net { IfOk result (λ w. w.net ≡ model.now.value) }
     ensures front { IfOk result (λ w. w.front ≡ 0) }
@@ -73,7 +73,7 @@ fn begin(
     ensures watches { IfOk result (λ b. watches_of b.follow_up.watcher.active ≡ w.now) }
     ensures has_watches { IfOk result (λ b. BeginsWithWatches b.follow_up.watcher b.world) }
 {
-    let world = open_world(alloc, model, calls)?;
+    let world = open_watched_world(alloc, model, calls)?;
     let shared = share_model(model)?;
     let watcher = Watcher::new(alloc, shared, world.lists(), w)?;
     Ok(Beginning {

@@ -20,7 +20,7 @@ returns-in-Err c =
     let same : None ≡ option_and_then up_to_four (values c.args.words.now) =
     refused_words words c.in-Err.error fails (λ k. let bad = c.if-is_memory.ensures.value.1 k in absurd cc)
     ∙ ap clap_values (map-id c.args.words.now)
-    ∙ clap_finds_the_values c.args.words.now c.note_texts.ensures.texts in
+    ∙ clap_finds_the_values c.args.words.now c.recall_texts.ensures.texts in
     record { value = same; asks = form_found c.args.words.now None same }
 
 pub returns : goal.returns
@@ -47,5 +47,5 @@ returns c =
       c.get_str-5.ensures,
       c.get_str-6.ensures,
     ) (read_words words c.in-Ok.matches none rows ∙ ap clap_values (map-id c.args.words.now)
-    ∙ clap_finds_the_values c.args.words.now c.note_texts.ensures.texts) in
+    ∙ clap_finds_the_values c.args.words.now c.recall_texts.ensures.texts) in
     record { value = same; asks = form_found c.args.words.now (Some _) same }

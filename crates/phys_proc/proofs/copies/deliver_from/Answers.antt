@@ -61,8 +61,8 @@ returns-then-is_empty-clause-each c = bounds_set c.args.bounds.now.items c.args.
 
 -- ---- the other copies
 
-pub deliver-requires-2 : goal.deliver-requires-2
-deliver-requires-2 c = record {
+pub deliver_in_order-requires-2 : goal.deliver_in_order-requires-2
+deliver_in_order-requires-2 c = record {
   may_deliver = record {
     disjoint = disjoint_same c.args.copies.now.items (slice_set c.args.copies.now.items c.args.guess c.give.new.copy)
         (map-set_same but_pending c.args.copies.now.items c.args.guess c.give.new.copy c.index_mut.result.now

@@ -13,15 +13,15 @@ returns-then-is_idle-clause-stepped g c =
     c.args.copies c.args.steps.now c.requires.may_step.fits (c.if-is_idle.ensures.lower refl)
     c.requires.may_step.disjoint)
 
-pub step_in_place-requires-clause-may_step : goal.step_in_place-requires-clause-may_step
-step_in_place-requires-clause-may_step g c = subst (MayStepCopies c.args.model.now c.args.station c.args.bound)
+pub step_copies_in_place-requires-clause-may_step : goal.step_copies_in_place-requires-clause-may_step
+step_copies_in_place-requires-clause-may_step g c = subst (MayStepCopies c.args.model.now c.args.station c.args.bound)
     (sym c.into_parts-standing.ensures.same) c.requires.may_step
 
 pub returns-clause-stepped : goal.returns-clause-stepped
 returns-clause-stepped g c =
     let net = c.args.model.now in
     let ends = ends_in net.horizon c.args.ends.now in
-    let new = c.step_in_place.new in
+    let new = c.step_copies_in_place.new in
     subst (λ d. IsStepResult net c.args.station ends c.args.bound c.args.copies d new.stage.sent.items new.stage.over
     c.args.steps.now new.steps) (sym c.in_ok-put_before.ensures.all)
     (subst (λ k. IsStepResult net c.args.station ends c.args.bound k (new.copies.items ++ new.stage.done)

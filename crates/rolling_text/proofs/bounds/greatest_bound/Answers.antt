@@ -20,7 +20,7 @@ bound_of-requires-clause-length_max c =
     (as_seen c.traces.inside.world.now c.traces.invariant.may_trace.over v _ c.traces.view_is c.loop-c.c place.result
     place.ensures.in_range place.ensures.same
     (λ n d. HaveShortLines n (entries_from (simulation n) c.parting_at-from.result (trace_of n d)))
-    c.meet_rest.ensures.length_max))
+    c.recall_rest.ensures.length_max))
 
 pub loop-c-preserved : goal.loop-c-preserved
 loop-c-preserved c =
@@ -42,6 +42,6 @@ loop-c-preserved c =
           (as_seen c.traces.inside.world.now c.traces.invariant.may_trace.over v _ c.traces.view_is c.loop-c.c
           place.result place.ensures.in_range place.ensures.same
           (λ n d. HaveShortLines n (entries_from (simulation n) c.parting_at-from.result (trace_of n d)))
-          c.meet_rest.ensures.length_max));
+          c.recall_rest.ensures.length_max));
       at_most = omega (arith, h.at_most, c.bound_of.ensures.at_most, c.max-most.ensures);
     }

@@ -28,8 +28,8 @@ loop-c-init g c = record {
 
 -- ---- text after text
 
-pub put_text-requires : goal.put_text-requires
-put_text-requires g c =
+pub put_clone_text-requires : goal.put_clone_text-requires
+put_clone_text-requires g c =
     let cs = c.args.traces.now.clones in
     let there : c.loop-c.c < length cs = omega (arith, c.loop-c-test.true, c.len-clones.ensures.value) in
     let h = c.loop-c.invariant in
@@ -68,7 +68,7 @@ returns-in-Err g c =
         ok = tt;
         each = tt;
         cut = all_cut c.args.traces.now.net cs c.loop-c.c there (g.O.Sink.view c.args.out.now)
-            (g.O.Sink.view c.loop-c.out) (g.O.Sink.view c.put_text.new.out) h.appended h.later h.counted cut;
+            (g.O.Sink.view c.loop-c.out) (g.O.Sink.view c.put_clone_text.new.out) h.appended h.later h.counted cut;
         later = omega (arith, h.later, later);
       };
     }
@@ -90,5 +90,5 @@ loop-c-preserved g c =
       appended = put_whole net cs c.loop-c.c there _ _ _ h.appended put.ok.bytes;
       later = omega (arith, h.later, more_faults);
       counted = counted_more c.loop-c.c (g.O.Sink.view c.args.out.now).calls (g.O.Sink.view c.loop-c.out).calls
-          (g.O.Sink.view c.put_text.new.out).calls h.counted put.ok.counted;
+          (g.O.Sink.view c.put_clone_text.new.out).calls h.counted put.ok.counted;
     }

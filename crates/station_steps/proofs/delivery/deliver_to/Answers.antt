@@ -4,15 +4,15 @@ use Rattle.station_steps.proofs.delivery.deliver_to.Goals.{else-msg-ge1-via-then
 use Rattle.station_steps.proofs.delivery.deliver_to.Goals.{else-msg-ge1-via-else-msg-ge1}
 use Rattle.station_steps.proofs.delivery.deliver_to.Goals as goal
 
-pub returns-in_ok-deliver : goal.returns-in_ok-deliver
-returns-in_ok-deliver c =
+pub returns-in_ok-deliver_at_once : goal.returns-in_ok-deliver_at_once
+returns-in_ok-deliver_at_once c =
     let one = c.if-msg-ge1.true in
     let few = c.if-msg-len.true in
     let many = c.len.ensures in
-    let d = c.in_ok-deliver.ensures in
+    let d = c.in_ok-deliver_at_once.ensures in
     record {
       given = AllDelivered-one c.args.msg c.args.set c.args.procs.now.items (c.args.msg.to - 1) c.index_mut.result.now
-          c.deliver.new.self
+          c.deliver_at_once.new.self
           (omega (arith, one, few, many)) (omega (arith, one)) c.index_mut.ensures.value d.given d.station d.living
           d.handled d.proc;
     }

@@ -8,11 +8,13 @@ use Rattle.phys_proc.proofs.proc.Proc.deliver.Goals as goal
 
 pub invariant_of-self : goal.invariant_of-self
 invariant_of-self c = let i = c.self.inside in
-    shares_same i.station i.handled i.living i.copies c.deliver.new.self c.in_err-place.ensures.same c.self.invariant
+    shares_same i.station i.handled i.living i.copies c.deliver_by_hint.new.self c.in_err-place.ensures.same
+    c.self.invariant
 
 pub invariant_of-self-2 : goal.invariant_of-self-2
 invariant_of-self-2 c = let i = c.self.inside in
-    shares_same i.station i.handled i.living i.copies c.deliver.new.self c.in_ok-place.ensures.same c.self.invariant
+    shares_same i.station i.handled i.living i.copies c.deliver_by_hint.new.self c.in_ok-place.ensures.same
+    c.self.invariant
 
 pub returns-clause-proc : goal.returns-clause-proc
 returns-clause-proc c = λ net f.
