@@ -10,7 +10,7 @@ ghost use Rattle.decision_desk.specs.Desks.{desk_id};
 use crate::desk::Desk;
 use crate::legal::LegalBook;
 use crate::pass::{give_book, take_book};
-use crate::turns::{Board, Chair, draw_ticket, end_turn, raise_front, wait_turn};
+use crate::turns::{TableSeat, TableShare, draw_ticket, end_turn, raise_front, wait_turn};
 use decision_book::Call;
 use sim_base::NoMemory;
 use std::alloc::Global;
@@ -29,7 +29,7 @@ pub struct Turn {
 #[derive(Drop)]
 pub struct Helm {
     /// Its seat at the desk.
-    pub(crate) seat: Chair,
+    pub(crate) seat: TableSeat,
     /// The number of passes that it made.
     pub(crate) made: u32,
     /// The number of calls in the journal at its last turn.
@@ -49,7 +49,7 @@ impl std::marker::Model for Helm {
 }
 
 /// Waits for the turn of the helm.
-fn come_to_helm_turn<R: Wait>(rt: &R, board: &Board, seat: &mut Chair)
+fn come_to_helm_turn<R: Wait>(rt: &R, board: &TableShare, seat: &mut TableSeat)
     requires table { IsSeatOf board.now.table_id seat.old.table_id }
     requires rest { IsHelmAtRest seat.old.me }
     ensures table { seat.new.table_id ≡ seat.old.table_id }
@@ -60,7 +60,7 @@ fn come_to_helm_turn<R: Wait>(rt: &R, board: &Board, seat: &mut Chair)
 }
 
 /// Publishes a front, puts the book back and ends the turn.
-fn raise_and_leave(board: &Board, seat: &mut Chair, book: LegalBook, front: u64)
+fn raise_and_leave(board: &TableShare, seat: &mut TableSeat, book: LegalBook, front: u64)
     // the helm has the turn, and its book is the journal that it saw with the front appended
     requires table { IsSeatOf board.now.table_id seat.old.table_id }
     requires turn { IsHelmInTurn seat.old.me }
@@ -82,7 +82,7 @@ fn raise_and_leave(board: &Board, seat: &mut Chair, book: LegalBook, front: u64)
 }
 
 /// Ends the turn with the book unchanged.
-fn leave_as_it_was(board: &Board, seat: &mut Chair, book: LegalBook)
+fn leave_as_it_was(board: &TableShare, seat: &mut TableSeat, book: LegalBook)
     requires table { IsSeatOf board.now.table_id seat.old.table_id }
     requires turn { IsHelmInTurn seat.old.me }
     requires book { book ≡ seen_book seat.old.me.0 }

@@ -7,7 +7,9 @@ ghost use Rattle.decision_desk.specs.Passes.{IsPassAtRest, IsPassInTurn, PassHas
 ghost use Rattle.decision_desk.specs.Passes.{first_account, receipt_of};
 
 use crate::legal::LegalBook;
-use crate::turns::{Board, Chair, draw_ticket, end_full_turn, end_turn, raise_count, wait_turn};
+use crate::turns::{
+    TableSeat, TableShare, draw_ticket, end_full_turn, end_turn, raise_count, wait_turn,
+};
 use decision_book::{Call, Reply};
 use sim_base::{Decision, Reserved};
 use std::marker::{Brand, Model};
@@ -26,7 +28,7 @@ pub struct Receipt {
 #[derive(Drop)]
 pub struct Pass {
     /// Its seat at the desk.
-    pub(crate) seat: Chair,
+    pub(crate) seat: TableSeat,
     /// The caller's number, from 1.
     pub(crate) caller: u32,
     /// The receipts of its calls that are in the journal, in order.
@@ -53,7 +55,7 @@ impl Pass {
 }
 
 /// Takes the book from the slot.
-pub(crate) fn take_book(board: &Board, seat: &mut Chair) -> LegalBook
+pub(crate) fn take_book(board: &TableShare, seat: &mut TableSeat) -> LegalBook
     requires table { IsSeatOf board.now.table_id seat.old.table_id }
     requires held { seat.old.me.1 ≡ (0, book_of seat.old.me.0.net seat.old.me.0.seen) ∷ [] }
     ensures table { seat.new.table_id ≡ seat.old.table_id }
@@ -64,7 +66,7 @@ pub(crate) fn take_book(board: &Board, seat: &mut Chair) -> LegalBook
 }
 
 /// Puts the book back.
-pub(crate) fn give_book(board: &Board, seat: &mut Chair, book: LegalBook)
+pub(crate) fn give_book(board: &TableShare, seat: &mut TableSeat, book: LegalBook)
     requires table { IsSeatOf board.now.table_id seat.old.table_id }
     requires held { seat.old.me.1 ≡ (0, None) ∷ [] }
     requires book { book ≡ seen_book seat.old.me.0 }
@@ -75,7 +77,7 @@ pub(crate) fn give_book(board: &Board, seat: &mut Chair, book: LegalBook)
 }
 
 /// Waits for the turn of a pass.
-pub(crate) fn come_to_turn<R: Wait>(rt: &R, board: &Board, seat: &mut Chair)
+pub(crate) fn come_to_turn<R: Wait>(rt: &R, board: &TableShare, seat: &mut TableSeat)
     requires table { IsSeatOf board.now.table_id seat.old.table_id }
     requires rest { IsPassAtRest seat.old.me }
     ensures table { seat.new.table_id ≡ seat.old.table_id }
@@ -87,7 +89,12 @@ pub(crate) fn come_to_turn<R: Wait>(rt: &R, board: &Board, seat: &mut Chair)
 }
 
 /// Counts a call, puts the book back and ends the turn. Returns the call's place in the journal.
-pub(crate) fn tell_and_leave(board: &Board, seat: &mut Chair, book: LegalBook, call: &Call) -> u64
+pub(crate) fn tell_and_leave(
+    board: &TableShare,
+    seat: &mut TableSeat,
+    book: LegalBook,
+    call: &Call,
+) -> u64
     // the pass has the turn, and its book is the journal that it saw with the call appended
     requires table { IsSeatOf board.now.table_id seat.old.table_id }
     requires turn { IsPassInTurn seat.old.me }
@@ -111,7 +118,7 @@ pub(crate) fn tell_and_leave(board: &Board, seat: &mut Chair, book: LegalBook, c
 }
 
 /// Ends the turn of a caller whose reply was Full.
-pub(crate) fn leave_full(board: &Board, seat: &mut Chair, book: LegalBook)
+pub(crate) fn leave_full(board: &TableShare, seat: &mut TableSeat, book: LegalBook)
     requires table { IsSeatOf board.now.table_id seat.old.table_id }
     requires turn { IsPassInTurn seat.old.me }
     requires full { length (calls_of seat.old.me.0.seen) ≡ MAX_CALLS }
@@ -130,8 +137,8 @@ pub(crate) fn leave_full(board: &Board, seat: &mut Chair, book: LegalBook)
 /// A turn of a pass.
 pub(crate) fn decide_in_turn<R: Wait>(
     rt: &R,
-    board: &Board,
-    seat: &mut Chair,
+    board: &TableShare,
+    seat: &mut TableSeat,
     caller: u32,
     d: &Decision,
 ) -> Receipt

@@ -131,14 +131,14 @@ impl Join<View> for Share {
 }
 
 /// A seat at the desk: a pass's or the helm's.
-pub type Chair = Seat<Option<LegalBook>, View>;
+pub type TableSeat = Seat<Option<LegalBook>, View>;
 
 /// The shared part of the desk: the slot of the book, and four words by their place: 0 the front, 1 the next ticket, 2
 /// the ticket that is served, 3 the count of calls.
-pub type Board = Shared<Option<LegalBook>, View, Model, DeskRule>;
+pub type TableShare = Shared<Option<LegalBook>, View, Model, DeskRule>;
 
 /// Draws a ticket. Returns its number modulo 2^64.
-pub fn draw_ticket(board: &Board, seat: &mut Chair) -> u64
+pub fn draw_ticket(board: &TableShare, seat: &mut TableSeat) -> u64
     requires table { IsSeatOf board.now.table_id seat.old.table_id }
     requires rest { IsAtRest seat.old.me.0 }
     ensures table { seat.new.table_id ≡ seat.old.table_id }
@@ -149,7 +149,7 @@ pub fn draw_ticket(board: &Board, seat: &mut Chair) -> u64
 }
 
 /// Checks whether it is the seat's turn.
-pub fn is_served(board: &Board, seat: &mut Chair, ticket: u64) -> bool
+pub fn is_served(board: &TableShare, seat: &mut TableSeat, ticket: u64) -> bool
     requires table { IsSeatOf board.now.table_id seat.old.table_id }
     requires waits { IsWaiting seat.old.me.0 }
     requires ticket { ticket ≡ seat.old.me.0.ticket % 2 ^ 64 }
@@ -160,7 +160,7 @@ pub fn is_served(board: &Board, seat: &mut Chair, ticket: u64) -> bool
 }
 
 /// Waits for the seat's turn.
-pub fn wait_turn<R: Wait>(rt: &R, board: &Board, seat: &mut Chair, ticket: u64)
+pub fn wait_turn<R: Wait>(rt: &R, board: &TableShare, seat: &mut TableSeat, ticket: u64)
     requires table { IsSeatOf board.now.table_id seat.old.table_id }
     requires waits { IsWaiting seat.old.me.0 }
     requires ticket { ticket ≡ seat.old.me.0.ticket % 2 ^ 64 }
@@ -176,7 +176,7 @@ pub fn wait_turn<R: Wait>(rt: &R, board: &Board, seat: &mut Chair, ticket: u64)
 }
 
 /// Counts a call. Returns its place in the journal.
-pub fn raise_count<E: AddedCall>(board: &Board, seat: &mut Chair, call: &Call) -> u64
+pub fn raise_count<E: AddedCall>(board: &TableShare, seat: &mut TableSeat, call: &Call) -> u64
     // the seat has the turn, the journal has room for a call, and the seat's only account is the caller's
     requires table { IsSeatOf board.now.table_id seat.old.table_id }
     requires calls { E.calls ≡ call.now ∷ [] }
@@ -193,7 +193,7 @@ pub fn raise_count<E: AddedCall>(board: &Board, seat: &mut Chair, call: &Call) -
 }
 
 /// Raises the front.
-pub fn raise_front(board: &Board, seat: &mut Chair, front: u64)
+pub fn raise_front(board: &TableShare, seat: &mut TableSeat, front: u64)
     requires table { IsSeatOf board.now.table_id seat.old.table_id }
     requires turn { (seat.old.me.0.turn ≡ true) × (seat.old.me.0.steers ≡ true) }
     requires above { front_of seat.old.me.0.seen < front }
@@ -204,7 +204,7 @@ pub fn raise_front(board: &Board, seat: &mut Chair, front: u64)
 }
 
 /// Ends the turn.
-pub fn end_turn(board: &Board, seat: &mut Chair)
+pub fn end_turn(board: &TableShare, seat: &mut TableSeat)
     requires table { IsSeatOf board.now.table_id seat.old.table_id }
     requires may_end { MayEndTurn seat.old.me }
     ensures table { seat.new.table_id ≡ seat.old.table_id }
@@ -214,7 +214,7 @@ pub fn end_turn(board: &Board, seat: &mut Chair)
 }
 
 /// Ends the turn of a caller whose reply was Full.
-pub fn end_full_turn(board: &Board, seat: &mut Chair)
+pub fn end_full_turn(board: &TableShare, seat: &mut TableSeat)
     // the seat has the turn, the book is back in the slot, and the journal is full
     requires table { IsSeatOf board.now.table_id seat.old.table_id }
     requires may_end { MayEndTurn seat.old.me }
@@ -234,7 +234,7 @@ pub fn end_full_turn(board: &Board, seat: &mut Chair)
 }
 
 /// Loads the front. It never waits.
-pub fn look_at_front(board: &Board, seat: &mut Chair) -> u64
+pub fn look_at_front(board: &TableShare, seat: &mut TableSeat) -> u64
     requires table { IsSeatOf board.now.table_id seat.old.table_id }
     requires rest { IsAtRest seat.old.me.0 }
     requires pass { seat.old.me.0.steers ≡ false }

@@ -24,8 +24,8 @@ use Rattle.decision_script.specs.declared.fault.ScriptFault.TheVariants.{TooMany
 use Rattle.decision_script.specs.declared.item.Act.{Act}
 use Rattle.decision_script.specs.declared.item.Act.TheVariants.{Decide, Look}
 use Rattle.decision_script.specs.declared.item.Item.{Item}
-use Rattle.decision_script.specs.declared.line.Meaning.{Meaning}
-use Rattle.decision_script.specs.declared.line.Meaning.TheVariants.{Nothing, Section, Says}
+use Rattle.decision_script.specs.declared.line.ParsedLine.{ParsedLine}
+use Rattle.decision_script.specs.declared.line.ParsedLine.TheVariants.{Nothing, Section, Action}
 use Rattle.decision_script.specs.Lines.{has_number_form, is_ascii, words, lines}
 use Rattle.decision_script.specs.Sentences.{where_form, with_values, word_number, param_of, one_value, two_values}
 use Rattle.decision_script.specs.Sentences.{change_of, section, look, fork, end, set}
@@ -41,10 +41,10 @@ use Rattle.decision_script.specs.Reading.{after_line, after_lines, new_reader, s
 -- ---- where_form and cond
 
 -- names that a line says are names, and its numbers fit 32 bits
-abbrev IsMeaning : Meaning → Type 0
-IsMeaning Nothing = Unit {0}
-IsMeaning (Section name) = IsName name
-IsMeaning (Says act) = IsAct act
+abbrev IsParsedLine : ParsedLine → Type 0
+IsParsedLine Nothing = Unit {0}
+IsParsedLine (Section name) = IsName name
+IsParsedLine (Action act) = IsAct act
 
 -- if a line has the form, a property of its result holds of its meaning
 where_form-IfOk : {A : Type 0} (P : A → Type 0) (b : Bool) (r : Result A LineFault) → (b ≡ true → IfOk r P)
@@ -121,60 +121,61 @@ change_of-holds param (a ∷ b ∷ c ∷ more) t = tt
 -- ---- the sentences
 
 -- a section has a name
-section-holds : (name : List ℕ) → IfOk (section name) IsMeaning
+section-holds : (name : List ℕ) → IfOk (section name) IsParsedLine
 unfolding section
-section-holds name = where_form-IfOk IsMeaning (is_name name) (Ok (Section name)) (λ h. h)
+section-holds name = where_form-IfOk IsParsedLine (is_name name) (Ok (Section name)) (λ h. h)
 
 -- a look has two
-look-holds : (who station : List ℕ) → IfOk (look who station) IsMeaning
+look-holds : (who station : List ℕ) → IfOk (look who station) IsParsedLine
 unfolding look
-look-holds who station = where_form-IfOk IsMeaning (is_name who && is_name station) (Ok (Says (Look who station)))
+look-holds who station = where_form-IfOk IsParsedLine (is_name who && is_name station) (Ok (Action (Look who station)))
     (λ h. and_parts (is_name who) (is_name station) h)
 
 -- a fork too
-fork-holds : (new keyword old : List ℕ) → IfOk (fork new keyword old) IsMeaning
+fork-holds : (new keyword old : List ℕ) → IfOk (fork new keyword old) IsParsedLine
 unfolding fork
-fork-holds new keyword old = where_form-IfOk IsMeaning ((bytes_eq keyword (codes "from") && is_name new) && is_name old)
-    (Ok (Says (Decide (Fork new old)))) (λ h.
+fork-holds new keyword old = where_form-IfOk IsParsedLine ((bytes_eq keyword (codes "from") && is_name new) && is_name
+    old)
+    (Ok (Action (Decide (Fork new old)))) (λ h.
     let (keyword_and_new, o) = and_parts (bytes_eq keyword (codes "from") && is_name new) (is_name old) h in
     ((and_parts (bytes_eq keyword (codes "from")) (is_name new) keyword_and_new).1, o))
 
 -- an end has a name, and a time that fits
-end-holds : (who keyword time : List ℕ) → IfOk (end who keyword time) IsMeaning
+end-holds : (who keyword time : List ℕ) → IfOk (end who keyword time) IsParsedLine
 unfolding end
-end-holds who keyword time = where_form-IfOk IsMeaning (bytes_eq keyword (codes "at") && is_name who) _ (λ h.
-    bind-IfOk Fits32 IsMeaning (word_number time) _ (word_number-fits time)
+end-holds who keyword time = where_form-IfOk IsParsedLine (bytes_eq keyword (codes "at") && is_name who) _ (λ h.
+    bind-IfOk Fits32 IsParsedLine (word_number time) _ (word_number-fits time)
     (λ at fits. ((and_parts (bytes_eq keyword (codes "at")) (is_name who) h).1, fits)))
 
 -- a set has two names, a time that fits, and a change
 set-holds : (who keyword time station word : List ℕ) (values : List (List ℕ))
-    → IfOk (set who keyword time station word values) IsMeaning
+    → IfOk (set who keyword time station word values) IsParsedLine
 unfolding set
 set-holds who keyword time station word values =
-    where_form-IfOk IsMeaning ((bytes_eq keyword (codes "at") && is_name who) && is_name station) _ (λ h.
+    where_form-IfOk IsParsedLine ((bytes_eq keyword (codes "at") && is_name who) && is_name station) _ (λ h.
     let (keyword_and_who, s) = and_parts (bytes_eq keyword (codes "at") && is_name who) (is_name station) h in
     let w = (and_parts (bytes_eq keyword (codes "at")) (is_name who) keyword_and_who).1 in
-    bind-IfOk (Takes (length values)) IsMeaning (param_of word (length values)) _
+    bind-IfOk (Takes (length values)) IsParsedLine (param_of word (length values)) _
     (with_values-holds (param_of_word word) (length values)) (λ param takes.
-    bind-IfOk Fits32 IsMeaning (word_number time) _ (word_number-fits time) (λ at fits.
-    bind-IfOk Changes IsMeaning (change_of param values) _ (change_of-holds param values takes)
+    bind-IfOk Fits32 IsParsedLine (word_number time) _ (word_number-fits time) (λ at fits.
+    bind-IfOk Changes IsParsedLine (change_of param values) _ (change_of-holds param values takes)
     (λ change is. (w, fits, s, is)))))
 
 -- so it is for all words after the first
-after_analyst-holds : (ws : List (List ℕ)) → IfOk (after_analyst ws) IsMeaning
+after_analyst-holds : (ws : List (List ℕ)) → IfOk (after_analyst ws) IsParsedLine
 after_analyst-holds [] = tt
 after_analyst-holds (a ∷ []) = section-holds a
 after_analyst-holds (a ∷ b ∷ ws) = tt
 
 -- of a look
-after_look-holds : (ws : List (List ℕ)) → IfOk (after_look ws) IsMeaning
+after_look-holds : (ws : List (List ℕ)) → IfOk (after_look ws) IsParsedLine
 after_look-holds [] = tt
 after_look-holds (a ∷ []) = tt
 after_look-holds (a ∷ b ∷ []) = look-holds a b
 after_look-holds (a ∷ b ∷ c ∷ ws) = tt
 
 -- of a fork
-after_fork-holds : (ws : List (List ℕ)) → IfOk (after_fork ws) IsMeaning
+after_fork-holds : (ws : List (List ℕ)) → IfOk (after_fork ws) IsParsedLine
 after_fork-holds [] = tt
 after_fork-holds (a ∷ []) = tt
 after_fork-holds (a ∷ b ∷ []) = tt
@@ -182,7 +183,7 @@ after_fork-holds (a ∷ b ∷ c ∷ []) = fork-holds a b c
 after_fork-holds (a ∷ b ∷ c ∷ d ∷ ws) = tt
 
 -- of an end
-after_end-holds : (ws : List (List ℕ)) → IfOk (after_end ws) IsMeaning
+after_end-holds : (ws : List (List ℕ)) → IfOk (after_end ws) IsParsedLine
 after_end-holds [] = tt
 after_end-holds (a ∷ []) = tt
 after_end-holds (a ∷ b ∷ []) = tt
@@ -190,7 +191,7 @@ after_end-holds (a ∷ b ∷ c ∷ []) = end-holds a b c
 after_end-holds (a ∷ b ∷ c ∷ d ∷ ws) = tt
 
 -- and of a set
-after_set-holds : (ws : List (List ℕ)) → IfOk (after_set ws) IsMeaning
+after_set-holds : (ws : List (List ℕ)) → IfOk (after_set ws) IsParsedLine
 after_set-holds [] = tt
 after_set-holds (a ∷ []) = tt
 after_set-holds (a ∷ b ∷ []) = tt
@@ -199,28 +200,28 @@ after_set-holds (a ∷ b ∷ c ∷ d ∷ []) = tt
 after_set-holds (a ∷ b ∷ c ∷ d ∷ e ∷ ws) = set-holds a b c d e ws
 
 -- so it is for all words after every first one
-sentence-holds : (verb : List ℕ) (rest : List (List ℕ)) → IfOk (sentence verb rest) IsMeaning
+sentence-holds : (verb : List ℕ) (rest : List (List ℕ)) → IfOk (sentence verb rest) IsParsedLine
 sentence-holds verb rest =
-    cond-IfOk IsMeaning (bytes_eq verb (codes "analyst")) (after_analyst rest) _ (λ h. after_analyst-holds rest)
-    (cond-IfOk IsMeaning (bytes_eq verb (codes "fork")) (after_fork rest) _ (λ h. after_fork-holds rest)
-    (cond-IfOk IsMeaning (bytes_eq verb (codes "set")) (after_set rest) _ (λ h. after_set-holds rest)
-    (cond-IfOk IsMeaning (bytes_eq verb (codes "end")) (after_end rest) _ (λ h. after_end-holds rest)
-    (cond-IfOk IsMeaning (bytes_eq verb (codes "look")) (after_look rest) (Err BadLine) (λ h. after_look-holds rest)
+    cond-IfOk IsParsedLine (bytes_eq verb (codes "analyst")) (after_analyst rest) _ (λ h. after_analyst-holds rest)
+    (cond-IfOk IsParsedLine (bytes_eq verb (codes "fork")) (after_fork rest) _ (λ h. after_fork-holds rest)
+    (cond-IfOk IsParsedLine (bytes_eq verb (codes "set")) (after_set rest) _ (λ h. after_set-holds rest)
+    (cond-IfOk IsParsedLine (bytes_eq verb (codes "end")) (after_end rest) _ (λ h. after_end-holds rest)
+    (cond-IfOk IsParsedLine (bytes_eq verb (codes "look")) (after_look rest) (Err BadLine) (λ h. after_look-holds rest)
     tt))))
 
 -- with all words of a line
-saying-holds : (ws : List (List ℕ)) → IfOk (saying ws) IsMeaning
+saying-holds : (ws : List (List ℕ)) → IfOk (saying ws) IsParsedLine
 saying-holds [] = tt
 saying-holds (w ∷ ws) =
-    cond-IfOk IsMeaning (begins_comment w) (Ok Nothing) (sentence w ws) (λ h. tt) (sentence-holds w ws)
+    cond-IfOk IsParsedLine (begins_comment w) (Ok Nothing) (sentence w ws) (λ h. tt) (sentence-holds w ws)
 
 -- with a line
-line_saying-holds : (line : List ℕ) → IfOk (line_saying line) IsMeaning
+line_saying-holds : (line : List ℕ) → IfOk (line_saying line) IsParsedLine
 line_saying-holds line =
-    cond-IfOk IsMeaning (is_ascii line) (saying (words line)) _ (λ h. saying-holds (words line)) tt
+    cond-IfOk IsParsedLine (is_ascii line) (saying (words line)) _ (λ h. saying-holds (words line)) tt
 
 -- and with a line of a number
-at_line-holds : (n : ℕ) (r : Result Meaning LineFault) → IfOk r IsMeaning → IfOk (at_line n r) IsMeaning
+at_line-holds : (n : ℕ) (r : Result ParsedLine LineFault) → IfOk r IsParsedLine → IfOk (at_line n r) IsParsedLine
 at_line-holds n (Ok s) h = h
 at_line-holds n (Err e) h = tt
 
@@ -300,11 +301,11 @@ new_item line r act h is few =
     }
 
 -- and for every meaning of a line
-after_saying-keeps : (line : ℕ) (r : ReaderView) (s : Meaning) → IsReading r → IsMeaning s
+after_saying-keeps : (line : ℕ) (r : ReaderView) (s : ParsedLine) → IsReading r → IsParsedLine s
     → IfOk (after_saying line r s) IsReading
 after_saying-keeps line r Nothing h is = h
 after_saying-keeps line r (Section name) h is = in_section-keeps line r name (analyst_place name r.analysts) h is refl
-after_saying-keeps line r (Says act) h is =
+after_saying-keeps line r (Action act) h is =
     cond-IfOk IsReading (nat_lt (length r.items) MAX_ITEMS) (Ok _) (Err (TooManyLines line))
     (λ few. new_item line r act h is (grind (arith, nat_tests))) tt
 
@@ -313,7 +314,8 @@ after_saying-keeps line r (Says act) h is =
 -- so does any line
 after_line-keeps : (line : ℕ) (r : ReaderView) (text : List ℕ) → IsReading r → IfOk (after_line line r text) IsReading
 unfolding after_line
-after_line-keeps line r text h = bind-IfOk IsMeaning IsReading (at_line line (line_saying text)) (after_saying line r)
+after_line-keeps line r text h = bind-IfOk IsParsedLine IsReading (at_line line (line_saying text))
+    (after_saying line r)
     (at_line-holds line (line_saying text) (line_saying-holds text)) (λ s is. after_saying-keeps line r s h is)
 
 -- and any lines

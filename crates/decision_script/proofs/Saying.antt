@@ -11,7 +11,7 @@ use Rattle.sim_base.specs.declared.message.Param.{Param}
 use Rattle.sim_base.specs.declared.message.Param.TheVariants.{Every, Service, Hold, Servers, Room, Weight}
 use Rattle.decision_script.specs.declared.item.Act.{Act}
 use Rattle.decision_script.specs.declared.item.Act.TheVariants.{Decide, Look}
-use Rattle.decision_script.specs.declared.line.Meaning.TheVariants.{Says, Section}
+use Rattle.decision_script.specs.declared.line.ParsedLine.TheVariants.{Action, Section}
 use Rattle.decision_script.specs.Sentences.{saying, section, look, fork, end, set, one_value, two_values}
 use Rattle.decision_script.specs.Stating.{Fits32, IsName, IsChange, IsAct}
 use Rattle.decision_script.specs.Printing.{words_of_act, words_of_section}
@@ -27,19 +27,19 @@ saying-section name h = rw h refl
 
 -- the words of a fork say that fork
 saying-fork : (new old : List ℕ) → IsName new → IsName old
-    → saying (words_of_act (Decide (Fork new old))) ≡ Ok (Says (Decide (Fork new old)))
+    → saying (words_of_act (Decide (Fork new old))) ≡ Ok (Action (Decide (Fork new old)))
 unfolding fork
 saying-fork new old n o = rw (n, o) refl
 
 -- of a look that look
 saying-look : (who station : List ℕ) → IsName who → IsName station
-    → saying (words_of_act (Look who station)) ≡ Ok (Says (Look who station))
+    → saying (words_of_act (Look who station)) ≡ Ok (Action (Look who station))
 unfolding look
 saying-look who station w s = rw (w, s) refl
 
 -- of an end that end
 saying-end : (who : List ℕ) (at : ℕ) → IsName who → Fits32 at
-    → saying (words_of_act (Decide (End who at))) ≡ Ok (Says (Decide (End who at)))
+    → saying (words_of_act (Decide (End who at))) ≡ Ok (Action (Decide (End who at)))
 unfolding end
 saying-end who at w h = rw (w, word_number-decimal at h) refl
 
@@ -47,7 +47,7 @@ saying-end who at w h = rw (w, word_number-decimal at h) refl
 saying-set : (who station : List ℕ) (at a b : ℕ) (param : Param) → IsName who → Fits32 at → IsName station
     → IsChange param a b
     → saying (words_of_act (Decide (Set who at station (record { param = param; a = a; b = b }))))
-    ≡ Ok (Says (Decide (Set who at station (record { param = param; a = a; b = b }))))
+    ≡ Ok (Action (Decide (Set who at station (record { param = param; a = a; b = b }))))
 unfolding set one_value two_values
 saying-set who station at a b Every w t s c =
     rw (w, s, word_number-decimal at t, word_number-decimal a c.0, word_number-decimal b c.1) refl
@@ -61,7 +61,7 @@ saying-set who station at a b Weight w t s c =
     rw (w, s, word_number-decimal at t, word_number-decimal a c.0, word_number-decimal b c.1) refl
 
 -- the words of an act say that act
-pub saying-act : (act : Act) → IsAct act → saying (words_of_act act) ≡ Ok (Says act)
+pub saying-act : (act : Act) → IsAct act → saying (words_of_act act) ≡ Ok (Action act)
 saying-act (Look who station) h = saying-look who station h.0 h.1
 saying-act (Decide (Fork new old)) h = saying-fork new old h.0 h.1
 saying-act (Decide (Set who at station change)) h =

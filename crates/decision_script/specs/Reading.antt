@@ -5,8 +5,8 @@ use Rattle.std.specs.Str.{bytes_eq}
 use Rattle.sim_base.specs.declared.limits.TheConstants.{MAX_FILE_BYTES}
 use Rattle.decision_script.specs.declared.item.Act.{Act}
 use Rattle.decision_script.specs.declared.item.Item.{Item}
-use Rattle.decision_script.specs.declared.line.Meaning.{Meaning}
-use Rattle.decision_script.specs.declared.line.Meaning.TheVariants.{Nothing, Section, Says}
+use Rattle.decision_script.specs.declared.line.ParsedLine.{ParsedLine}
+use Rattle.decision_script.specs.declared.line.ParsedLine.TheVariants.{Nothing, Section, Action}
 use Rattle.decision_script.specs.declared.fault.LineFault.{LineFault}
 use Rattle.decision_script.specs.declared.fault.LineFault.TheVariants as broken
 use Rattle.decision_script.specs.declared.fault.ScriptFault.{ScriptFault}
@@ -32,7 +32,7 @@ fault_at line broken.BadNumber = BadNumber line
 fault_at line broken.NoMemory = NoMemory
 
 -- the meaning of a line, or its fault with the line's number
-abbrev pub at_line : ℕ → Result Meaning LineFault → Result Meaning ScriptFault
+abbrev pub at_line : ℕ → Result ParsedLine LineFault → Result ParsedLine ScriptFault
 at_line line (Ok said) = Ok said
 at_line line (Err broken) = Err (fault_at line broken)
 
@@ -55,10 +55,10 @@ with_act line r act = if nat_lt (length r.items) MAX_ITEMS
     else Err (TooManyLines line)
 
 -- the state after the line with this number and meaning
-abbrev pub after_saying : ℕ → ReaderView → Meaning → Result ReaderView ScriptFault
+abbrev pub after_saying : ℕ → ReaderView → ParsedLine → Result ReaderView ScriptFault
 after_saying line r Nothing = Ok r
 after_saying line r (Section name) = in_section line r name (analyst_place name r.analysts)
-after_saying line r (Says act) = with_act line r act
+after_saying line r (Action act) = with_act line r act
 
 -- the state after the line with this number
 unfoldable pub after_line : ℕ → ReaderView → List ℕ → Result ReaderView ScriptFault

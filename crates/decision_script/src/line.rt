@@ -14,13 +14,13 @@ use std::alloc::{AllocError, Global};
 
 /// The meaning of a line.
 #[derive(Clone, Copy, Debug, PartialEq, Eq)]
-pub(crate) enum Meaning {
+pub(crate) enum ParsedLine {
     /// It is empty, or a comment.
     Nothing,
     /// The lines from here on are those of the analyst with this name.
     Section(Name),
     /// It is a decision or a look.
-    Says(Act),
+    Action(Act),
 }
 
 /// The name that a word spells.
@@ -72,23 +72,23 @@ pub fn read_change(param: Param, values: &[&[u8]]) -> Result<Change, LineFault>
 }
 
 #[tactic(auto, unfolding(crate::specs::Sentences::section))]
-fn section_line(word: &[u8]) -> Result<Meaning, LineFault>
+fn section_line(word: &[u8]) -> Result<ParsedLine, LineFault>
     ensures value { result ≡ section word.now }
 {
-    Ok(Meaning::Section(read_name(word)?))
+    Ok(ParsedLine::Section(read_name(word)?))
 }
 
 #[tactic(auto, unfolding(crate::specs::Sentences::look))]
-fn look_line(who: &[u8], station: &[u8]) -> Result<Meaning, LineFault>
+fn look_line(who: &[u8], station: &[u8]) -> Result<ParsedLine, LineFault>
     ensures value { result ≡ look who.now station.now }
 {
     let who = read_name(who)?;
     let station = read_name(station)?;
-    Ok(Meaning::Says(Act::Look { who, station }))
+    Ok(ParsedLine::Action(Act::Look { who, station }))
 }
 
 #[tactic(auto, unfolding(crate::specs::Sentences::fork))]
-fn fork_line(new: &[u8], keyword: &[u8], old: &[u8]) -> Result<Meaning, LineFault>
+fn fork_line(new: &[u8], keyword: &[u8], old: &[u8]) -> Result<ParsedLine, LineFault>
     ensures value { result ≡ fork new.now keyword.now old.now }
 {
     if keyword != b"from".as_slice() {
@@ -96,11 +96,11 @@ fn fork_line(new: &[u8], keyword: &[u8], old: &[u8]) -> Result<Meaning, LineFaul
     }
     let new = read_name(new)?;
     let old = read_name(old)?;
-    Ok(Meaning::Says(Act::Decide(Decision::Fork { new, old })))
+    Ok(ParsedLine::Action(Act::Decide(Decision::Fork { new, old })))
 }
 
 #[tactic(auto, unfolding(crate::specs::Sentences::end))]
-fn end_line(who: &[u8], keyword: &[u8], time: &[u8]) -> Result<Meaning, LineFault>
+fn end_line(who: &[u8], keyword: &[u8], time: &[u8]) -> Result<ParsedLine, LineFault>
     ensures value { result ≡ end who.now keyword.now time.now }
 {
     if keyword != b"at".as_slice() {
@@ -108,7 +108,7 @@ fn end_line(who: &[u8], keyword: &[u8], time: &[u8]) -> Result<Meaning, LineFaul
     }
     let who = read_name(who)?;
     let at = read_number(time)?;
-    Ok(Meaning::Says(Act::Decide(Decision::End { who, at })))
+    Ok(ParsedLine::Action(Act::Decide(Decision::End { who, at })))
 }
 
 #[tactic(auto, unfolding(crate::specs::Sentences::set))]
@@ -119,7 +119,7 @@ fn set_line(
     station: &[u8],
     word: &[u8],
     values: &[&[u8]],
-) -> Result<Meaning, LineFault>
+) -> Result<ParsedLine, LineFault>
     ensures value { result ≡ set who.now keyword.now time.now station.now word.now (map (λ w. w.now) values.now) }
 {
     if keyword != b"at".as_slice() {
@@ -130,7 +130,7 @@ fn set_line(
     let param = read_param(word, values.len())?;
     let at = read_number(time)?;
     let change = read_change(param, values)?;
-    Ok(Meaning::Says(Act::Decide(Decision::Set {
+    Ok(ParsedLine::Action(Act::Decide(Decision::Set {
         who,
         at,
         station,
@@ -138,7 +138,7 @@ fn set_line(
     })))
 }
 
-fn analyst_words(words: &[&[u8]]) -> Result<Meaning, LineFault>
+fn analyst_words(words: &[&[u8]]) -> Result<ParsedLine, LineFault>
     ensures value { result ≡ after_analyst (map (λ w. w.now) words.now) }
 {
     match words {
@@ -147,7 +147,7 @@ fn analyst_words(words: &[&[u8]]) -> Result<Meaning, LineFault>
     }
 }
 
-fn look_words(words: &[&[u8]]) -> Result<Meaning, LineFault>
+fn look_words(words: &[&[u8]]) -> Result<ParsedLine, LineFault>
     ensures value { result ≡ after_look (map (λ w. w.now) words.now) }
 {
     match words {
@@ -156,7 +156,7 @@ fn look_words(words: &[&[u8]]) -> Result<Meaning, LineFault>
     }
 }
 
-fn fork_words(words: &[&[u8]]) -> Result<Meaning, LineFault>
+fn fork_words(words: &[&[u8]]) -> Result<ParsedLine, LineFault>
     ensures value { result ≡ after_fork (map (λ w. w.now) words.now) }
 {
     match words {
@@ -165,7 +165,7 @@ fn fork_words(words: &[&[u8]]) -> Result<Meaning, LineFault>
     }
 }
 
-fn end_words(words: &[&[u8]]) -> Result<Meaning, LineFault>
+fn end_words(words: &[&[u8]]) -> Result<ParsedLine, LineFault>
     ensures value { result ≡ after_end (map (λ w. w.now) words.now) }
 {
     match words {
@@ -174,7 +174,7 @@ fn end_words(words: &[&[u8]]) -> Result<Meaning, LineFault>
     }
 }
 
-fn set_words(words: &[&[u8]]) -> Result<Meaning, LineFault>
+fn set_words(words: &[&[u8]]) -> Result<ParsedLine, LineFault>
     ensures value { result ≡ after_set (map (λ w. w.now) words.now) }
 {
     match words {
@@ -185,7 +185,7 @@ fn set_words(words: &[&[u8]]) -> Result<Meaning, LineFault>
     }
 }
 
-fn parse_command(verb: &[u8], rest: &[&[u8]]) -> Result<Meaning, LineFault>
+fn parse_command(verb: &[u8], rest: &[&[u8]]) -> Result<ParsedLine, LineFault>
     ensures value { result ≡ sentence verb.now (map (λ w. w.now) rest.now) }
 {
     if verb == b"analyst".as_slice() {
@@ -213,14 +213,14 @@ pub fn is_comment(word: &[u8]) -> bool
     }
 }
 
-fn parse_words(words: &[&[u8]]) -> Result<Meaning, LineFault>
+fn parse_words(words: &[&[u8]]) -> Result<ParsedLine, LineFault>
     ensures value { result ≡ saying (map (λ w. w.now) words.now) }
 {
     match words {
-        [] => Ok(Meaning::Nothing),
+        [] => Ok(ParsedLine::Nothing),
         [verb, rest @ ..] => {
             if is_comment(verb) {
-                Ok(Meaning::Nothing)
+                Ok(ParsedLine::Nothing)
             } else {
                 parse_command(verb, rest)
             }
@@ -251,7 +251,7 @@ pub fn words_of(alloc: Global, line: &[u8]) -> Result<Vec<&[u8]>, AllocError>
 }
 
 /// The meaning of a line.
-pub(crate) fn parse_line(alloc: Global, line: &[u8]) -> Result<Meaning, LineFault>
+pub(crate) fn parse_line(alloc: Global, line: &[u8]) -> Result<ParsedLine, LineFault>
     ensures value { MatchResult result (λ s. line_saying line.now ≡ Ok s)
         (λ e. e ≢ LineFault.NoMemory → line_saying line.now ≡ Err e) }
 {

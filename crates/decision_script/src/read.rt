@@ -7,7 +7,7 @@ ghost use Rattle.decision_script.specs.Reading.{after_lines, fault_at, script, n
 
 use crate::fault::{LineFault, ScriptFault};
 use crate::item::{Act, Item, push_item};
-use crate::line::{Meaning, parse_line};
+use crate::line::{ParsedLine, parse_line};
 use crate::script::{MAX_ANALYSTS, MAX_ITEMS, Script};
 use sim_base::{MAX_FILE_BYTES, Name};
 use std::alloc::Global;
@@ -90,14 +90,14 @@ impl Reader {
         Ok(())
     }
 
-    fn take(&mut self, line: u32, said: Meaning) -> Result<(), ScriptFault>
+    fn take(&mut self, line: u32, said: ParsedLine) -> Result<(), ScriptFault>
         ensures ok { OnOk result (after_saying line self.old said ≡ Ok self.new) }
         ensures refused { IfErr result (λ e. e ≢ ScriptFault.NoMemory → after_saying line self.old said ≡ Err e) }
     {
         match said {
-            Meaning::Nothing => Ok(()),
-            Meaning::Section(name) => self.begin_section(line, name),
-            Meaning::Says(act) => self.add_act(line, act),
+            ParsedLine::Nothing => Ok(()),
+            ParsedLine::Section(name) => self.begin_section(line, name),
+            ParsedLine::Action(act) => self.add_act(line, act),
         }
     }
 

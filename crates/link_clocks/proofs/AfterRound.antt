@@ -26,7 +26,7 @@ use Rattle.run_laws.proofs.Queue.{all_in}
 use Rattle.phys_proc.specs.Own.{StationCopy, IsCopy}
 use Rattle.phys_proc.specs.Procs.{ProcView}
 use Rattle.phys_proc.proofs.ComesFrom.{sets_join}
-use Rattle.station_steps.specs.declared.flow.Flow.{Flow}
+use Rattle.station_steps.specs.declared.station_step.StationStep.{StationStep}
 use Rattle.station_steps.specs.Windows.{AllFlow, IsFlow, NoneOver, copies_at, done_at, sent_at, after_window}
 use Rattle.station_steps.specs.Windows.{all_handled}
 use Rattle.station_steps.proofs.Flows.{copies_at-got, done_at-got, sent_at-got}
@@ -47,7 +47,7 @@ use Rattle.link_clocks.proofs.OnLinks.{net_keeps_to_links}
 
 -- the copies of all stations represent the clones at the clocks after k rounds, and each station was stepped to its
 -- next clock
-pub record RoundStepped (net : Net) (cs : List Clone) (k : ℕ) (procs : List ProcView) (flows : List Flow) :
+pub record RoundStepped (net : Net) (cs : List Clone) (k : ℕ) (procs : List ProcView) (flows : List StationStep) :
     Type 0 where
   pub valid : IsNet net
   pub for_stations : AllAreForStations (simulation net) cs
@@ -56,7 +56,7 @@ pub record RoundStepped (net : Net) (cs : List Clone) (k : ℕ) (procs : List Pr
   pub stood : (i : ℕ) (p : ProcView) → slice_get procs i ≡ Some p → LinkStandsAt net cs k i p
   pub stepped : AllFlow net (ends_of (simulation net) cs) (λ i. clock net (suc k) (i + 1)) procs flows
 
-module _ (net : Net) (cs : List Clone) (k : ℕ) (procs : List ProcView) (flows : List Flow)
+module _ (net : Net) (cs : List Clone) (k : ℕ) (procs : List ProcView) (flows : List StationStep)
     (world : RoundStepped net cs k procs flows) where
   -- the clocks
   abbrev cut : ℕ → ℕ
@@ -75,7 +75,7 @@ module _ (net : Net) (cs : List Clone) (k : ℕ) (procs : List ProcView) (flows 
   proc_of i l = got_within procs i (omega (arith, world.all_procs, l))
 
   -- and the result of its step
-  pub flow_of : (i : ℕ) → i < length net.sites → (flow : Flow) × (slice_get flows i ≡ Some flow)
+  pub flow_of : (i : ℕ) → i < length net.sites → (flow : StationStep) × (slice_get flows i ≡ Some flow)
   flow_of i l = got_within flows i (omega (arith, world.all_flows, l))
 
   -- its copies represent the clones
@@ -94,7 +94,7 @@ module _ (net : Net) (cs : List Clone) (k : ℕ) (procs : List ProcView) (flows 
       (stand_of i (omega (arith, l)))
 
   -- the result of a station is that of its copies
-  pub is_flow : (i : ℕ) (l : i < length net.sites) (flow : Flow) → slice_get flows i ≡ Some flow →
+  pub is_flow : (i : ℕ) (l : i < length net.sites) (flow : StationStep) → slice_get flows i ≡ Some flow →
       IsFlow net (ends_of (simulation net) cs) (next (i + 1)) i (proc_of i l).0 flow
   is_flow i l flow got = let p = proc_of i l in world.stepped i p.0 flow p.1 got
 
@@ -103,7 +103,7 @@ module _ (net : Net) (cs : List Clone) (k : ℕ) (procs : List ProcView) (flows 
   olds = by_number [] (copies_at procs)
 
   -- those over the limit are the clones whose logs are beyond it
-  pub over_of : (i : ℕ) (l : i < length net.sites) (flow : Flow) → slice_get flows i ≡ Some flow → (c : ℕ) →
+  pub over_of : (i : ℕ) (l : i < length net.sites) (flow : StationStep) → slice_get flows i ≡ Some flow → (c : ℕ) →
       (has flow.over c ≡ true) ↔ ((c < length cs) × IsBeyond net (i + 1) (next (i + 1)) (clone_at cs c))
   over_of i l flow got c =
       let p = proc_of i l in
@@ -133,7 +133,7 @@ module _ (net : Net) (cs : List Clone) (k : ℕ) (procs : List ProcView) (flows 
       omega (arith, short, long)
 
   -- what the copies of a station gained
-  gained_of : (i : ℕ) (l : i < length net.sites) (flow : Flow) → slice_get flows i ≡ Some flow →
+  gained_of : (i : ℕ) (l : i < length net.sites) (flow : StationStep) → slice_get flows i ≡ Some flow →
       GainTogether (simulation net) has (ends_of (simulation net) cs) (suc i) (next (suc i)) (olds (suc i)) flow.handled
   gained_of i l flow got =
       let p = proc_of i l in
@@ -143,7 +143,7 @@ module _ (net : Net) (cs : List Clone) (k : ℕ) (procs : List ProcView) (flows 
       (add-one i) (is_flow i l flow got).gain)
 
   -- with what was handled before, a station has handled at most the limit for each clone
-  few_at : (i : ℕ) → i < length net.sites → (flow : Flow) → slice_get flows i ≡ Some flow →
+  few_at : (i : ℕ) → i < length net.sites → (flow : StationStep) → slice_get flows i ≡ Some flow →
       handled_once net cs (suc i) (cut (suc i)) + flow.handled ≤ length cs * net.limit
   few_at i l flow got =
       round_is_few (lawful-stations net world.valid) (stations-to_stations net world.valid) sets_join cs cut next
@@ -210,7 +210,7 @@ module _ (net : Net) (cs : List Clone) (k : ℕ) (procs : List ProcView) (flows 
         others zero other = refl
         others (suc i) other = elim (slice_get_cases flows i).1 [
           | inl found ↦ absurd (let l = found.1 in other (omega arith, omega (arith, l, world.all_flows)))
-          | inr past ↦ ap (λ o. unwrap_or (option_map (λ (f : Flow). f.sent.items) o) []) past.1
+          | inr past ↦ ap (λ o. unwrap_or (option_map (λ (f : StationStep). f.sent.items) o) []) past.1
         ]
 
     -- what was sent to a station is delivered to its copies
@@ -248,7 +248,7 @@ module _ (net : Net) (cs : List Clone) (k : ℕ) (procs : List ProcView) (flows 
         ∙ (over_of i l f.0 f.1 c).1 (there, long)))
 
     -- the messages handled once grow by what the station has handled
-    pub grown_at : (i : ℕ) → i < length net.sites → (flow : Flow) → slice_get flows i ≡ Some flow
+    pub grown_at : (i : ℕ) → i < length net.sites → (flow : StationStep) → slice_get flows i ≡ Some flow
         → handled_once net cs (suc i) (next (suc i)) ≡ handled_once net cs (suc i) (cut (suc i)) + flow.handled
     grown_at i l flow got =
         round_grows (lawful-stations net world.valid) (stations-to_stations net world.valid) sets_join cs cut next

@@ -10,7 +10,7 @@ use Rattle.clone_sets.proofs.SetLaws.{has-empty}
 use Rattle.net_model.specs.Net.{Net}
 use Rattle.stations.specs.Runs.{IsBeyond}
 use Rattle.phys_proc.specs.Procs.{ProcView}
-use Rattle.station_steps.specs.declared.flow.Flow.{Flow}
+use Rattle.station_steps.specs.declared.station_step.StationStep.{StationStep}
 use Rattle.station_steps.specs.Windows.{NoneOver}
 use Rattle.station_steps.specs.Stepping.{IsFirstOver}
 use Rattle.station_steps.proofs.Places.{got_within}
@@ -18,14 +18,14 @@ use Rattle.link_clocks.specs.NetClocks.{clock}
 use Rattle.link_clocks.specs.RoundFaults.{IsFirstBeyondAfter, NoneBeyondAfter}
 use Rattle.link_clocks.proofs.AfterRound.{RoundStepped, none_long, over_of}
 
-module _ (net : Net) (cs : List Clone) (k : ℕ) (procs : List ProcView) (flows : List Flow)
+module _ (net : Net) (cs : List Clone) (k : ℕ) (procs : List ProcView) (flows : List StationStep)
     (world : RoundStepped net cs k procs flows) where
   -- a clone's log at a station is beyond the limit after the round
   abbrev IsLong : ℕ → ℕ → Type 0
   IsLong s c = IsBeyond net s (clock net (suc k) s) (clone_at cs c)
 
   -- those over the limit at a place are the clones whose logs are beyond it
-  over_at : (i : ℕ) → i < length net.sites → (flow : Flow) → slice_get flows i ≡ Some flow → (c : ℕ) →
+  over_at : (i : ℕ) → i < length net.sites → (flow : StationStep) → slice_get flows i ≡ Some flow → (c : ℕ) →
       (has flow.over c ≡ true) ↔ ((c < length cs) × IsLong (i + 1) c)
   over_at = over_of net cs k procs flows world
 

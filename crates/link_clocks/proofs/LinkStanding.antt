@@ -13,7 +13,7 @@ use Rattle.stations.proofs.GoodLaws.{lawful-stations, stations-to_stations}
 use Rattle.run_laws.specs.Handlers.{IsStation}
 use Rattle.phys_proc.specs.Ends.{ends_in}
 use Rattle.phys_proc.specs.Procs.{ProcView}
-use Rattle.station_steps.specs.declared.flow.Flow.{Flow}
+use Rattle.station_steps.specs.declared.station_step.StationStep.{StationStep}
 use Rattle.world_core.specs.Worlds.{WorldStands, WorldView}
 use Rattle.station_steps.specs.Windows.{AllDelivered, AllFlow, NoneOver, done_at, all_sent, after_window, with_mail}
 use Rattle.station_steps.specs.Windows.{sent_to}
@@ -123,7 +123,7 @@ module _ (net : Net) (cs : List Clone) (ended : List (ℕ × ℕ)) (k : ℕ) (no
 
 module _ (net : Net) (cs : List Clone) (ended : List (ℕ × ℕ)) (k : ℕ) (now next : List ℕ) (procs : List ProcView)
     (world : LinkStands net cs ended k now next procs)
-    (flows : List Flow) (count : length flows ≡ length procs)
+    (flows : List StationStep) (count : length flows ≡ length procs)
     (stepped : AllFlow net (ends_in net.horizon ended) (λ i. clock net (suc k) (i + 1)) procs flows) where
   -- the stations before the round, and their steps
   pub round_stepped : RoundStepped net cs k procs flows
@@ -138,11 +138,11 @@ module _ (net : Net) (cs : List Clone) (ended : List (ℕ × ℕ)) (k : ℕ) (no
 
   -- if no clone goes over the limit, and what was sent is delivered, it is the world after one more round
   pub link_after : NoneOver flows → (news : List ProcView) (after later : List ℕ)
-      → AllDelivered (all_sent flows) (map (λ (f : Flow). f.done) flows) news
+      → AllDelivered (all_sent flows) (map (λ (f : StationStep). f.done) flows) news
       → HasClocks net (suc k) after later → LinkStands net cs ended (suc k) after later news
   link_after none news after later given are = record {
     valid = world.valid;
-    count = given.count ∙ length-map flows (λ (f : Flow). f.done) ∙ count ∙ world.count;
+    count = given.count ∙ length-map flows (λ (f : StationStep). f.done) ∙ count ∙ world.count;
     at_most = world.at_most;
     ends = world.ends;
     for_stations = world.for_stations;
@@ -152,13 +152,13 @@ module _ (net : Net) (cs : List Clone) (ended : List (ℕ × ℕ)) (k : ℕ) (no
     where
       each_after : (i : ℕ) (q : ProcView) → slice_get news i ≡ Some q → LinkStandsAt net cs (suc k) i q
       each_after i q got =
-          let long : length news ≡ length net.sites = given.count ∙ length-map flows (λ (f : Flow). f.done)
+          let long : length news ≡ length net.sites = given.count ∙ length-map flows (λ (f : StationStep). f.done)
           ∙ count ∙ world.count in
           let l : i < length net.sites = let m = slice_get_within news i q got in omega (arith, m, long) in
           let f = flow_of net cs k procs flows round_stepped i l in
           let p = proc_of net cs k procs flows round_stepped i l in
-          let done : slice_get (map (λ (f : Flow). f.done) flows) i ≡ Some f.0.done =
-          map_got (λ (f : Flow). f.done) flows i f.0 f.1 in
+          let done : slice_get (map (λ (f : StationStep). f.done) flows) i ≡ Some f.0.done =
+          map_got (λ (f : StationStep). f.done) flows i f.0 f.1 in
           let d = given.each i f.0.done q done got in
           let s = round_stepped.stepped i p.0 f.0 p.1 f.1 in
           let w = world.each i p.0 p.1 in

@@ -7,7 +7,7 @@ use Rattle.net_model.specs.Net.{Net}
 use Rattle.phys_proc.specs.Ends.{ends_in}
 use Rattle.phys_proc.specs.Own.{MarkedMessages}
 use Rattle.phys_proc.specs.Procs.{ProcView}
-use Rattle.station_steps.specs.declared.flow.Flow.{Flow}
+use Rattle.station_steps.specs.declared.station_step.StationStep.{StationStep}
 use Rattle.station_steps.specs.Windows.{AllDelivered, AllFlow, AreBounds, AreStations, MayGiveAll, NoneOver, bound_of}
 use Rattle.station_steps.specs.Stepping.{AllStepped, FirstOver}
 use Rattle.station_steps.proofs.Flows.{AllFlow-bounds, MayGiveAll-stepped}
@@ -71,7 +71,7 @@ module _ (net : Net) (cs : List Clone) (ended : List (ℕ × ℕ)) (k : ℕ) (no
 
   module _ (news : List ProcView) (sent : MarkedMessages) (over : Option (ℕ × ℕ)) (steps0 steps1 : ℕ)
       (s : AllStepped net (ends_in net.horizon ended) (bound_of bounds) procs news sent over steps0 steps1) where
-    abbrev flows : List Flow
+    abbrev flows : List StationStep
     flows = s.flows
 
     -- each was stepped to its next clock
@@ -99,7 +99,7 @@ module _ (net : Net) (cs : List Clone) (ended : List (ℕ × ℕ)) (k : ℕ) (no
       stands = λ o given rounds after later d one are.
           subst (λ n. LinkStands net cs ended n after later given) (sym one)
           (link_after net cs ended k now next procs world flows s.count all (none o) given after later
-          (subst (λ m. AllDelivered m (map (λ (f : Flow). f.done) flows) given) s.sent_is
+          (subst (λ m. AllDelivered m (map (λ (f : StationStep). f.done) flows) given) s.sent_is
           (subst (λ m. AllDelivered sent m given) s.procs d))
           (subst (λ n. HasClocks net n after later) one are));
       steps = λ o. let grown = total_grows net cs k procs flows stepped (none o) in

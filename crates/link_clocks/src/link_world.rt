@@ -14,7 +14,7 @@ use decision_book::Call;
 use net_model::Model;
 use sim_base::{NoMemory, Steps};
 use station_steps::{
-    Buffers, SharedEnds, SharedLists, TimedProc, Window, WindowResult, deliver_all, pass_gate,
+    Buffers, SharedEnds, SharedLists, StationSlot, Window, WindowResult, deliver_all, pass_gate,
     step_by_crew, step_in_place,
 };
 use std::alloc::Global;
@@ -28,7 +28,7 @@ pub struct LinkWorld {
     model: Arc<Model>,
     lists: SharedLists,
     ends: SharedEnds,
-    procs: Vec<TimedProc>,
+    procs: Vec<StationSlot>,
     clocks: Clocks,
     buffers: Buffers,
 }

@@ -3,7 +3,7 @@
 ghost use Rattle.std.specs.Prelude.{◌≡◌, Some, None, MatchOption};
 
 use crate::errand::Errand;
-use crate::mail::{Chair, MailTable};
+use crate::mail::{MailTable, TableSeat};
 use crate::steps::{give_task, undo, wait_for_answer};
 use std::marker::Model;
 use std::sync::{Arc, Wait};
@@ -14,7 +14,7 @@ pub struct Caller<T, A, E: Errand<T, A>> {
     /// The mailbox, which the worker shares.
     pub(crate) table: Arc<MailTable<T, A, E>>,
     /// The caller's seat at it.
-    pub(crate) seat: Chair<T, A>,
+    pub(crate) seat: TableSeat<T, A>,
 }
 
 impl<T, A, E: Errand<T, A>> Model for Caller<T, A, E> {

@@ -120,10 +120,10 @@ impl<T> Split<MailView<T>> for Hire {
 }
 
 /// A seat at the table.
-pub type Chair<T, A> = Seat<Option<Letter<T, A>>, MailView<T>>;
+pub type TableSeat<T, A> = Seat<Option<Letter<T, A>>, MailView<T>>;
 
 /// The table as the seats share it.
-pub type Board<T, A, E> = Shared<Option<Letter<T, A>>, MailView<T>, (), MailRule<E>>;
+pub type TableShare<T, A, E> = Shared<Option<Letter<T, A>>, MailView<T>, (), MailRule<E>>;
 
 /// The table with its memory.
 pub type MailTable<T, A, E> = Table<Option<Letter<T, A>>, MailView<T>, (), MailRule<E>, Global>;

@@ -6,7 +6,8 @@ ghost use Rattle.mailbox.specs.declared.mail.MailView.TheVariants.{Opening};
 
 use crate::errand::Errand;
 use crate::mail::{
-    ANSWERED, Board, Chair, Collect, EMPTY, Give, Leave, Letter, Open, TAKEN, Take, Undo, WAITS,
+    ANSWERED, Collect, EMPTY, Give, Leave, Letter, Open, TAKEN, TableSeat, TableShare, Take, Undo,
+    WAITS,
 };
 use std::sync::Wait;
 use std::thread;
@@ -34,8 +35,8 @@ fn answer_of<T: Drop, A: Drop>(letter: Option<Letter<T, A>>) -> A
 }
 
 pub(crate) fn take_slot<T: Drop, A: Drop, E: Errand<T, A>>(
-    board: &Board<T, A, E>,
-    seat: &mut Chair<T, A>,
+    board: &TableShare<T, A, E>,
+    seat: &mut TableSeat<T, A>,
 )
     requires table { IsSeatOf board.now.table_id seat.old.table_id }
     requires fresh { seat.old.me ≡ (Opening, []) }
@@ -47,8 +48,8 @@ pub(crate) fn take_slot<T: Drop, A: Drop, E: Errand<T, A>>(
 
 /// The caller gives a task.
 pub(crate) fn give_task<T: Drop, A: Drop, E: Errand<T, A>>(
-    board: &Board<T, A, E>,
-    seat: &mut Chair<T, A>,
+    board: &TableShare<T, A, E>,
+    seat: &mut TableSeat<T, A>,
     task: T,
 )
     requires table { IsSeatOf board.now.table_id seat.old.table_id }
@@ -62,8 +63,8 @@ pub(crate) fn give_task<T: Drop, A: Drop, E: Errand<T, A>>(
 
 /// The caller takes its task back, if it still waits.
 pub(crate) fn undo<T: Drop, A: Drop, E: Errand<T, A>>(
-    board: &Board<T, A, E>,
-    seat: &mut Chair<T, A>,
+    board: &TableShare<T, A, E>,
+    seat: &mut TableSeat<T, A>,
 ) -> Option<T>
     requires table { IsSeatOf board.now.table_id seat.old.table_id }
     requires sent { HasTaskOut seat.old.me }
@@ -80,8 +81,8 @@ pub(crate) fn undo<T: Drop, A: Drop, E: Errand<T, A>>(
 
 /// The caller takes the answer, if it is there.
 pub(crate) fn collect_now<T: Drop, A: Drop, E: Errand<T, A>>(
-    board: &Board<T, A, E>,
-    seat: &mut Chair<T, A>,
+    board: &TableShare<T, A, E>,
+    seat: &mut TableSeat<T, A>,
 ) -> Option<A>
     requires table { IsSeatOf board.now.table_id seat.old.table_id }
     requires sent { HasTaskOut seat.old.me }
@@ -99,8 +100,8 @@ pub(crate) fn collect_now<T: Drop, A: Drop, E: Errand<T, A>>(
 /// The caller waits for the answer.
 pub(crate) fn wait_for_answer<T: Drop, A: Drop, E: Errand<T, A>, R: Wait>(
     rt: &R,
-    board: &Board<T, A, E>,
-    seat: &mut Chair<T, A>,
+    board: &TableShare<T, A, E>,
+    seat: &mut TableSeat<T, A>,
 ) -> A
     requires table { IsSeatOf board.now.table_id seat.old.table_id }
     requires sent { HasTaskOut seat.old.me }
@@ -121,8 +122,8 @@ pub(crate) fn wait_for_answer<T: Drop, A: Drop, E: Errand<T, A>, R: Wait>(
 
 /// The worker takes a task, if one waits.
 pub(crate) fn take_task<T: Drop, A: Drop, E: Errand<T, A>>(
-    board: &Board<T, A, E>,
-    seat: &mut Chair<T, A>,
+    board: &TableShare<T, A, E>,
+    seat: &mut TableSeat<T, A>,
 ) -> Option<T>
     requires table { IsSeatOf board.now.table_id seat.old.table_id }
     requires idle { IsIdle seat.old.me }
@@ -138,8 +139,8 @@ pub(crate) fn take_task<T: Drop, A: Drop, E: Errand<T, A>>(
 
 /// The worker answers.
 pub(crate) fn give_answer<T: Drop, A: Drop, E: Errand<T, A>>(
-    board: &Board<T, A, E>,
-    seat: &mut Chair<T, A>,
+    board: &TableShare<T, A, E>,
+    seat: &mut TableSeat<T, A>,
     answer: A,
 )
     requires table { IsSeatOf board.now.table_id seat.old.table_id }

@@ -2,7 +2,7 @@
 ghost use Rattle.std.specs.Prelude.{◌≡◌, Some, None};
 
 use crate::errand::Errand;
-use crate::mail::{Chair, MailTable, WAITS};
+use crate::mail::{MailTable, TableSeat, WAITS};
 use crate::steps::{give_answer, take_task};
 use std::marker::Model;
 use std::sync::Arc;
@@ -13,7 +13,7 @@ pub struct Worker<T, A, E: Errand<T, A>> {
     /// The mailbox, which the caller shares.
     pub(crate) table: Arc<MailTable<T, A, E>>,
     /// The worker's seat at it.
-    pub(crate) seat: Chair<T, A>,
+    pub(crate) seat: TableSeat<T, A>,
 }
 
 impl<T, A, E: Errand<T, A>> Model for Worker<T, A, E> {

@@ -2,5 +2,5 @@ pub mod Ends
 pub mod Own
 pub mod Procs
 pub mod Racks
-pub mod Stages
+pub mod StepOutputs
 pub mod Stops

@@ -19,7 +19,7 @@ use std::sync::ledger::Ledger;
 /// The progress of a step: the copies at the bound, their sends to other stations, and the clones whose logs would get
 /// too long.
 #[derive(Drop)]
-pub(crate) struct Stage {
+pub(crate) struct StepOutput {
     /// The copies that have reached the bound.
     pub done: Copies,
     /// The messages to other stations so far, each with the clones that send it.
@@ -32,15 +32,15 @@ pub(crate) struct Stage {
     pub takers: CloneSet,
 }
 
-impl Stage {
+impl StepOutput {
     /// A stage with nothing handled yet; sends are appended to these.
-    pub fn of(alloc: Global, sent: Vec<(Msg, CloneSet)>) -> Stage
+    pub fn of(alloc: Global, sent: Vec<(Msg, CloneSet)>) -> StepOutput
         ensures done { result.done ≡ [] }
         ensures sent { result.sent.items ≡ sent.items }
         ensures over { result.over ≡ empty }
         ensures handled { result.handled ≡ 0 }
     {
-        Stage {
+        StepOutput {
             done: Copies::none(alloc),
             sent,
             over: CloneSet::empty(),
@@ -71,7 +71,7 @@ pub(crate) fn handle_together<L: Ledger>(
     ends: &CloneEnds,
     bound: u64,
     out: &mut ArrayVec<Msg, MAX_SENDS>,
-    stage: &mut Stage,
+    stage: &mut StepOutput,
     steps: &mut Steps<L>,
 ) -> Result<Stop, NoMemory>
     requires may_advance { MayAdvance model.now station bound stage.old.handled copy.old }
@@ -113,7 +113,7 @@ pub(crate) fn bring_to_bound<L: Ledger>(
     ends: &CloneEnds,
     bound: u64,
     out: &mut ArrayVec<Msg, MAX_SENDS>,
-    stage: &mut Stage,
+    stage: &mut StepOutput,
     steps: &mut Steps<L>,
 ) -> Result<(), NoMemory>
     requires may_advance { MayAdvance model.now station bound stage.old.handled copy }

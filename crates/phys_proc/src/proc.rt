@@ -13,7 +13,7 @@ ghost use Rattle.phys_proc.specs.Ends.{ends_in};
 ghost use Rattle.phys_proc.specs.Procs.{IsProc, AreShared};
 ghost use Rattle.phys_proc.specs.Racks.{ShowsClones, view_of_copy};
 
-use crate::advancing::Stage;
+use crate::advancing::StepOutput;
 use crate::clone_ends::CloneEnds;
 use crate::copies::Copies;
 use crate::copy::PhysCopy;
@@ -209,7 +209,7 @@ impl Proc {
         // for its clauses: the number of living clones is within the limit
         let _clones = living.len();
         let mut out = buffer(alloc, self.out.take())?;
-        let mut stage = Stage::of(alloc, mem::replace(sent, Vec::new(alloc)));
+        let mut stage = StepOutput::of(alloc, mem::replace(sent, Vec::new(alloc)));
         let copies = self.take_copies(alloc);
         step_copies(
             alloc,
@@ -222,7 +222,7 @@ impl Proc {
             &mut stage,
             steps,
         )?;
-        let Stage {
+        let StepOutput {
             done,
             sent: all,
             over,

@@ -3,9 +3,9 @@ ghost use Rattle.std.specs.Prelude.{◌≡◌, ◌+◌, ◌++◌, IfOk, OnOk};
 ghost use Rattle.std.specs.List.{AllZip};
 ghost use Rattle.phys_proc.specs.Own.{IsStepResult, IsLowerBound, IsLowerBoundOfAll};
 ghost use Rattle.phys_proc.specs.Ends.{ends_in};
-ghost use Rattle.phys_proc.specs.Stages.{MayStepCopies, IsNewStage};
+ghost use Rattle.phys_proc.specs.StepOutputs.{MayStepCopies, IsNewOutput};
 
-use crate::advancing::{Stage, Stop, bring_to_bound, handle_together};
+use crate::advancing::{StepOutput, Stop, bring_to_bound, handle_together};
 use crate::clone_ends::CloneEnds;
 use crate::copies::{Copies, lower_bound_of};
 use crate::copy::PhysCopy;
@@ -28,12 +28,12 @@ fn step_copies_in_place<L: Ledger>(
     ends: &CloneEnds,
     bound: u64,
     out: &mut ArrayVec<Msg, MAX_SENDS>,
-    stage: &mut Stage,
+    stage: &mut StepOutput,
     steps: &mut Steps<L>,
 ) -> Result<u64, NoMemory>
     requires may_step { MayStepCopies model.now station bound copies.old.items }
     requires each { AllZip IsLowerBound bounds.old.items copies.old.items }
-    requires new { IsNewStage stage.old }
+    requires new { IsNewOutput stage.old }
     // result: the copies at the bound, in place or finished, their sends, and the clones over the limit
     ensures stepped { OnOk result (IsStepResult model.now station (ends_in model.now.horizon ends.now) bound
         copies.old.items (copies.new.items ++ stage.new.done) stage.new.sent.items stage.new.over steps.old steps.new) }
@@ -91,11 +91,11 @@ pub(crate) fn step_copies<L: Ledger>(
     ends: &CloneEnds,
     bound: u64,
     out: &mut ArrayVec<Msg, MAX_SENDS>,
-    stage: &mut Stage,
+    stage: &mut StepOutput,
     steps: &mut Steps<L>,
 ) -> Result<(), NoMemory>
     requires may_step { MayStepCopies model.now station bound copies }
-    requires new { IsNewStage stage.old }
+    requires new { IsNewOutput stage.old }
     ensures stepped { OnOk result (IsStepResult model.now station (ends_in model.now.horizon ends.now) bound copies
         stage.new.done stage.new.sent.items stage.new.over steps.old steps.new) }
     ensures handled { OnOk result (stage.new.handled + steps.old ≡ steps.new) }

@@ -19,7 +19,7 @@ use Rattle.run_laws.proofs.Delivery.{given_none, given_more, IsDelivered-SoFarGi
 use Rattle.run_laws.proofs.MessageOrder.{messages_ordered}
 use Rattle.phys_proc.specs.Own.{StationCopy, MarkedMessages, with_message}
 use Rattle.phys_proc.proofs.Delivery.{all_given}
-use Rattle.station_steps.specs.declared.flow.Flow.{Flow}
+use Rattle.station_steps.specs.declared.station_step.StationStep.{StationStep}
 use Rattle.station_steps.specs.Windows.{with_mail, sent_to, all_sent, done_at, sent_at, after_window}
 use Rattle.station_steps.proofs.Places.{by_number}
 
@@ -108,7 +108,7 @@ module _ (net : Net) (ends : ℕ → ℕ) where
 
 module _ (net : Net) (ends : ℕ → ℕ) (c : ℕ) (z : Msg) where
   -- what some station sent is among all that was sent
-  from_all : (flows : List Flow) → In z (messages_taken (simulation net) has ends c (all_sent flows))
+  from_all : (flows : List StationStep) → In z (messages_taken (simulation net) has ends c (all_sent flows))
       → (j : ℕ) × In z (messages_taken (simulation net) has ends c (sent_at flows j))
   from_all [] h = absurd h
   from_all (f ∷ fs) h = elim (in_append (messages_taken (simulation net) has ends c f.sent.items)
@@ -119,7 +119,7 @@ module _ (net : Net) (ends : ℕ → ℕ) (c : ℕ) (z : Msg) where
       ]
 
   -- and what a station sent is among it
-  in_all : (flows : List Flow) (j : ℕ) → In z (messages_taken (simulation net) has ends c (sent_at flows j))
+  in_all : (flows : List StationStep) (j : ℕ) → In z (messages_taken (simulation net) has ends c (sent_at flows j))
       → In z (messages_taken (simulation net) has ends c (all_sent flows))
   in_all [] j h = absurd h
   in_all (f ∷ fs) zero h = subst (In z)
@@ -136,7 +136,7 @@ module _ (net : Net) (ends : ℕ → ℕ) (c : ℕ) (z : Msg) where
 -- ---- IsDelivered
 
 -- what was sent to the station at a place is delivered to its copies
-pub IsDelivered-after_window : (net : Net) (cs : List Clone) (flows : List Flow) (i : ℕ)
+pub IsDelivered-after_window : (net : Net) (cs : List Clone) (flows : List StationStep) (i : ℕ)
     → Disjoint has (done_at flows i)
     → ((a : StationCopy) → In a (done_at flows i) → SortedMarked msg_cmp a.pending)
     → IsDelivered (simulation net) has cs (i + 1) (by_number [] (sent_at flows)) (done_at flows i)

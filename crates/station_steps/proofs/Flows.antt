@@ -6,7 +6,7 @@ use Rattle.std.proofs.lemmas.Option.{slice_get_within}
 use Rattle.net_model.specs.Net.{Net}
 use Rattle.phys_proc.specs.Own.{MarkedMessages}
 use Rattle.phys_proc.specs.Procs.{ProcView}
-use Rattle.station_steps.specs.declared.flow.Flow.{Flow}
+use Rattle.station_steps.specs.declared.station_step.StationStep.{StationStep}
 use Rattle.station_steps.specs.Windows.{AllFlow, AreStations, HasAdvanced, IsFlow, IsNumbered, MayGiveAll}
 use Rattle.station_steps.specs.Windows.{copies_at, done_at, sent_at}
 use Rattle.station_steps.specs.Stepping.{AllStepped}
@@ -20,19 +20,19 @@ pub copies_at-got : (procs : List ProcView) (i : ℕ) (p : ProcView) → slice_g
 copies_at-got procs i p got = ap (λ o. unwrap_or (option_map (λ (p : ProcView). p.copies) o) []) got
 
 -- the copies in a task's result at a place are those of the result there
-pub done_at-got : (flows : List Flow) (i : ℕ) (flow : Flow) → slice_get flows i ≡ Some flow
+pub done_at-got : (flows : List StationStep) (i : ℕ) (flow : StationStep) → slice_get flows i ≡ Some flow
     → done_at flows i ≡ flow.done.copies
-done_at-got flows i flow got = ap (λ o. unwrap_or (option_map (λ (f : Flow). f.done.copies) o) []) got
+done_at-got flows i flow got = ap (λ o. unwrap_or (option_map (λ (f : StationStep). f.done.copies) o) []) got
 
 -- the same for what they sent
-pub sent_at-got : (flows : List Flow) (i : ℕ) (flow : Flow) → slice_get flows i ≡ Some flow
+pub sent_at-got : (flows : List StationStep) (i : ℕ) (flow : StationStep) → slice_get flows i ≡ Some flow
     → sent_at flows i ≡ flow.sent.items
-sent_at-got flows i flow got = ap (λ o. unwrap_or (option_map (λ (f : Flow). f.sent.items) o) []) got
+sent_at-got flows i flow got = ap (λ o. unwrap_or (option_map (λ (f : StationStep). f.sent.items) o) []) got
 
 -- ---- IsFlow
 
 -- the result of a station's step is that of the task at its place
-pub is_flow : (net : Net) (ends : ℕ → ℕ) (bound i : ℕ) (old : ProcView) (flow : Flow) → old.station ≡ i + 1
+pub is_flow : (net : Net) (ends : ℕ → ℕ) (bound i : ℕ) (old : ProcView) (flow : StationStep) → old.station ≡ i + 1
     → HasAdvanced net old.station ends bound old flow.done flow.sent.items flow.over flow.handled
     → IsFlow net ends bound i old flow
 is_flow net ends bound i old flow number h =
@@ -41,7 +41,7 @@ is_flow net ends bound i old flow number h =
 -- ---- AllFlow
 
 -- results for these bounds are results for bounds that agree at each station
-pub AllFlow-bounds : (net : Net) (ends bounds others : ℕ → ℕ) (procs : List ProcView) (flows : List Flow)
+pub AllFlow-bounds : (net : Net) (ends bounds others : ℕ → ℕ) (procs : List ProcView) (flows : List StationStep)
     → ((i : ℕ) → i < length procs → bounds i ≡ others i) → AllFlow net ends bounds procs flows
     → AllFlow net ends others procs flows
 AllFlow-bounds net ends bounds others procs flows same all = λ i p flow got there.
@@ -54,10 +54,10 @@ pub AreStations-stepped : (net : Net) (ends bounds : ℕ → ℕ) (procs news : 
     (over : Option (ℕ × ℕ)) (steps0 steps : ℕ) → AreStations net procs
     → AllStepped net ends bounds procs news sent over steps0 steps → AreStations net news
 AreStations-stepped net ends bounds procs news sent over steps0 steps all s = record {
-  at_most = let n = ap length s.procs in let m = length-map s.flows (λ (f : Flow). f.done) in let k = s.count in
+  at_most = let n = ap length s.procs in let m = length-map s.flows (λ (f : StationStep). f.done) in let k = s.count in
       let few = all.at_most in omega (arith, n, m, k, few);
   procs_in_order = λ i p got.
-      let f = got_map (λ (f : Flow). f.done) s.flows i p (ap (λ l. slice_get l i) (sym s.procs) ∙ got) in
+      let f = got_map (λ (f : StationStep). f.done) s.flows i p (ap (λ l. slice_get l i) (sym s.procs) ∙ got) in
       let l = slice_get_within s.flows i f.0 f.1 in
       let q = got_within procs i (let n = s.count in omega (arith, l, n)) in
       let flow = s.each i q.0 f.0 q.1 f.1 in

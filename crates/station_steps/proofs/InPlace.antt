@@ -11,7 +11,7 @@ use Rattle.clone_sets.specs.declared.set.CloneSet.{CloneSet}
 use Rattle.net_model.specs.Net.{Net}
 use Rattle.phys_proc.specs.Own.{MarkedMessages, IsLowerBoundOfAll}
 use Rattle.phys_proc.specs.Procs.{ProcView, AreShared}
-use Rattle.station_steps.specs.declared.flow.Flow.{Flow}
+use Rattle.station_steps.specs.declared.station_step.StationStep.{StationStep}
 use Rattle.phys_proc.proofs.AllCopies.{IsStepResult-idle, all_stepped, all_over, all_gained}
 use Rattle.station_steps.specs.Windows.{IsFlow, IsNumbered, NoneOver}
 use Rattle.station_steps.specs.Stepping.{IsFirstOver, FirstOver, SteppedAt, SteppedTo, AllStepped}
@@ -21,7 +21,7 @@ use Rattle.run_laws.proofs.Lists.{slice_get-push}
 -- ---- IsFlow
 
 -- a station with nothing due is its own result
-IsFlow-idle : (net : Net) (ends : ℕ → ℕ) (bound i : ℕ) (p : ProcView) (flow : Flow) → IsNumbered net i p
+IsFlow-idle : (net : Net) (ends : ℕ → ℕ) (bound i : ℕ) (p : ProcView) (flow : StationStep) → IsNumbered net i p
     → IsLowerBoundOfAll bound p.copies →
     AreShared p.living p.copies → flow.done ≡ p → flow.sent.items ≡ [] → flow.over ≡ empty → flow.handled ≡ 0 →
     IsFlow net ends bound i p flow
@@ -57,7 +57,7 @@ slice_get-last (y ∷ ys) x (suc i) e = slice_get-last ys x i (omega (arith, e))
 -- ---- IsFirstOver, NoneOver
 
 -- the first over the limit stays the first with one more result
-pub IsFirstOver-push : (flows : List Flow) (f : Flow) (i who : ℕ) → IsFirstOver flows i who
+pub IsFirstOver-push : (flows : List StationStep) (f : StationStep) (i who : ℕ) → IsFirstOver flows i who
     → IsFirstOver (flows ++ f ∷ []) i who
 IsFirstOver-push flows f i who h = record {
   flow = h.flow;
@@ -70,7 +70,7 @@ IsFirstOver-push flows f i who h = record {
 }
 
 -- if none was over the limit, a new result over it is the first
-pub IsFirstOver-new : (flows : List Flow) (f : Flow) (i who : ℕ) → length flows ≡ i → NoneOver flows
+pub IsFirstOver-new : (flows : List StationStep) (f : StationStep) (i who : ℕ) → length flows ≡ i → NoneOver flows
     → IsFirst f.over who → IsFirstOver (flows ++ f ∷ []) i who
 IsFirstOver-new flows f i who many none first = record {
   flow = f;
@@ -83,17 +83,18 @@ IsFirstOver-new flows f i who many none first = record {
 }
 
 -- if none was over the limit, and a new result is not, none is
-pub NoneOver-push : (flows : List Flow) (f : Flow) → NoneOver flows → f.over ≡ empty → NoneOver (flows ++ f ∷ [])
+pub NoneOver-push : (flows : List StationStep) (f : StationStep) → NoneOver flows → f.over ≡ empty → NoneOver
+    (flows ++ f ∷ [])
 NoneOver-push flows f none over = λ i g got. elim (slice_get-push flows f g i got) [
   | inl e ↦ none i g e
-  | inr e ↦ ap (λ (x : Flow). x.over) e.1 ∙ over
+  | inr e ↦ ap (λ (x : StationStep). x.over) e.1 ∙ over
 ]
 
 -- ---- SteppedAt
 
 -- the result of the step of the station at place i
 pub SteppedAt-flow : (net : Net) (ends : ℕ → ℕ) (bound i : ℕ) (olds news : List ProcView)
-    (before after : MarkedMessages) (p : ProcView) (flow : Flow) → slice_get olds i ≡ Some p
+    (before after : MarkedMessages) (p : ProcView) (flow : StationStep) → slice_get olds i ≡ Some p
     → IsFlow net ends bound i p flow
     → slice_get news i ≡ Some flow.done → ((j : ℕ) → j ≢ i → slice_get news j ≡ slice_get olds j)
     → length news ≡ length olds → after ≡ before ++ flow.sent.items
@@ -126,7 +127,7 @@ module _ (net : Net) (ends bounds : ℕ → ℕ) (olds : List ProcView) where
     steps_are = omega arith;
   }
     where
-      none_got : (flow : Flow) → None ≡ Some flow → ⊥
+      none_got : (flow : StationStep) → None ≡ Some flow → ⊥
       none_got flow e = absurd (cc)
 
   -- if the first n were stepped, and now the next one is, the first n + 1 are
@@ -134,7 +135,7 @@ module _ (net : Net) (ends bounds : ℕ → ℕ) (olds : List ProcView) where
       (over : CloneSet) (handled steps0 steps steps1 : ℕ) → n < length olds →
       SteppedTo net ends bounds n olds news sent over0 steps0 steps
       → SteppedAt net ends (bounds n) n news after sent now over handled → steps1 ≡ steps + handled →
-      ((flows : List Flow) (f : Flow) → length flows ≡ n → f.over ≡ over → FirstOver flows over0
+      ((flows : List StationStep) (f : StationStep) → length flows ≡ n → f.over ≡ over → FirstOver flows over0
       → FirstOver (flows ++ f ∷ []) over1) →
       SteppedTo net ends bounds (n + 1) olds after now over1 steps0 steps1
   SteppedTo-next n news after sent now over0 over1 over handled steps0 steps steps1 less far one took first =
@@ -150,27 +151,27 @@ module _ (net : Net) (ends bounds : ℕ → ℕ) (olds : List ProcView) where
               rw (place, e.1) (one.is_flow p (far.others n (omega arith) ∙ ap (slice_get olds) (sym place) ∙ got))
         ];
         procs = λ i l. done_at i l
-            ∙ ap (λ k. slice_get k i) (sym (map-append (λ (x : Flow). x.done) far.flows (f ∷ [])));
+            ∙ ap (λ k. slice_get k i) (sym (map-append (λ (x : StationStep). x.done) far.flows (f ∷ [])));
         others = λ i l. one.others i (λ e. omega (arith, e, l)) ∙ far.others i (omega (arith, l));
         long = one.long ∙ far.long;
         sent_is = one.sent_is ∙ ap (λ l. l ++ f.sent.items) far.sent_is
-            ∙ flat_map_more (λ (x : Flow). x.sent.items) [] far.flows f;
+            ∙ flat_map_more (λ (x : StationStep). x.sent.items) [] far.flows f;
         first = first far.flows f c (sym one.over_is) far.first;
         steps_are = let a = far.steps_are in let b = one.handled_is in
-            let d = sum_by_push (λ (x : Flow). x.handled) far.flows f in omega (arith, a, b, d, took);
+            let d = sum_by_push (λ (x : StationStep). x.handled) far.flows f in omega (arith, a, b, d, took);
       }
     where
       done_at : (i : ℕ) → i < n + 1 → slice_get after i ≡ slice_get
-          (map (λ (x : Flow). x.done) far.flows ++ one.flow.done ∷ []) i
+          (map (λ (x : StationStep). x.done) far.flows ++ one.flow.done ∷ []) i
       done_at i l = elim (cases_eq i n) [
         | inl e ↦ ap (slice_get after) e ∙ one.is_at
-            ∙ sym (slice_get-last (map (λ (x : Flow). x.done) far.flows) one.flow.done i
-            (length-map far.flows (λ (x : Flow). x.done) ∙ far.count ∙ sym e))
+            ∙ sym (slice_get-last (map (λ (x : StationStep). x.done) far.flows) one.flow.done i
+            (length-map far.flows (λ (x : StationStep). x.done) ∙ far.count ∙ sym e))
         | inr ne ↦
             let c = far.count in
-            let m = length-map far.flows (λ (x : Flow). x.done) in
+            let m = length-map far.flows (λ (x : StationStep). x.done) in
             one.others i ne ∙ far.procs i (below i l ne)
-            ∙ sym (slice_get-append (map (λ (x : Flow). x.done) far.flows) (one.flow.done ∷ []) i
+            ∙ sym (slice_get-append (map (λ (x : StationStep). x.done) far.flows) (one.flow.done ∷ []) i
             (let k = below i l ne in omega (arith, k, m, c)))
       ]
         where
@@ -179,7 +180,8 @@ module _ (net : Net) (ends bounds : ℕ → ℕ) (olds : List ProcView) where
 
   -- a station with nothing due is stepped by leaving it unchanged
   pub SteppedTo-idle : (n : ℕ) (news : List ProcView) (sent : MarkedMessages) (over : Option (ℕ × ℕ)) (steps0 steps : ℕ)
-      (p : ProcView) (flow : Flow) → n < length olds → SteppedTo net ends bounds n olds news sent over steps0 steps
+      (p : ProcView) (flow : StationStep) → n < length olds → SteppedTo net ends bounds n olds news sent over steps0
+      steps
       → slice_get news n ≡ Some p → IsNumbered net n p → IsLowerBoundOfAll (bounds n) p.copies → AreShared p.living p.copies
       → flow.done ≡ p → flow.sent.items ≡ [] → flow.over ≡ empty → flow.handled ≡ 0
       → SteppedTo net ends bounds (n + 1) olds news sent over steps0 steps
@@ -190,7 +192,7 @@ module _ (net : Net) (ends bounds : ℕ → ℕ) (olds : List ProcView) where
       (λ j ne. refl) refl (sym (ap (λ l. sent ++ l) none ∙ append-nil sent))) (omega (arith, silent))
       (λ flows f many same. still over flows f (same ∙ free))
     where
-      still : (o : Option (ℕ × ℕ)) (flows : List Flow) (f : Flow) → f.over ≡ empty → FirstOver flows o
+      still : (o : Option (ℕ × ℕ)) (flows : List StationStep) (f : StationStep) → f.over ≡ empty → FirstOver flows o
           → FirstOver (flows ++ f ∷ []) o
       still None flows f e h = NoneOver-push flows f h e
       still (Some q) flows f e h = IsFirstOver-push flows f q.0 q.1 h
@@ -203,12 +205,12 @@ module _ (net : Net) (ends bounds : ℕ → ℕ) (olds : List ProcView) where
   SteppedTo-all n news sent over steps0 steps all far =
       let c = far.count in
       let l = far.long in
-      let m = length-map far.flows (λ (x : Flow). x.done) in
+      let m = length-map far.flows (λ (x : StationStep). x.done) in
       record {
         flows = far.flows;
         count = c ∙ all;
         each = far.each;
-        procs = same_lists news (map (λ (x : Flow). x.done) far.flows) (omega (arith, c, l, m, all))
+        procs = same_lists news (map (λ (x : StationStep). x.done) far.flows) (omega (arith, c, l, m, all))
             (λ i k. far.procs i (omega (arith, k, l, all)));
         sent_is = far.sent_is;
         first = far.first;

@@ -4,7 +4,7 @@ use Rattle.std.proofs.Common.{subst, sym}
 use Rattle.std.proofs.lemmas.Option.{slice_get_within, get_or_from_slice_get}
 use Rattle.net_model.specs.Net.{Net}
 use Rattle.phys_proc.specs.Procs.{ProcView}
-use Rattle.station_steps.specs.declared.flow.Flow.{Flow}
+use Rattle.station_steps.specs.declared.station_step.StationStep.{StationStep}
 use Rattle.crew_pool.specs.Tasks.{AnswersTo, EachAt, MayRunAll}
 use Rattle.station_steps.specs.Tasks.{AreSteps, IsStationTask}
 use Rattle.station_steps.specs.Windows.{AllFlow, AreBounds, AreStations, IsFlow, bound_of}
@@ -41,7 +41,7 @@ steps_may_run net procs bounds tasks are all bounded = record {
 
 -- the results of tasks are those of steps
 pub steps_answered : (net : Net) (ends : ℕ → ℕ) (procs : List ProcView) (bounds : List ℕ) (tasks : List StationTask)
-    (flows : List Flow) → AreSteps procs bounds tasks
+    (flows : List StationStep) → AreSteps procs bounds tasks
     → EachAt (AnswersTo (λ i (task : StationTask) flow. IsFlow net ends task.bound i task.proc flow) tasks) flows
     → AllFlow net ends (bound_of bounds) procs flows
 steps_answered net ends procs bounds tasks flows are h = each

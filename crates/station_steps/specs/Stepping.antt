@@ -7,18 +7,18 @@ use Rattle.net_model.specs.Net.{Net}
 use Rattle.net_model.specs.declared.limits.TheConstants.{MAX_STATIONS}
 use Rattle.phys_proc.specs.Own.{MarkedMessages}
 use Rattle.phys_proc.specs.Procs.{ProcView}
-use Rattle.station_steps.specs.declared.flow.Flow.{Flow}
+use Rattle.station_steps.specs.declared.station_step.StationStep.{StationStep}
 use Rattle.station_steps.specs.Windows.{AllDelivered, AllFlow, IsFlow, NoneOver, all_handled, all_sent}
 
 -- the result at place i is the first with a clone over the limit, and this clone is the first there
-pub record IsFirstOver (flows : List Flow) (i who : ℕ) : Type 0 where
-  pub flow : Flow
+pub record IsFirstOver (flows : List StationStep) (i who : ℕ) : Type 0 where
+  pub flow : StationStep
   pub is_there : slice_get flows i ≡ Some flow
   pub first : IsFirst flow.over who
-  pub none_before : (j : ℕ) (f : Flow) → j < i → slice_get flows j ≡ Some f → f.over ≡ empty
+  pub none_before : (j : ℕ) (f : StationStep) → j < i → slice_get flows j ≡ Some f → f.over ≡ empty
 
 -- the place of the first station with a clone over the limit, and the first such clone there, if any
-abbrev pub FirstOver : List Flow → Option (ℕ × ℕ) → Type 0
+abbrev pub FirstOver : List StationStep → Option (ℕ × ℕ) → Type 0
 FirstOver flows None = NoneOver flows
 FirstOver flows (Some p) = IsFirstOver flows p.0 p.1
 
@@ -31,7 +31,7 @@ IsPlaceOfOver over = IfSome over (λ p. p.0 < MAX_STATIONS)
 pub record SteppedAt (net : Net) (ends : ℕ → ℕ) (bound i : ℕ) (olds news : List ProcView)
     (before after : MarkedMessages)
     (over : CloneSet) (handled : ℕ) : Type 0 where
-  pub flow : Flow
+  pub flow : StationStep
   pub is_flow : (p : ProcView) → slice_get olds i ≡ Some p → IsFlow net ends bound i p flow
   pub is_at : slice_get news i ≡ Some flow.done
   pub others : (j : ℕ) → j ≢ i → slice_get news j ≡ slice_get olds j
@@ -43,7 +43,7 @@ pub record SteppedAt (net : Net) (ends : ℕ → ℕ) (bound i : ℕ) (olds news
 -- the first n stations were stepped: what they sent, the first over the limit, and the number of steps
 pub record SteppedTo (net : Net) (ends bounds : ℕ → ℕ) (n : ℕ) (olds news : List ProcView) (sent : MarkedMessages)
     (over : Option (ℕ × ℕ)) (steps0 steps : ℕ) : Type 0 where
-  pub flows : List Flow
+  pub flows : List StationStep
   pub count : length flows ≡ n
   pub each : AllFlow net ends bounds olds flows
   pub procs : (i : ℕ) → i < n → slice_get news i ≡ slice_get (map (λ f. f.done) flows) i
@@ -56,7 +56,7 @@ pub record SteppedTo (net : Net) (ends bounds : ℕ → ℕ) (n : ℕ) (olds new
 -- all stations were stepped
 pub record AllStepped (net : Net) (ends bounds : ℕ → ℕ) (olds news : List ProcView) (sent : MarkedMessages)
     (over : Option (ℕ × ℕ)) (steps0 steps : ℕ) : Type 0 where
-  pub flows : List Flow
+  pub flows : List StationStep
   pub count : length flows ≡ length olds
   pub each : AllFlow net ends bounds olds flows
   pub procs : news ≡ map (λ f. f.done) flows

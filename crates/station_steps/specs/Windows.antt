@@ -11,7 +11,7 @@ use Rattle.run_laws.specs.Copies.{IsStepped, AreOver, GainTogether}
 use Rattle.phys_proc.specs.Own.{StationCopy, MarkedMessages}
 use Rattle.phys_proc.specs.Procs.{ProcView, IsProc}
 pub use Rattle.station_steps.specs.Mail.{mail_for, with_mail}
-use Rattle.station_steps.specs.declared.flow.Flow.{Flow}
+use Rattle.station_steps.specs.declared.station_step.StationStep.{StationStep}
 
 -- what the tasks of a window share: the network, and when clones end
 pub record WindowView : Type 0 where
@@ -55,21 +55,21 @@ pub record HasAdvanced (net : Net) (s : ℕ) (ends : ℕ → ℕ) (bound : ℕ) 
   pub once : full ≡ empty → new.handled ≡ old.handled + count
 
 -- the result of the task of place i: that of a step of station i + 1
-abbrev pub IsFlow : Net → (ℕ → ℕ) → ℕ → ℕ → ProcView → Flow → Type 0
+abbrev pub IsFlow : Net → (ℕ → ℕ) → ℕ → ℕ → ProcView → StationStep → Type 0
 IsFlow net ends bound i old flow =
     HasAdvanced net (i + 1) ends bound old flow.done flow.sent.items flow.over flow.handled
 
 -- the result of each task, for the bound of its place
-abbrev pub AllFlow : Net → (ℕ → ℕ) → (ℕ → ℕ) → List ProcView → List Flow → Type 0
-AllFlow net ends bounds procs flows = (i : ℕ) (p : ProcView) (flow : Flow) → slice_get procs i ≡ Some p
+abbrev pub AllFlow : Net → (ℕ → ℕ) → (ℕ → ℕ) → List ProcView → List StationStep → Type 0
+AllFlow net ends bounds procs flows = (i : ℕ) (p : ProcView) (flow : StationStep) → slice_get procs i ≡ Some p
     → slice_get flows i ≡ Some flow → IsFlow net ends (bounds i) i p flow
 
 -- the messages that all stations have handled
-abbrev pub all_handled : List Flow → ℕ
+abbrev pub all_handled : List StationStep → ℕ
 all_handled flows = sum_by (λ f. f.handled) flows
 
 -- the messages that all stations sent, station after station
-abbrev pub all_sent : List Flow → MarkedMessages
+abbrev pub all_sent : List StationStep → MarkedMessages
 all_sent flows = flat_map (λ f. f.sent.items) flows
 
 -- the messages for the station at place i
@@ -81,20 +81,20 @@ abbrev pub copies_at : List ProcView → ℕ → List StationCopy
 copies_at procs i = unwrap_or (option_map (λ p. p.copies) (slice_get procs i)) []
 
 -- the copies at place i, as its task returns them
-abbrev pub done_at : List Flow → ℕ → List StationCopy
+abbrev pub done_at : List StationStep → ℕ → List StationCopy
 done_at flows i = unwrap_or (option_map (λ f. f.done.copies) (slice_get flows i)) []
 
 -- the messages that the copies at place i sent
-abbrev pub sent_at : List Flow → ℕ → MarkedMessages
+abbrev pub sent_at : List StationStep → ℕ → MarkedMessages
 sent_at flows i = unwrap_or (option_map (λ f. f.sent.items) (slice_get flows i)) []
 
 -- the copies at place i after the window
-abbrev pub after_window : List Flow → ℕ → List StationCopy
+abbrev pub after_window : List StationStep → ℕ → List StationCopy
 after_window flows i = with_mail (sent_to i (all_sent flows)) (done_at flows i)
 
 -- no clone went over the limit
-abbrev pub NoneOver : List Flow → Type 0
-NoneOver flows = (i : ℕ) (flow : Flow) → slice_get flows i ≡ Some flow → flow.over ≡ empty
+abbrev pub NoneOver : List StationStep → Type 0
+NoneOver flows = (i : ℕ) (flow : StationStep) → slice_get flows i ≡ Some flow → flow.over ≡ empty
 
 -- the stations are in the order of their numbers
 abbrev pub AreStationsInOrder : List ProcView → Type 0

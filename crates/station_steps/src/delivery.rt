@@ -2,7 +2,7 @@
 ghost use Rattle.std.specs.Prelude.{◌∷◌, [], OnOk};
 ghost use Rattle.station_steps.specs.Windows.{AllDelivered, AreStationsInOrder};
 
-use crate::timed_proc::TimedProc;
+use crate::station_slot::StationSlot;
 use clone_sets::CloneSet;
 use sim_base::{Msg, NoMemory};
 
@@ -11,7 +11,7 @@ use sim_base::{Msg, NoMemory};
 /// # Errors
 ///
 /// Out of memory: some of the station's copies may have the message.
-pub fn deliver_to(procs: &mut Vec<TimedProc>, msg: Msg, set: CloneSet) -> Result<(), NoMemory>
+pub fn deliver_to(procs: &mut Vec<StationSlot>, msg: Msg, set: CloneSet) -> Result<(), NoMemory>
     requires in_order { AreStationsInOrder procs.old.items }
     ensures given { OnOk result (AllDelivered ((msg, set) ∷ []) procs.old.items procs.new.items) }
 {
@@ -28,7 +28,7 @@ pub fn deliver_to(procs: &mut Vec<TimedProc>, msg: Msg, set: CloneSet) -> Result
 /// # Errors
 ///
 /// Out of memory: some of the copies may have some of the messages.
-pub fn deliver_all(procs: &mut Vec<TimedProc>, sent: &[(Msg, CloneSet)]) -> Result<(), NoMemory>
+pub fn deliver_all(procs: &mut Vec<StationSlot>, sent: &[(Msg, CloneSet)]) -> Result<(), NoMemory>
     requires in_order { AreStationsInOrder procs.old.items }
     ensures given { OnOk result (AllDelivered sent.now procs.old.items procs.new.items) }
 {

@@ -36,25 +36,25 @@
 #![tactic(auto)]
 
 pub mod delivery;
-pub mod flow;
 pub mod mail;
 pub mod sent_list;
 pub mod shared_ends;
 pub mod shared_lists;
 pub mod shared_model;
+pub mod station_slot;
+pub mod station_step;
 pub mod stepping;
 pub mod tasks;
-pub mod timed_proc;
 pub mod windows;
 
 pub use delivery::{deliver_all, deliver_to};
-pub use flow::Flow;
 pub use mail::Mail;
 pub use sent_list::SentList;
 pub use shared_ends::SharedEnds;
 pub use shared_lists::SharedLists;
 pub use shared_model::share_of;
+pub use station_slot::StationSlot;
+pub use station_step::StationStep;
 pub use stepping::{Buffers, WindowResult, pass_gate, step_by_crew, step_in_place};
 pub use tasks::StationTask;
-pub use timed_proc::TimedProc;
 pub use windows::Window;

@@ -7,16 +7,16 @@ ghost use Rattle.net_model.specs.Net.{Net};
 ghost use Rattle.net_model.specs.declared.limits.TheConstants.{MAX_STATIONS};
 ghost use Rattle.phys_proc.specs.Ends.{ends_in};
 ghost use Rattle.phys_proc.specs.Procs.{ProcView};
-ghost use Rattle.station_steps.specs.declared.flow.Flow.{Flow as Flow'};
+ghost use Rattle.station_steps.specs.declared.station_step.StationStep.{StationStep as StationStep'};
 ghost use Rattle.station_steps.specs.Windows.{AllDelivered, AllFlow, AreBounds, AreStations, IsNumbered, bound_of};
 ghost use Rattle.station_steps.specs.Windows.{all_handled, all_sent};
 ghost use Rattle.station_steps.specs.Stepping.{FirstOver, IsPlaceOfOver, AllStepped, AllSteppedAndGiven, SteppedAt};
 
-use crate::flow::Flow;
 use crate::mail::Mail;
 use crate::sent_list::SentList;
+use crate::station_slot::StationSlot;
+use crate::station_step::StationStep;
 use crate::tasks::steps_for;
-use crate::timed_proc::TimedProc;
 use crate::windows::Window;
 use clone_sets::CloneSet;
 use crew_pool::{Crew, Gate};
@@ -32,7 +32,7 @@ use std::sync::{Arc, Wait};
 pub struct WindowResult {
     /// The copies of each station at its bound, in the order of the stations. They have no meaning if some clone is
     /// over the limit.
-    pub procs: Vec<TimedProc>,
+    pub procs: Vec<StationSlot>,
     /// The messages that the stations sent to others, and the unchanged bounds.
     pub buffers: Buffers,
     /// The index of the first station with a clone over the limit, from 0, and the first such clone there.
@@ -95,7 +95,8 @@ fn append(all: &mut Vec<(Msg, CloneSet)>, more: &[(Msg, CloneSet)]) -> Result<()
 fn first_so_far(before: Option<(u32, u32)>, i: u32, over: CloneSet) -> Option<(u32, u32)>
     requires at_most { i < MAX_STATIONS }
     requires before { IsPlaceOfOver before }
-    ensures first { (flows : List Flow') (f : Flow') → length flows ≡ i → f.over ≡ over → FirstOver flows before →
+    ensures first { (flows : List StationStep') (f : StationStep') → length flows ≡ i → f.over ≡ over → FirstOver flows
+        before →
         FirstOver (flows ++ f ∷ []) result }
     ensures at_most { IsPlaceOfOver result }
 {
@@ -113,7 +114,7 @@ fn step_place<L: Ledger>(
     alloc: Global,
     model: &Model,
     ends: &CloneEnds,
-    procs: &mut Vec<TimedProc>,
+    procs: &mut Vec<StationSlot>,
     i: usize,
     buffers: &mut Buffers,
     steps: &mut Steps<L>,
@@ -152,7 +153,7 @@ pub fn step_in_place<L: Ledger>(
     alloc: Global,
     model: &Model,
     ends: &CloneEnds,
-    olds: Vec<TimedProc>,
+    olds: Vec<StationSlot>,
     buffers: Buffers,
     steps: &mut Steps<L>,
 ) -> Result<WindowResult, NoMemory>
@@ -187,9 +188,9 @@ pub fn step_in_place<L: Ledger>(
 // The copies of all stations, and the list that each sent. The stations keep these other lists to reuse their memory.
 fn take_apart(
     alloc: Global,
-    flows: Vec<Flow>,
+    flows: Vec<StationStep>,
     rooms: Vec<SentList>,
-) -> Result<(Vec<TimedProc>, Vec<SentList>), NoMemory>
+) -> Result<(Vec<StationSlot>, Vec<SentList>), NoMemory>
     ensures procs { IfOk result (λ p. p.0.items ≡ map (λ f. f.done) flows.items) }
     ensures sent { IfOk result (λ p. p.1.items ≡ map (λ f. f.sent) flows.items) }
 {
@@ -197,7 +198,7 @@ fn take_apart(
     let mut lists = Vec::with_capacity(alloc, flows.len())?;
     let mut rooms = rooms;
     for flow in flows {
-        let Flow {
+        let StationStep {
             mut done,
             sent,
             over: _,
@@ -213,7 +214,7 @@ fn take_apart(
 }
 
 // The number of messages that the stations have handled.
-fn handled_in(flows: &[Flow]) -> u64 {
+fn handled_in(flows: &[StationStep]) -> u64 {
     let mut sum: u64 = 0;
     for flow in flows {
         sum = sum.saturating_add(flow.handled);
@@ -222,7 +223,7 @@ fn handled_in(flows: &[Flow]) -> u64 {
 }
 
 // The first station with a clone over the limit, and there the first clone.
-fn first_over(flows: &[Flow]) -> Option<(u32, u32)>
+fn first_over(flows: &[StationStep]) -> Option<(u32, u32)>
     requires at_most { length flows.now ≤ MAX_STATIONS }
     ensures first { FirstOver flows.now result }
     ensures at_most { IsPlaceOfOver result }
@@ -238,7 +239,7 @@ fn first_over(flows: &[Flow]) -> Option<(u32, u32)>
 // The result of a window, from the results of all tasks: the stations share what they sent as their mail.
 fn gather_flows(
     alloc: Global,
-    flows: Vec<Flow>,
+    flows: Vec<StationStep>,
     buffers: Buffers,
 ) -> Result<(WindowResult, Arc<Mail>), NoMemory>
     requires at_most { length flows.items ≤ MAX_STATIONS }
@@ -268,10 +269,10 @@ fn run_tasks<G: Gate, L: Ledger, R: Wait>(
     alloc: Global,
     crew: &mut Crew<'_, Window, G>,
     work: Arc<Window>,
-    procs: Vec<TimedProc>,
+    procs: Vec<StationSlot>,
     bounds: &[u64],
     steps: &mut Steps<L>,
-) -> Result<Vec<Flow>, NoMemory>
+) -> Result<Vec<StationStep>, NoMemory>
     requires stations { AreStations work.value.net procs.items }
     requires bounds { AreBounds work.value.net procs.items bounds.now }
     ensures count { IfOk result (λ flows. length flows.items ≡ length procs.items) }
@@ -285,7 +286,7 @@ fn run_tasks<G: Gate, L: Ledger, R: Wait>(
 }
 
 // Posts the mail to each station, which takes its messages at its next step.
-fn post_all(procs: &mut Vec<TimedProc>, mail: &Arc<Mail>) -> Result<(), NoMemory>
+fn post_all(procs: &mut Vec<StationSlot>, mail: &Arc<Mail>) -> Result<(), NoMemory>
     requires stations { (net : Net) × AreStations net procs.old.items }
     ensures given { OnOk result (AllDelivered mail.now.value procs.old.items procs.new.items) }
 {
@@ -306,7 +307,7 @@ pub fn step_by_crew<G: Gate, L: Ledger, R: Wait>(
     alloc: Global,
     crew: &mut Crew<'_, Window, G>,
     work: Arc<Window>,
-    procs: Vec<TimedProc>,
+    procs: Vec<StationSlot>,
     buffers: Buffers,
     steps: &mut Steps<L>,
 ) -> Result<WindowResult, NoMemory>

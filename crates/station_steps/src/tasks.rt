@@ -2,7 +2,7 @@
 ghost use Rattle.std.specs.Prelude.{◌≡◌, length, IfOk};
 ghost use Rattle.station_steps.specs.Tasks.{AreSteps};
 
-use crate::timed_proc::TimedProc;
+use crate::station_slot::StationSlot;
 use crew_pool::add;
 use sim_base::NoMemory;
 use std::alloc::Global;
@@ -10,14 +10,14 @@ use std::alloc::Global;
 /// A task: the copies of a station, and the bound to which a worker steps them.
 #[derive(Drop)]
 pub struct StationTask {
-    pub(crate) proc: TimedProc,
+    pub(crate) proc: StationSlot,
     pub(crate) bound: u64,
 }
 
 /// Makes a task for each station, to the bound at its place.
 pub(crate) fn steps_for(
     alloc: Global,
-    procs: Vec<TimedProc>,
+    procs: Vec<StationSlot>,
     bounds: &[u64],
 ) -> Result<Vec<StationTask>, NoMemory>
     requires count { length bounds.now ≡ length procs.items }

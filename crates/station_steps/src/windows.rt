@@ -4,12 +4,12 @@ ghost use Rattle.std.specs.Prelude.{◌≡◌, ◌+◌, ◌≤◌, IfOk};
 ghost use Rattle.phys_proc.specs.Ends.{ends_in};
 ghost use Rattle.station_steps.specs.Windows.{IsFlow, IsNumbered};
 
-use crate::flow::Flow;
 use crate::sent_list::SentList;
 use crate::shared_ends::SharedEnds;
 use crate::shared_model::share_of;
+use crate::station_slot::StationSlot;
+use crate::station_step::StationStep;
 use crate::tasks::StationTask;
-use crate::timed_proc::TimedProc;
 use crew_pool::Work;
 use net_model::Model;
 use phys_proc::CloneEnds;
@@ -59,10 +59,10 @@ impl Window {
         &self,
         alloc: Global,
         _i: u32,
-        proc: TimedProc,
+        proc: StationSlot,
         bound: u64,
         steps: &mut Steps<L>,
-    ) -> Result<Flow, NoMemory>
+    ) -> Result<StationStep, NoMemory>
         requires numbered { IsNumbered self.now.net _i proc }
         requires time_max { bound ≤ self.now.net.horizon }
         ensures flow { IfOk result (λ flow. IsFlow self.now.net (ends_in self.now.net.horizon self.now.ends) bound _i
@@ -72,7 +72,7 @@ impl Window {
         let mut done = proc;
         let (mut messages, firsts) = done.lend(alloc);
         let gain = done.advance(alloc, &self.model, &self.ends, bound, &mut messages, steps)?;
-        Ok(Flow {
+        Ok(StationStep {
             done,
             sent: SentList::of(messages, firsts)?,
             over: gain.over,
@@ -84,7 +84,7 @@ impl Window {
 impl Work for Window {
     type In = StationTask;
 
-    type Out = Flow;
+    type Out = StationStep;
 
     ghost use Rattle.phys_proc.specs.Ends.{ends_in};
     ghost use Rattle.station_steps.specs.Tasks.{IsStationTask};
@@ -102,11 +102,11 @@ impl Work for Window {
         i: u32,
         item: StationTask,
         steps: &mut Steps<L>,
-    ) -> Result<Flow, NoMemory> {
+    ) -> Result<StationStep, NoMemory> {
         self.step(alloc, i, item.proc, item.bound, steps)
     }
 
-    fn spent(&self, out: &Flow) -> u64 {
+    fn spent(&self, out: &StationStep) -> u64 {
         out.handled
     }
 

@@ -28,7 +28,7 @@ use Rattle.run_laws.proofs.Gaining.{over_is_beyond, handled_grows, handled_is_fe
 use Rattle.phys_proc.specs.Own.{StationCopy, IsCopy}
 use Rattle.phys_proc.specs.Procs.{ProcView}
 use Rattle.phys_proc.proofs.ComesFrom.{sets_join}
-use Rattle.station_steps.specs.declared.flow.Flow.{Flow}
+use Rattle.station_steps.specs.declared.station_step.StationStep.{StationStep}
 use Rattle.station_steps.specs.Windows.{AllFlow, IsFlow, NoneOver, copies_at, done_at, sent_at, after_window, all_handled}
 use Rattle.station_steps.proofs.Flows.{copies_at-got, done_at-got, sent_at-got}
 use Rattle.station_steps.proofs.Places.{by_number}
@@ -41,7 +41,8 @@ use Rattle.world_core.specs.Worlds.{StandsAt, total_handled}
 
 -- the copies of all stations represent the clones at a front; each station was stepped in a window that is not past the
 -- next front
-pub record WorldStepped (net : Net) (cs : List Clone) (front bound : ℕ) (procs : List ProcView) (flows : List Flow) :
+pub record WorldStepped (net : Net) (cs : List Clone) (front bound : ℕ) (procs : List ProcView)
+    (flows : List StationStep) :
     Type 0 where
   pub valid : IsNet net
   pub all_procs : length procs ≡ length net.sites
@@ -50,7 +51,7 @@ pub record WorldStepped (net : Net) (cs : List Clone) (front bound : ℕ) (procs
   pub stood : (i : ℕ) (p : ProcView) → slice_get procs i ≡ Some p → StandsAt net cs front i p
   pub stepped : AllFlow net (ends_of (simulation net) cs) (λ i. bound) procs flows
 
-module _ (net : Net) (cs : List Clone) (front bound : ℕ) (procs : List ProcView) (flows : List Flow)
+module _ (net : Net) (cs : List Clone) (front bound : ℕ) (procs : List ProcView) (flows : List StationStep)
     (world : WorldStepped net cs front bound procs flows) where
   -- each station of the network has its copies
   pub proc_of : (i : ℕ) → i < length net.sites → (p : ProcView) × (slice_get procs i ≡ Some p)
@@ -60,7 +61,7 @@ module _ (net : Net) (cs : List Clone) (front bound : ℕ) (procs : List ProcVie
   ]
 
   -- and a result, which has them as the task leaves them
-  pub flow_of : (i : ℕ) → i < length net.sites → (flow : Flow) × (slice_get flows i ≡ Some flow)
+  pub flow_of : (i : ℕ) → i < length net.sites → (flow : StationStep) × (slice_get flows i ≡ Some flow)
   flow_of i l = elim (slice_get_cases flows i).1 [
     | inl found ↦ (found.0, found.2)
     | inr past ↦ absurd (let p = past.0 in omega (arith, p, world.all_flows, l))
@@ -74,12 +75,12 @@ module _ (net : Net) (cs : List Clone) (front bound : ℕ) (procs : List ProcVie
       (world.stood i p.0 p.1).copies
 
   -- the result of a station is about its copies
-  pub is_flow : (i : ℕ) (l : i < length net.sites) (flow : Flow) → slice_get flows i ≡ Some flow →
+  pub is_flow : (i : ℕ) (l : i < length net.sites) (flow : StationStep) → slice_get flows i ≡ Some flow →
       IsFlow net (ends_of (simulation net) cs) bound i (proc_of i l).0 flow
   is_flow i l flow got = let p = proc_of i l in world.stepped i p.0 flow p.1 got
 
   -- those over the limit are the clones whose logs are beyond it
-  pub over_of : (i : ℕ) (l : i < length net.sites) (flow : Flow) → slice_get flows i ≡ Some flow → (c : ℕ) →
+  pub over_of : (i : ℕ) (l : i < length net.sites) (flow : StationStep) → slice_get flows i ≡ Some flow → (c : ℕ) →
       (has flow.over c ≡ true) ↔ ((c < length cs) × IsBeyond net (i + 1) bound (clone_at cs c))
   over_of i l flow got c =
       let p = proc_of i l in
@@ -102,7 +103,7 @@ module _ (net : Net) (cs : List Clone) (front bound : ℕ) (procs : List ProcVie
       omega (arith, short, long)
 
   -- with what was handled before, a station has handled at most the limit for each clone
-  few_at : (i : ℕ) → i < length net.sites → (flow : Flow) → slice_get flows i ≡ Some flow →
+  few_at : (i : ℕ) → i < length net.sites → (flow : StationStep) → slice_get flows i ≡ Some flow →
       handled_once net cs (i + 1) front + flow.handled ≤ length cs * net.limit
   few_at i l flow got =
       let p = proc_of i l in
@@ -177,7 +178,7 @@ module _ (net : Net) (cs : List Clone) (front bound : ℕ) (procs : List ProcVie
         others zero other = refl
         others (suc i) other = elim (slice_get_cases flows i).1 [
           | inl found ↦ absurd (let l = found.0 in other (omega arith, omega (arith, l, world.all_flows)))
-          | inr past ↦ ap (λ o. unwrap_or (option_map (λ (f : Flow). f.sent.items) o) []) past.1
+          | inr past ↦ ap (λ o. unwrap_or (option_map (λ (f : StationStep). f.sent.items) o) []) past.1
         ]
 
     -- what was sent to a station is delivered to its copies
@@ -215,7 +216,7 @@ module _ (net : Net) (cs : List Clone) (front bound : ℕ) (procs : List ProcVie
         ∙ (over_of i l f.0 f.1 c).1 (there, long)))
 
     -- the messages handled once grow by what the station has handled
-    pub grown_at : (i : ℕ) → i < length net.sites → (flow : Flow) → slice_get flows i ≡ Some flow
+    pub grown_at : (i : ℕ) → i < length net.sites → (flow : StationStep) → slice_get flows i ≡ Some flow
         → handled_once net cs (i + 1) bound ≡ handled_once net cs (i + 1) front + flow.handled
     grown_at i l flow got =
         let p = proc_of i l in

@@ -9,16 +9,16 @@ use Rattle.clone_sets.proofs.SetLaws.{has-empty}
 use Rattle.net_model.specs.Net.{Net}
 use Rattle.stations.specs.Runs.{IsBeyond}
 use Rattle.phys_proc.specs.Procs.{ProcView}
-use Rattle.station_steps.specs.declared.flow.Flow.{Flow}
+use Rattle.station_steps.specs.declared.station_step.StationStep.{StationStep}
 use Rattle.station_steps.specs.Windows.{NoneOver}
 use Rattle.station_steps.specs.Stepping.{IsFirstOver}
 use Rattle.world_core.specs.Overs.{IsFirstBeyond, NoneBeyond}
 use Rattle.world_core.proofs.AfterWindow.{WorldStepped, flow_of, over_of}
 
-module _ (net : Net) (cs : List Clone) (front bound : ℕ) (procs : List ProcView) (flows : List Flow)
+module _ (net : Net) (cs : List Clone) (front bound : ℕ) (procs : List ProcView) (flows : List StationStep)
     (world : WorldStepped net cs front bound procs flows) where
   -- those over the limit at a place are the clones whose logs are beyond it
-  over_at : (i : ℕ) → i < length net.sites → (flow : Flow) → slice_get flows i ≡ Some flow → (c : ℕ) →
+  over_at : (i : ℕ) → i < length net.sites → (flow : StationStep) → slice_get flows i ≡ Some flow → (c : ℕ) →
       (has flow.over c ≡ true) ↔ ((c < length cs) × IsBeyond net (i + 1) bound (clone_at cs c))
   over_at = over_of net cs front bound procs flows world
 

@@ -7,7 +7,7 @@ use Rattle.stations.specs.Runs.{next_front}
 use Rattle.phys_proc.specs.Ends.{ends_in}
 use Rattle.phys_proc.specs.Own.{MarkedMessages}
 use Rattle.phys_proc.specs.Procs.{ProcView}
-use Rattle.station_steps.specs.declared.flow.Flow.{Flow}
+use Rattle.station_steps.specs.declared.station_step.StationStep.{StationStep}
 use Rattle.station_steps.specs.Windows.{AllDelivered, AllFlow, AreBounds, AreStations, MayGiveAll, NoneOver, bound_of}
 use Rattle.station_steps.specs.Stepping.{AllStepped, FirstOver}
 use Rattle.station_steps.proofs.Flows.{AllFlow-bounds, MayGiveAll-stepped}
@@ -57,7 +57,7 @@ module _ (net : Net) (cs : List Clone) (ended : List (ℕ × ℕ)) (front bound 
 
   module _ (news : List ProcView) (sent : MarkedMessages) (over : Option (ℕ × ℕ)) (steps0 steps1 : ℕ)
       (s : AllStepped net (ends_in net.horizon ended) (bound_of bounds) procs news sent over steps0 steps1) where
-    abbrev flows : List Flow
+    abbrev flows : List StationStep
     flows = s.flows
 
     -- each was stepped to the bound
@@ -84,7 +84,7 @@ module _ (net : Net) (cs : List Clone) (ended : List (ℕ × ℕ)) (front bound 
           (are_stations net cs ended front procs world) s;
       stands = λ o given d. world_after net cs ended front bound procs world later no_later flows s.count all
           (none o) given
-          (subst (λ k. AllDelivered k (map (λ (f : Flow). f.done) flows) given) s.sent_is
+          (subst (λ k. AllDelivered k (map (λ (f : StationStep). f.done) flows) given) s.sent_is
           (subst (λ k. AllDelivered sent k given) s.procs d));
       steps = λ o. let grown = total_grows net cs front bound procs flows stepped world.for_stations (none o) in
           let taken = s.steps_are in omega (arith, grown, taken);

@@ -12,7 +12,7 @@ use Rattle.run_laws.specs.Copies.{Stands, ends_of}
 use Rattle.run_laws.proofs.NextFronts.{window_end-within}
 use Rattle.phys_proc.specs.Ends.{ends_in}
 use Rattle.phys_proc.specs.Procs.{ProcView}
-use Rattle.station_steps.specs.declared.flow.Flow.{Flow}
+use Rattle.station_steps.specs.declared.station_step.StationStep.{StationStep}
 use Rattle.phys_proc.proofs.Ends.{ends_in-bound}
 use Rattle.world_core.specs.Worlds.{AreInNet, StandsAt, WorldStands}
 use Rattle.station_steps.specs.Windows.{AreStations, AllFlow, AllDelivered, NoneOver}
@@ -61,7 +61,7 @@ module _ (net : Net) (cs : List Clone) (ended : List (ℕ × ℕ)) (front bound 
   bound-within =
       let h = window_end-within (simulation net) (least (simulation net) cs front) in omega (arith, within, h)
 
-  module _ (flows : List Flow) (count : length flows ≡ length procs)
+  module _ (flows : List StationStep) (count : length flows ≡ length procs)
       (stepped : AllFlow net (ends_in net.horizon ended) (λ i. bound) procs flows) where
     -- the stations before the window, and their results
     pub world_stepped : WorldStepped net cs front bound procs flows
@@ -76,12 +76,13 @@ module _ (net : Net) (cs : List Clone) (ended : List (ℕ × ℕ)) (front bound 
 
     module _ (none : NoneOver flows) where
       -- if no clone went over the limit, and what was sent is delivered, the world is at the bound
-      pub world_after : (news : List ProcView) → AllDelivered (all_sent flows) (map (λ (f : Flow). f.done) flows) news
+      pub world_after : (news : List ProcView) → AllDelivered (all_sent flows) (map (λ (f : StationStep). f.done) flows)
+          news
           → WorldStands net cs ended bound news
       world_after news given = record {
         valid = world.valid;
         time_max = bound-within;
-        count = given.count ∙ length-map flows (λ (f : Flow). f.done) ∙ world_stepped.all_flows;
+        count = given.count ∙ length-map flows (λ (f : StationStep). f.done) ∙ world_stepped.all_flows;
         at_most = world.at_most;
         ends = world.ends;
         for_stations = world.for_stations;
@@ -90,13 +91,13 @@ module _ (net : Net) (cs : List Clone) (ended : List (ℕ × ℕ)) (front bound 
         where
           each_after : (i : ℕ) (q : ProcView) → slice_get news i ≡ Some q → StandsAt net cs bound i q
           each_after i q got =
-              let long : length news ≡ length net.sites = given.count ∙ length-map flows (λ (f : Flow). f.done)
+              let long : length news ≡ length net.sites = given.count ∙ length-map flows (λ (f : StationStep). f.done)
               ∙ world_stepped.all_flows in
               let l : i < length net.sites = let k = slice_get_within news i q got in omega (arith, k, long) in
               let f = flow_of net cs front bound procs flows world_stepped i l in
               let p = proc_of net cs front bound procs flows world_stepped i l in
-              let done : slice_get (map (λ (f : Flow). f.done) flows) i ≡ Some f.0.done =
-              map_got (λ (f : Flow). f.done) flows i f.0 f.1 in
+              let done : slice_get (map (λ (f : StationStep). f.done) flows) i ≡ Some f.0.done =
+              map_got (λ (f : StationStep). f.done) flows i f.0 f.1 in
               let d = given.each i f.0.done q done got in
               let s = world_stepped.stepped i p.0 f.0 p.1 f.1 in
               let w = world.each i p.0 p.1 in

@@ -4,7 +4,7 @@ ghost use Rattle.world_core.specs.Worlds.{WorldStands};
 
 use crate::world::World;
 use net_model::Model;
-use station_steps::{Buffers, SharedEnds, SharedLists, TimedProc};
+use station_steps::{Buffers, SharedEnds, SharedLists, StationSlot};
 use std::sync::Arc;
 
 /// The parts of a world.
@@ -17,7 +17,7 @@ pub struct WorldParts {
     /// When clones end.
     pub ends: SharedEnds,
     /// The copies of each station, in the order of the stations.
-    pub procs: Vec<TimedProc>,
+    pub procs: Vec<StationSlot>,
     /// Memory for the stations' bounds, and for what they send.
     pub buffers: Buffers,
 }

@@ -11,12 +11,12 @@ use crate::world::World;
 use clone_sets::CloneSet;
 use decision_book::Call;
 use sim_base::{Decision, Name, NoMemory, Planned};
-use station_steps::{TimedProc, deliver_to};
+use station_steps::{StationSlot, deliver_to};
 use stations::decision::set_message;
 use std::alloc::Global;
 
 // The new clone joins the old one in its copy at each station.
-fn fork_all(procs: &mut Vec<TimedProc>, old: u32, new: u32) -> Result<(), NoMemory>
+fn fork_all(procs: &mut Vec<StationSlot>, old: u32, new: u32) -> Result<(), NoMemory>
     requires old { LivesAtAll old procs.old.items }
     requires new { LivesNowhere new procs.old.items }
     requires below { new < MAX_CLONES }

@@ -14,7 +14,7 @@ use net_model::Model;
 use phys_proc::Proc;
 use sim_base::{Lists, NoMemory, Steps};
 use station_steps::{
-    Buffers, SharedEnds, SharedLists, TimedProc, Window, WindowResult, deliver_all, pass_gate,
+    Buffers, SharedEnds, SharedLists, StationSlot, Window, WindowResult, deliver_all, pass_gate,
     step_by_crew, step_in_place,
 };
 use std::alloc::Global;
@@ -28,7 +28,7 @@ pub struct World {
     pub(crate) lists: SharedLists,
     pub(crate) ends: SharedEnds,
     pub(crate) front: u64,
-    pub(crate) procs: Vec<TimedProc>,
+    pub(crate) procs: Vec<StationSlot>,
     // the number of messages that the last window handled: a hint for the next one
     pub(crate) last: u64,
     // memory for the bounds of a window and for what it sends
@@ -69,7 +69,7 @@ impl From<NoMemory> for WorldFault {
 }
 
 // The copies of all stations as they open, for the first clone.
-fn open_all(alloc: Global, model: &Model) -> Result<Vec<TimedProc>, NoMemory>
+fn open_all(alloc: Global, model: &Model) -> Result<Vec<StationSlot>, NoMemory>
     ensures valid { IsNet model.now }
     ensures count { IfOk result (λ procs. length procs.items ≡ length model.now.sites) }
     ensures first { IfOk result (λ procs. AreFirst model.now procs.items) }
@@ -77,7 +77,7 @@ fn open_all(alloc: Global, model: &Model) -> Result<Vec<TimedProc>, NoMemory>
     let mut procs = Vec::new(alloc);
     for s in 0..model.len() {
         let proc = Proc::new(alloc, model, s + 1)?;
-        procs.push(TimedProc::of(alloc, proc)?)?;
+        procs.push(StationSlot::of(alloc, proc)?)?;
     }
     Ok(procs)
 }

@@ -1,7 +1,7 @@
 use Rattle.std.proofs.Common.{◌++◌, refl, subst, sym}
 use Rattle.phys_proc.specs.Ends.{ends_in}
 use Rattle.phys_proc.specs.Own.{IsStepResult}
-use Rattle.phys_proc.specs.Stages.{MayStepCopies}
+use Rattle.phys_proc.specs.StepOutputs.{MayStepCopies}
 use Rattle.phys_proc.proofs.AllCopies.{IsStepResult-idle}
 use Rattle.phys_proc.proofs.stepping.step_copies.Goals as goal
 

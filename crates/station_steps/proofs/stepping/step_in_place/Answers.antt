@@ -3,7 +3,7 @@ use Rattle.std.proofs.lemmas.List.{get_or_read}
 use Rattle.clone_sets.specs.Sets.{empty}
 use Rattle.phys_proc.specs.Own.{IsLowerBoundOfAll, MarkedMessages}
 use Rattle.phys_proc.specs.Ends.{ends_in}
-use Rattle.station_steps.specs.declared.flow.Flow.{Flow}
+use Rattle.station_steps.specs.declared.station_step.StationStep.{StationStep}
 use Rattle.station_steps.specs.Windows.{bound_of}
 use Rattle.station_steps.specs.Stepping.{SteppedAt, SteppedTo}
 use Rattle.station_steps.proofs.Places.{got_at}
@@ -46,7 +46,7 @@ loop-i-preserved-then-is_idle g c =
     (let k = ap length kept in omega (arith, l, many, k)) c.index-in-loop-i.ensures 0
     ∙ ap (λ (xs : List ℕ). bound_of xs c.loop-i.i) kept in
     let late = subst (λ b. IsLowerBoundOfAll b p.copies) is (c.if-is_idle.ensures.lower refl) in
-    let flow : Flow = record {
+    let flow : StationStep = record {
       done = p;
       sent = record { items = c.clear.new.self.items };
       over = empty;

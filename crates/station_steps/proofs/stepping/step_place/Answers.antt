@@ -2,7 +2,7 @@ use Rattle.std.proofs.Common.{◌≡◌, ◌++◌, arith, ap, subst, ◌∙◌, 
 use Rattle.std.proofs.lemmas.List.{get_or_read}
 use Rattle.phys_proc.specs.Ends.{ends_in}
 use Rattle.phys_proc.specs.Own.{MarkedMessages}
-use Rattle.station_steps.specs.declared.flow.Flow.{Flow}
+use Rattle.station_steps.specs.declared.station_step.StationStep.{StationStep}
 use Rattle.station_steps.specs.Windows.{bound_of}
 use Rattle.station_steps.specs.Stepping.{SteppedAt}
 use Rattle.station_steps.proofs.Flows.{is_flow}
@@ -28,7 +28,7 @@ returns-clause-stepped g c =
     0 in
     let got = got_at items i x c.requires.place c.index_mut.ensures.value in
     let at = c.requires.numbered x got in
-    let flow : Flow = record {
+    let flow : StationStep = record {
       done = y;
       sent = record { items = c.advance.new.sent.items };
       over = c.in_ok-gain.gain.over;

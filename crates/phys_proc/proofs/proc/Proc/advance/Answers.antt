@@ -8,8 +8,8 @@ use Rattle.stations.specs.Runs.{simulation}
 use Rattle.run_laws.specs.Copies.{IsStepped, AreOver, GainTogether}
 use Rattle.phys_proc.specs.Own.{StationCopy, all_sizes, IsStepResult}
 use Rattle.phys_proc.specs.Procs.{ProcView, IsProc, KeepsShares}
-use Rattle.phys_proc.specs.Stages.{MayStepCopies}
-use Rattle.phys_proc.specs.declared.advancing.Stage.{Stage}
+use Rattle.phys_proc.specs.StepOutputs.{MayStepCopies}
+use Rattle.phys_proc.specs.declared.advancing.StepOutput.{StepOutput}
 use Rattle.phys_proc.specs.Ends.{ends_in}
 use Rattle.phys_proc.proofs.AllCopies.{all_stepped, all_over, all_gained, all_few, all_shared}
 use Rattle.phys_proc.proofs.Shares.{few_members, few_clones, sizes_are, shares_after, few_handled}
@@ -17,7 +17,7 @@ use Rattle.phys_proc.proofs.proc.Proc.advance.Goals.{then-is_empty, else-is_empt
 use Rattle.phys_proc.proofs.proc.Proc.advance.Goals as goal
 
 -- the result of a step, said of the station and the copies that these are equal to
-step_result : (net : Net) (s s1 : ℕ) (ends : ℕ → ℕ) (bound : ℕ) (old old1 : List StationCopy) (st : Stage)
+step_result : (net : Net) (s s1 : ℕ) (ends : ℕ → ℕ) (bound : ℕ) (old old1 : List StationCopy) (st : StepOutput)
     (steps0 steps : ℕ) → s1 ≡ s → old1 ≡ old
     → IsStepResult net s1 ends bound old1 st.done st.sent.items st.over steps0 steps
     → IsStepResult net s ends bound old st.done st.sent.items st.over steps0 steps

@@ -3,7 +3,7 @@ use Rattle.phys_proc.specs.Ends.{ends_in}
 use Rattle.phys_proc.specs.Own.{MarkedMessages}
 use Rattle.phys_proc.specs.Procs.{ProcView}
 use Rattle.station_steps.specs.Windows.{HasAdvanced, IsFlow, WindowView}
-use Rattle.station_steps.specs.declared.flow.Flow.{Flow}
+use Rattle.station_steps.specs.declared.station_step.StationStep.{StationStep}
 use Rattle.station_steps.proofs.Flows.{is_flow}
 use Rattle.station_steps.proofs.windows.Window.step.Goals as goal
 
@@ -16,7 +16,7 @@ returns-clause-flow g c =
     let net = v.net in
     let ends = ends_in v.net.horizon v.ends in
     let gain = c.in_ok-gain.gain in
-    let flow : Flow = record {
+    let flow : StationStep = record {
       done = c.advance.new.self;
       sent = record { items = c.advance.new.sent.items };
       over = gain.over;

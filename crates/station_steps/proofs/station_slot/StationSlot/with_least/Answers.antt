@@ -7,8 +7,8 @@ use Rattle.phys_proc.specs.Own.{IsCopy}
 use Rattle.phys_proc.specs.Procs.{AreShared, IsLeast, IsProc, ProcView}
 use Rattle.station_steps.specs.Mail.{IsEarliest, IsMailTaken, mail_for, mail_in}
 use Rattle.station_steps.proofs.MailTimes.{least_with_mail}
-use Rattle.station_steps.proofs.timed_proc.TimedProc.with_least.Goals.{in-Some+else-is_idle, in_default}
-use Rattle.station_steps.proofs.timed_proc.TimedProc.with_least.Goals as goal
+use Rattle.station_steps.proofs.station_slot.StationSlot.with_least.Goals.{in-Some+else-is_idle, in_default}
+use Rattle.station_steps.proofs.station_slot.StationSlot.with_least.Goals as goal
 
 pub returns : goal.returns
 returns c =

@@ -7,7 +7,7 @@ use Rattle.net_model.specs.Net.{Net}
 use Rattle.net_model.specs.Rules.{IsNet}
 use Rattle.run_laws.specs.Copies.{Disjoint}
 use Rattle.phys_proc.specs.Own.{StationCopy, IsCopy, all_sizes}
-use Rattle.phys_proc.specs.declared.advancing.Stage.{Stage}
+use Rattle.phys_proc.specs.declared.advancing.StepOutput.{StepOutput}
 
 -- the copies of station s may be stepped to the bound
 pub record MayStepCopies (net : Net) (s bound : ℕ) (copies : List StationCopy) : Type 0 where
@@ -18,7 +18,7 @@ pub record MayStepCopies (net : Net) (s bound : ℕ) (copies : List StationCopy)
   pub at_most : all_sizes copies ≤ MAX_CLONES
 
 -- no copy has reached the bound yet, nothing was sent or handled, and no clone is over the limit
-pub record IsNewStage (stage : Stage) : Type 0 where
+pub record IsNewOutput (stage : StepOutput) : Type 0 where
   pub none : stage.done ≡ []
   pub silent : stage.sent.items ≡ []
   pub under : stage.over ≡ empty

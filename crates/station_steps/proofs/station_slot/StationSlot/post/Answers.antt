@@ -4,7 +4,7 @@ use Rattle.phys_proc.specs.Procs.{IsProc, ProcView}
 use Rattle.station_steps.specs.Mail.{IsFirstFor, KeepsMail, mail_for, mail_in, with_own_mail}
 use Rattle.station_steps.specs.Windows.{IsDeliveredTo}
 use Rattle.station_steps.proofs.TakenMail.{IsDeliveredTo-own, KeepsMail-post, taken_is}
-use Rattle.station_steps.proofs.timed_proc.TimedProc.post.Goals as goal
+use Rattle.station_steps.proofs.station_slot.StationSlot.post.Goals as goal
 
 pub invariant_of-self-2 : goal.invariant_of-self-2
 invariant_of-self-2 c =

@@ -4,7 +4,7 @@ use Rattle.phys_proc.specs.Procs.{ProcView}
 use Rattle.station_steps.specs.Mail.{mail_in, with_own_mail}
 use Rattle.station_steps.specs.Windows.{HasAdvanced}
 use Rattle.station_steps.proofs.TakenMail.{taken_is}
-use Rattle.station_steps.proofs.timed_proc.TimedProc.advance.Goals as goal
+use Rattle.station_steps.proofs.station_slot.StationSlot.advance.Goals as goal
 
 pub returns-clause-advanced : goal.returns-clause-advanced
 returns-clause-advanced g c =

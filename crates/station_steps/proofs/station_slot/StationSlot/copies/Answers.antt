@@ -3,7 +3,7 @@ use Rattle.phys_proc.specs.Own.{but_pending}
 use Rattle.phys_proc.specs.Procs.{ProcView}
 use Rattle.station_steps.specs.Mail.{mail_for, mail_in}
 use Rattle.station_steps.proofs.TakenMail.{but_pending-mail}
-use Rattle.station_steps.proofs.timed_proc.TimedProc.copies.Goals as goal
+use Rattle.station_steps.proofs.station_slot.StationSlot.copies.Goals as goal
 
 pub returns : goal.returns
 returns c =

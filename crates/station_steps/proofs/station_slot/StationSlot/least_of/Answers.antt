@@ -7,7 +7,7 @@ use Rattle.phys_proc.specs.Own.{IsCopy}
 use Rattle.phys_proc.specs.Procs.{AreShared, IsLeastOf, IsProc, ProcView}
 use Rattle.station_steps.specs.Mail.{IsEarliest, IsMailTaken, mail_for, mail_in}
 use Rattle.station_steps.proofs.MailTimes.{least_of_with_mail}
-use Rattle.station_steps.proofs.timed_proc.TimedProc.least_of.Goals as goal
+use Rattle.station_steps.proofs.station_slot.StationSlot.least_of.Goals as goal
 
 pub returns : goal.returns
 returns c =

@@ -32,7 +32,7 @@ use std::sync::ledger::Ledger;
 /// The messages from the last window may wait in the mail, which all stations share. The copies take their messages
 /// before they do anything else. Contracts describe the copies as if they had taken them.
 #[derive(Drop)]
-pub struct TimedProc {
+pub struct StationSlot {
     proc: Box<Proc>,
     // no pending message is earlier, in the copies or in the mail
     lower_bound: u64,
@@ -42,7 +42,7 @@ pub struct TimedProc {
     buffer: SentList,
 }
 
-impl std::marker::Model for TimedProc {
+impl std::marker::Model for StationSlot {
     ghost use Rattle.phys_proc.specs.Procs.{ProcView};
     ghost use Rattle.station_steps.specs.Mail.{KeepsMail, mail_in, with_own_mail};
 
@@ -85,13 +85,13 @@ fn earlier_in_mail(
     }
 }
 
-impl TimedProc {
+impl StationSlot {
     /// Wraps the copies, with their lower bound.
-    pub fn of(alloc: Global, proc: Proc) -> Result<TimedProc, NoMemory>
+    pub fn of(alloc: Global, proc: Proc) -> Result<StationSlot, NoMemory>
         ensures same { IfOk result (λ timed. timed ≡ proc) }
     {
         let lower_bound = proc.lower_bound();
-        Ok(TimedProc {
+        Ok(StationSlot {
             proc: Box::new(alloc, proc)?,
             lower_bound,
             mail: None,

@@ -1,14 +1,10 @@
 use Rattle.std.proofs.Common.{◌≡◌, ap, refl, subst, sym, ◌∙◌}
 use Rattle.phys_proc.specs.Own.{IsLowerBoundOfAll}
 use Rattle.phys_proc.specs.Procs.{ProcView}
-use Rattle.phys_proc.proofs.LowerBounds.{IsLowerBoundOfAll-zero, IsLowerBoundOfAll-given}
+use Rattle.phys_proc.proofs.Forks.{IsLowerBoundOfAll-forked}
 use Rattle.station_steps.specs.Mail.{KeepsMail, mail_in, with_own_mail}
 use Rattle.station_steps.proofs.TakenMail.{KeepsMail-none, taken_is}
-use Rattle.station_steps.proofs.timed_proc.TimedProc.deliver_at_once.Goals as goal
-
-pub invariant_of-self-in_err-deliver : goal.invariant_of-self-in_err-deliver
-invariant_of-self-in_err-deliver c = subst (λ o. KeepsMail 0 (mail_in o) c.deliver.new.self) (sym c.take.ensures.after)
-    (KeepsMail-none 0 c.deliver.new.self (IsLowerBoundOfAll-zero c.deliver.new.self.copies))
+use Rattle.station_steps.proofs.station_slot.StationSlot.fork.Goals as goal
 
 pub invariant_of-self-2 : goal.invariant_of-self-2
 invariant_of-self-2 c =
@@ -17,10 +13,9 @@ invariant_of-self-2 c =
     let taken : c.take_mail.new.proc ≡ old = taken_is (mail_in c.self.inside.mail) (mail_in c.take.result) c.self.inside.proc.value
     c.deref_mut.result.now c.take_mail.new.proc old c.in_ok-take_mail.ensures.given
     (ap mail_in c.take.ensures.value) c.deref_mut.ensures.value refl in
-    subst (λ o. KeepsMail c.min-lower_bound.result (mail_in o) c.deliver.new.self) (sym c.take.ensures.after)
-    (KeepsMail-none c.min-lower_bound.result c.deliver.new.self
-    (subst (IsLowerBoundOfAll c.min-lower_bound.result) (sym c.in_ok-deliver.ensures.given)
-    (IsLowerBoundOfAll-given low c.min-lower_bound.result c.args.msg c.args.set c.deref_mut-2.result.now.copies
-    c.min-lower_bound.ensures
+    subst (λ o. KeepsMail low (mail_in o) c.fork.new.self) (sym c.take.ensures.after)
+    (KeepsMail-none low c.fork.new.self (subst (λ (p : ProcView). IsLowerBoundOfAll low p.copies)
+    (sym c.fork.ensures.forked)
+    (IsLowerBoundOfAll-forked c.args.old c.args.new low c.deref_mut-2.result.now.copies
     (subst (λ (p : ProcView). IsLowerBoundOfAll low p.copies) (sym (c.deref_mut-2.ensures.value ∙ taken))
     c.self.invariant.lower))))

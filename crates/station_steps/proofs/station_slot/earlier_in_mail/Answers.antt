@@ -2,7 +2,7 @@ use Rattle.std.proofs.Common.{sym, subst}
 use Rattle.phys_proc.specs.Ends.{ends_in}
 use Rattle.phys_proc.specs.Own.{MarkedMessages}
 use Rattle.station_steps.specs.Mail.{IsEarliest, IsMailTaken, mail_for, mail_in}
-use Rattle.station_steps.proofs.timed_proc.earlier_in_mail.Goals as goal
+use Rattle.station_steps.proofs.station_slot.earlier_in_mail.Goals as goal
 
 pub returns-in-Some : goal.returns-in-Some
 returns-in-Some c =

@@ -2,7 +2,7 @@ use Rattle.std.proofs.Common.{subst}
 use Rattle.phys_proc.specs.Procs.{AreShared, ProcView}
 use Rattle.station_steps.specs.Mail.{mail_in}
 use Rattle.station_steps.proofs.TakenMail.{AreShared-mail}
-use Rattle.station_steps.proofs.timed_proc.TimedProc.is_idle.Goals as goal
+use Rattle.station_steps.proofs.station_slot.StationSlot.is_idle.Goals as goal
 
 pub returns-clause-shared : goal.returns-clause-shared
 returns-clause-shared c = subst (λ (p : ProcView). AreShared p.living p.copies) c.self.view_is

@@ -4,7 +4,7 @@ use Rattle.phys_proc.specs.Racks.{RackCopyView, RackView, ShowsClones, view_of_c
 use Rattle.phys_proc.proofs.RackViews.{shows_clones}
 use Rattle.station_steps.specs.Mail.{mail_for, mail_in}
 use Rattle.station_steps.proofs.TakenMail.{view_of_copy-mail}
-use Rattle.station_steps.proofs.timed_proc.TimedProc.rack.Goals as goal
+use Rattle.station_steps.proofs.station_slot.StationSlot.rack.Goals as goal
 
 pub rack-requires : goal.rack-requires
 rack-requires c =
