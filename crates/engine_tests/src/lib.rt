@@ -4,10 +4,9 @@
 //! are here, so both the tests and the crates are proved once. Each module tests one crate by its public items:
 //!
 //! ```text
-//! crews     crew_pool         desks           decision_desk
-//! copies    phys_proc         shelves         shelf
-//! worlds    world_core        live_studies    live_study
-//! statistics    study_stats, and the parts of queue_stats that it calls
+//! crew_pool_tests        phys_proc_tests        world_core_tests
+//! decision_desk_tests    shelf_tests
+//! live_study_tests       study_stats_tests
 //! ```
 //!
 //! They show what is not proved: that calls find memory, and that contracts mean what they should, against values
@@ -15,18 +14,18 @@
 #![tactic(auto)]
 
 #[cfg(test)]
-mod copies;
+mod crew_pool_tests;
 #[cfg(test)]
-mod crews;
+mod decision_desk_tests;
 #[cfg(test)]
-mod desks;
+mod live_study_tests;
 #[cfg(test)]
-mod live_studies;
+mod phys_proc_tests;
 #[cfg(test)]
 mod shelf_looks;
 #[cfg(test)]
-mod shelves;
+mod shelf_tests;
 #[cfg(test)]
-mod statistics;
+mod study_stats_tests;
 #[cfg(test)]
-mod worlds;
+mod world_core_tests;

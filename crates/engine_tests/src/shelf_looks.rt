@@ -4,7 +4,7 @@ ghost use Rattle.net_model.specs.declared.limits.TheConstants.{MAX_STATIONS};
 ghost use Rattle.shelf.specs.Racks.{HasRack, MayOpen};
 ghost use Rattle.engine_tests.specs.Seen.{AreTwoAt, IsRackAt};
 
-use crate::worlds::{LOOKED_AT_TEN, two_clones, window};
+use crate::world_core_tests::{LOOKED_AT_TEN, two_clones, window};
 use phys_proc::{Found, Glance, Rack};
 use sample_models::ONE_DESK;
 use shelf::{Naming, NewHistory, Seat, Stocker, Told, begin};

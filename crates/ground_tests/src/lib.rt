@@ -4,11 +4,12 @@
 //! are here, so both the tests and the crates are proved once. Each module tests one crate by its public items:
 //!
 //! ```text
-//! messages, pending, lists    sim_base          scripts    decision_script    routes      msg_route
-//! logs                        log_chain         books      decision_book      cursors     trace_cursor
-//! sets                        clone_sets        made       made_study         traces      trace_report
-//! models                      net_model         alone      solo_run           journals    journal_text
-//! handling                    stations          sinks      sim_outer
+//! sim_base_lists, sim_base_messages, sim_base_pending    sim_base
+//! clone_sets_tests         log_merge_tests          stations_tests
+//! decision_book_tests      msg_route_tests          study_generator_tests
+//! decision_script_tests    net_model_tests          trace_report_tests
+//! journal_text_tests       sim_outer_tests
+//! log_chain_tests          solo_run_tests
 //! ```
 //!
 //! `counts` and `lines` test no crate. Three modules write their tables with `counts`, and two read their decisions
@@ -21,38 +22,38 @@
 #![tactic(auto)]
 
 #[cfg(test)]
-mod alone;
-#[cfg(test)]
-mod books;
+mod clone_sets_tests;
 #[cfg(test)]
 mod counts;
 #[cfg(test)]
-mod cursors;
+mod decision_book_tests;
 #[cfg(test)]
-mod handling;
+mod decision_script_tests;
 #[cfg(test)]
-mod journals;
+mod journal_text_tests;
 #[cfg(test)]
 mod lines;
 #[cfg(test)]
-mod lists;
+mod log_chain_tests;
 #[cfg(test)]
-mod logs;
+mod log_merge_tests;
 #[cfg(test)]
-mod made;
+mod msg_route_tests;
 #[cfg(test)]
-mod messages;
+mod net_model_tests;
 #[cfg(test)]
-mod models;
+mod sim_base_lists;
 #[cfg(test)]
-mod pending;
+mod sim_base_messages;
 #[cfg(test)]
-mod routes;
+mod sim_base_pending;
 #[cfg(test)]
-mod scripts;
+mod sim_outer_tests;
 #[cfg(test)]
-mod sets;
+mod solo_run_tests;
 #[cfg(test)]
-mod sinks;
+mod stations_tests;
 #[cfg(test)]
-mod traces;
+mod study_generator_tests;
+#[cfg(test)]
+mod trace_report_tests;

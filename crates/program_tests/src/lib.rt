@@ -16,4 +16,4 @@
 #![tactic(auto)]
 
 #[cfg(test)]
-mod program;
+mod cloner_top_tests;

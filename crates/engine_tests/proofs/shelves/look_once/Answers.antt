@@ -1,7 +1,0 @@
-use Rattle.shelf.proofs.Legals.{HasRack-later}
-use Rattle.engine_tests.proofs.shelves.look_once.Goals as goal
-
-pub returns : goal.returns
-returns g c = record {
-  has_rack = HasRack-later 1 c.args.seat.now c.look.new.self c.look.ensures.begins c.requires.has_rack;
-}

@@ -1,4 +1,0 @@
-use Rattle.engine_tests.proofs.shelves.looks_one_by_one.Given as goal
-
-abbrev pub ghosts-one_by_one : goal.ghosts-one_by_one
-ghosts-one_by_one g a = record { book = a.opened.seen.book; start = a.opened.pen.nib.key }

@@ -1,9 +1,0 @@
-use Rattle.shelf.specs.Racks.{HasRack}
-use Rattle.engine_tests.specs.Seen.{AreSeenUpTo}
-use Rattle.engine_tests.proofs.shelves.publish_all.Given as goal
-
-abbrev pub invariant-loop : goal.invariant-loop
-invariant-loop g l = record {
-  seen : AreSeenUpTo l.world.net l.world.front l.stocker.published;
-  has_rack : HasRack 1 l.stocker.published;
-}

@@ -1,4 +1,0 @@
-use Rattle.engine_tests.proofs.worlds.crew_window.Given as goal
-
-abbrev pub ghosts-crew_window_counted : goal.ghosts-crew_window_counted
-ghosts-crew_window_counted g a = record { name = a.blank.name; parts = a.blank.parts }

@@ -1,4 +1,0 @@
-use Rattle.engine_tests.proofs.worlds.window.Given as goal
-
-abbrev pub ghosts-window_counted : goal.ghosts-window_counted
-ghosts-window_counted a = record { name = a.blank.name; parts = a.blank.parts }

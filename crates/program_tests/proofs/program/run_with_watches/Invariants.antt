@@ -1,4 +1,0 @@
-use Rattle.program_tests.proofs.program.run_with_watches.Given as goal
-
-abbrev pub ghosts-cloner_counted : goal.ghosts-cloner_counted
-ghosts-cloner_counted g a = record { name = a.blank.name; parts = a.blank.parts }
