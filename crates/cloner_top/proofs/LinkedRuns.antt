@@ -5,7 +5,7 @@ use Rattle.net_model.specs.Net.{Net}
 use Rattle.decision_book.specs.Plans.{ArePlanned}
 use Rattle.world_core.specs.Overs.{most_handled}
 use Rattle.world_core.specs.Worlds.{total_handled}
-use Rattle.rolling_text.specs.WorldTraces.{AreShort}
+use Rattle.trace_writer.specs.WorldTraces.{AreShort}
 use Rattle.study_run.specs.Limits.{AreWithin}
 use Rattle.study_run.specs.Work.{IsFew}
 use Rattle.linked_run.specs.Linking.{IsLinkedRun, IsOverrun}

@@ -13,7 +13,7 @@ use Rattle.world_core.specs.Worlds.{WorldView, total_handled}
 use Rattle.study_run.specs.declared.fault.StudyFault.{StudyFault}
 use Rattle.study_run.specs.declared.fault.StudyFault.TheVariants.{NoMemory, LimitMet}
 use Rattle.study_run.specs.Limits.{AreWithin}
-use Rattle.rolling_text.specs.WorldTraces.{AreShort}
+use Rattle.trace_writer.specs.WorldTraces.{AreShort}
 use Rattle.journal_text.specs.JournalText.{journal_text}
 use Rattle.live_study.specs.Engines.{StopsEngine}
 use Rattle.live_study.specs.Lives.{IsAtHorizon, all_looks}

@@ -10,7 +10,7 @@ use Rattle.sim_outer.specs.Counts.{AreCounted, IsCounted, HasRisen, counts_after
 use Rattle.sim_outer.specs.Views.{SinkView}
 use Rattle.sim_outer.proofs.Appending.{appended_nothing, appended_then}
 use Rattle.sim_outer.proofs.Counts.{counted_more}
-use Rattle.rolling_text.specs.Puts.{AreCut}
+use Rattle.trace_writer.specs.Puts.{AreCut}
 use Rattle.cloner_top.specs.declared.refusal.Refusal.{Refusal}
 use Rattle.cloner_top.specs.declared.refusal.Refusal.TheVariants.{CannotWrite}
 use Rattle.cloner_top.specs.Outsides.{ArePut, ArePutOrCut, IsNotPut}

@@ -7,7 +7,7 @@ use Rattle.sim_outer.specs.Counts.{AreCounted}
 use Rattle.sim_outer.specs.Views.{SinkView}
 use Rattle.net_model.specs.Net.{Net}
 use Rattle.trace_report.specs.Outputs.{clone_text, clone_texts, report}
-use Rattle.rolling_text.specs.Puts.{AreCut}
+use Rattle.trace_writer.specs.Puts.{AreCut}
 use Rattle.cloner_top.specs.declared.refusal.Refusal.{Refusal}
 use Rattle.cloner_top.specs.declared.refusal.Refusal.TheVariants.{CannotWrite}
 use Rattle.cloner_top.specs.Endings.{run_texts}

@@ -10,7 +10,7 @@ use Rattle.world_core.specs.Overs.{most_handled}
 use Rattle.world_core.specs.Worlds.{total_handled}
 use Rattle.trace_report.specs.Outputs.{clone_text}
 use Rattle.decision_book.specs.Plans.{ArePlanned, IsPlanned}
-use Rattle.rolling_text.specs.WorldTraces.{AreShort}
+use Rattle.trace_writer.specs.WorldTraces.{AreShort}
 use Rattle.study_run.specs.Faults.{StopsAll, StopsAlone}
 use Rattle.study_run.specs.Limits.{AreWithin, IsWithin, MeetsLimit}
 use Rattle.command_words.specs.declared.request.Mode.{Mode}

@@ -27,7 +27,7 @@ use Rattle.watch_laws.proofs.Orders.{in_order-permutation, in_permuted}
 use Rattle.trace_report.specs.Outputs.{figures_of, figures_to, report}
 use Rattle.world_core.specs.Overs.{most_handled}
 use Rattle.world_core.specs.Worlds.{total_handled}
-use Rattle.rolling_text.specs.WorldTraces.{AreShort}
+use Rattle.trace_writer.specs.WorldTraces.{AreShort}
 use Rattle.study_run.specs.Limits.{AreWithin}
 use Rattle.watch_points.specs.Checking.{fit}
 use Rattle.watch_points.specs.CloneNumbers.{numbered_name}

@@ -4,7 +4,7 @@ use Rattle.std.specs.List.{concat}
 use Rattle.sim_outer.specs.Bytes.{IsAppended}
 use Rattle.sim_outer.specs.Counts.{AreCounted}
 use Rattle.sim_outer.specs.Views.{SinkView}
-use Rattle.rolling_text.specs.Puts.{AreCut}
+use Rattle.trace_writer.specs.Puts.{AreCut}
 use Rattle.cloner_top.specs.declared.halt.Halt.{Halt}
 use Rattle.cloner_top.specs.declared.halt.Halt.TheVariants.{Refused, Overrun}
 use Rattle.cloner_top.specs.declared.refusal.Refusal.{Refusal}

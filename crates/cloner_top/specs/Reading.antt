@@ -7,8 +7,8 @@ use Rattle.net_model.specs.Text.{model}
 use Rattle.decision_script.specs.Printing.{canonical_text}
 use Rattle.decision_script.specs.Reading.{script}
 use Rattle.decision_script.specs.Stating.{ScriptView}
-use Rattle.made_study.specs.Scripts.{made_script}
-use Rattle.made_study.specs.Texts.{model_text}
+use Rattle.study_generator.specs.Scripts.{made_script}
+use Rattle.study_generator.specs.Texts.{model_text}
 use Rattle.watch_points.specs.Checking.{fit}
 use Rattle.watch_points.specs.Reading.{watches}
 use Rattle.watch_points.specs.declared.watch.Watch.{Watch}

@@ -5,8 +5,8 @@ use Rattle.net_model.specs.Net.{Net}
 use Rattle.trace_report.specs.Outputs.{report}
 use Rattle.world_core.specs.Worlds.{WorldView}
 use Rattle.study_run.specs.Reports.{MayReport}
-use Rattle.rolling_text.specs.Texts.{AreTextsReady}
-use Rattle.rolling_text.specs.WorldTraces.{AreShort}
+use Rattle.trace_writer.specs.Texts.{AreTextsReady}
+use Rattle.trace_writer.specs.WorldTraces.{AreShort}
 use Rattle.cloner_top.specs.declared.putting.RunTexts.{RunTexts}
 
 -- the report of a world may be made, and its clones have few enough decisions for their traces

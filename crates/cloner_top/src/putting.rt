@@ -3,8 +3,8 @@
 ghost use Rattle.std.specs.Prelude.{◌≡◌, ◌≤◌, ◌∷◌, ◌++◌, [], IfErr, IfOk, OnErr, OnOk, length, map};
 ghost use Rattle.sim_outer.specs.Bytes.{IsAppended};
 ghost use Rattle.sim_outer.specs.Counts.{AreCounted};
-ghost use Rattle.rolling_text.specs.Puts.{AreCut};
-ghost use Rattle.rolling_text.specs.Texts.{AreTextsReady};
+ghost use Rattle.trace_writer.specs.Puts.{AreCut};
+ghost use Rattle.trace_writer.specs.Texts.{AreTextsReady};
 ghost use Rattle.trace_report.specs.Outputs.{clone_text, clone_texts, report};
 ghost use Rattle.trace_report.specs.TraceText.{trace_text};
 ghost use Rattle.study_run.specs.Reports.{MayReport};
@@ -20,7 +20,6 @@ use crate::resources::Resources;
 use crew_pool::Gate;
 use log_chain::Log;
 use net_model::Model;
-use rolling_text::{Texts, WorldTraces, prepare, put_alone, put_texts, put_texts_sequentially};
 use sim_base::{Name, NoMemory};
 use sim_outer::{PutFailed, Sink};
 use std::alloc::Global;
@@ -28,6 +27,7 @@ use std::sync::Wait;
 use std::thread::Threads;
 use study_run::make_report;
 use study_stats::make_statistics;
+use trace_writer::{Texts, WorldTraces, prepare, put_alone, put_texts, put_texts_sequentially};
 use watched_run::WatchedWorld;
 use world_core::World;
 

@@ -14,11 +14,11 @@ use crate::refusal::{Refusal, Text};
 use crate::stop::Stop;
 use command_words::{Assignment, Source};
 use decision_script::{Script, ScriptFault, read_script};
-use made_study::{model_text, script_text};
 use net_model::{Model, ModelFault, read_model};
 use sim_base::NoMemory;
 use sim_outer::{FetchFault, Inputs};
 use std::alloc::Global;
+use study_generator::{model_text, script_text};
 use watch_points::{WatchFault, Watches, read_watches};
 
 /// Reads a text as a model.

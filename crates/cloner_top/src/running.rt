@@ -1,7 +1,7 @@
 //! Runs all clones of a plan in one world, and writes their texts.
 ghost use Rattle.std.specs.Prelude.{◌≡◌, ◌+◌, ℕ, List, [], ◌∷◌, IfErr, IfOk};
 ghost use Rattle.net_model.specs.Net.{HasStation};
-ghost use Rattle.rolling_text.specs.WorldTraces.{AreShort};
+ghost use Rattle.trace_writer.specs.WorldTraces.{AreShort};
 ghost use Rattle.world_core.specs.Worlds.{total_handled};
 ghost use Rattle.study_run.specs.Accepted.{IsAcceptedJournal};
 ghost use Rattle.study_run.specs.Going.{IsStudyRun};

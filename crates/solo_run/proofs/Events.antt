@@ -19,8 +19,8 @@ use Rattle.run_laws.proofs.Queue.{not_below_itself, less_if_greater}
 use Rattle.run_laws.specs.Queue.{In, insert, Sorted}
 use Rattle.run_laws.proofs.Queue.{all_in, all_from, sorted_insert, all_insert_all}
 use Rattle.run_laws.proofs.MessageOrder.{messages_ordered}
-use Rattle.trace_cursor.specs.Tournament.{IsLeastWord}
-use Rattle.trace_cursor.specs.declared.tree.TheConstants.{NO_WORD}
+use Rattle.log_merge.specs.Tournament.{IsLeastWord}
+use Rattle.log_merge.specs.declared.tree.TheConstants.{NO_WORD}
 use Rattle.solo_run.specs.EventLists.{EventListView, messages_of, all_messages, IsWordOf}
 use Rattle.solo_run.specs.EventLists.{HasFirst, IsFound, IsListOf, AreStationLists, IsEventList}
 use Rattle.solo_run.proofs.Pairs.{messages_of-insert}

@@ -10,7 +10,7 @@ use Rattle.sim_base.specs.declared.message.Msg.{Msg}
 use Rattle.sim_base.specs.declared.message.TheConstants.{WORD_TIMES, WORD_PLACES}
 use Rattle.run_laws.specs.Handlers.{IsStationOf}
 use Rattle.run_laws.specs.Queue.{In, insert_all, Sorted}
-use Rattle.trace_cursor.specs.declared.tree.TheConstants.{NO_WORD}
+use Rattle.log_merge.specs.declared.tree.TheConstants.{NO_WORD}
 
 -- the view in contracts: all messages in their order, and the number of stations
 pub record EventListView : Type 0 where

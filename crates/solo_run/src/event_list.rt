@@ -16,12 +16,12 @@ ghost use Rattle.run_laws.specs.Queue.{insert};
 ghost use Rattle.solo_run.specs.EventLists.{AreStationLists, HasFirst, IsEventList, IsForStation, IsFound};
 ghost use Rattle.solo_run.specs.EventLists.{IsWordOf, IsWordOfKey, all_messages};
 
+use log_merge::Tree;
+use log_merge::tree::NO_WORD;
 use sim_base::message::{WORD_PLACES, WORD_TIMES, WORDS_OF_TIME, compare};
 use sim_base::{Key, Msg, NoMemory, Pending};
 use std::alloc::Global;
 use std::marker::Model;
-use trace_cursor::Tree;
-use trace_cursor::tree::NO_WORD;
 
 /// Future event list: pending messages in order, with one list for each station.
 #[derive(Drop)]

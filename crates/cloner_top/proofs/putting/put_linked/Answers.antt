@@ -1,5 +1,5 @@
 use Rattle.std.proofs.Common.{ap, ◌∙◌}
-use Rattle.rolling_text.specs.WorldTraces.{WorldTracesView}
+use Rattle.trace_writer.specs.WorldTraces.{WorldTracesView}
 use Rattle.cloner_top.proofs.RunPuts.{line_done, run_not_put, run_texts_same}
 use Rattle.cloner_top.proofs.putting.put_linked.Goals as goal
 

@@ -1,5 +1,5 @@
 use Rattle.std.proofs.Common.{ap, ◌∙◌}
-use Rattle.rolling_text.specs.WorldTraces.{WorldTracesView}
+use Rattle.trace_writer.specs.WorldTraces.{WorldTracesView}
 use Rattle.cloner_top.proofs.Puts.{first_not_put}
 use Rattle.cloner_top.proofs.RunPuts.{journal_done}
 use Rattle.cloner_top.proofs.putting.put_live.Goals as goal

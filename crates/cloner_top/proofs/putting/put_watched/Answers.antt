@@ -1,6 +1,6 @@
 use Rattle.std.proofs.Common.{ap, ◌∙◌}
 use Rattle.trace_report.specs.Outputs.{report}
-use Rattle.rolling_text.specs.WorldTraces.{WorldTracesView}
+use Rattle.trace_writer.specs.WorldTraces.{WorldTracesView}
 use Rattle.cloner_top.proofs.WatchedRuns.{report_ordered}
 use Rattle.cloner_top.proofs.putting.put_watched.Goals as goal
 

@@ -1,6 +1,6 @@
 use Rattle.std.proofs.Common.{◌∙◌, ap, refl, subst, sym}
 use Rattle.sim_base.specs.Clones.{clone_at}
-use Rattle.rolling_text.specs.WorldTraces.{AreShort}
+use Rattle.trace_writer.specs.WorldTraces.{AreShort}
 use Rattle.cloner_top.proofs.Runs.{run_exceeds, short_planned}
 use Rattle.cloner_top.proofs.running.run_world.Goals as goal
 

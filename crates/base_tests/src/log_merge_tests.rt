@@ -1,0 +1,211 @@
+//! Tests that merge logs, compared with a sort.
+ghost use Rattle.std.specs.Prelude.{◌≡◌, ◌≤◌, length};
+
+use log_chain::Log;
+use log_merge::Cursor;
+use sim_base::{Entry, Key, Line, Msg, NoMemory, Payload};
+use std::alloc::Global;
+use std::test::Fail;
+
+struct Row {
+    shows: &'static str,
+    /// Time, sender and number of each entry, log after log
+    logs: &'static [&'static [(u64, u32, u64)]],
+}
+
+const ROWS: &[Row] = &[
+    Row {
+        shows: "no log",
+        logs: &[],
+    },
+    Row {
+        shows: "one log",
+        logs: &[&[(1, 1, 0), (1, 1, 1), (4, 2, 0)]],
+    },
+    Row {
+        shows: "an empty log alone",
+        logs: &[&[]],
+    },
+    Row {
+        shows: "three logs, of one time, and of one time and sender",
+        logs: &[
+            &[(1, 1, 0), (5, 2, 7), (9, 1, 3)],
+            &[(1, 0, 0), (5, 2, 6), (5, 3, 0)],
+            &[(1, 2, 0), (5, 1, 9)],
+        ],
+    },
+    Row {
+        shows: "an empty log between two, one of them with all that comes last",
+        logs: &[
+            &[(7, 1, 0), (8, 1, 1)],
+            &[],
+            &[(1, 2, 0), (2, 2, 1), (3, 2, 2)],
+        ],
+    },
+    Row {
+        shows: "equal keys go by the place of their log",
+        logs: &[&[(3, 1, 1)], &[(3, 1, 1), (4, 1, 2)], &[(3, 1, 1)]],
+    },
+    Row {
+        shows: "the greatest key that fits a word",
+        logs: &[
+            &[(1_073_741_823, 127, 2_097_151)],
+            &[(1_073_741_823, 127, 2_097_150)],
+            &[(1_073_741_822, 127, 2_097_151)],
+        ],
+    },
+];
+
+/// An entry with this key, from the log at a place.
+fn entry(key: Key, place: u32) -> Entry {
+    Entry {
+        msg: Msg {
+            key,
+            to: place,
+            payload: Payload::Tick,
+        },
+        line: Line::Passed {
+            passed: u64::from(place),
+        },
+    }
+}
+
+/// A log of these keys.
+fn log_of(alloc: Global, keys: &[(u64, u32, u64)], place: u32) -> Result<Log, NoMemory> {
+    let mut log = Log::new(alloc);
+    for &(time, sender, number) in keys {
+        let key = Key {
+            time,
+            sender,
+            number,
+        };
+        log.push(entry(key, place))?;
+    }
+    Ok(log)
+}
+
+/// Puts all of the logs into a cursor, if their keys fit 64 bits.
+fn fill<'a>(cursor: &mut Cursor<'a>, logs: &'a [Log]) -> bool
+    requires places { length logs.now ≤ cursor.old.most }
+    ensures most { cursor.new.most ≡ cursor.old.most }
+{
+    cursor.clear();
+    for log in logs {
+        if !log.is_packed() {
+            return false;
+        }
+        cursor.add(log.walk_from(0));
+    }
+    true
+}
+
+/// Whether a cursor returns these keys next, each from the log at this place.
+fn gives(cursor: &mut Cursor<'_>, want: &[(Key, u32)]) -> bool
+    ensures most { cursor.new.most ≡ cursor.old.most }
+{
+    for pair in want {
+        let Some(entry) = cursor.next() else {
+            return false;
+        };
+        if (entry.msg.key, entry.msg.to) != *pair {
+            return false;
+        }
+    }
+    true
+}
+
+/// Adds the keys of a log, each with the place of the log.
+fn add_keys(found: &mut Vec<(Key, u32)>, log: &Log) -> Result<(), NoMemory> {
+    let mut walk = log.walk_from(0);
+    for _ in 0..log.len() {
+        if let Some(entry) = walk.next() {
+            found.push((entry.msg.key, entry.msg.to))?;
+        }
+    }
+    Ok(())
+}
+
+/// The sorted keys of all logs, each with the place of its log.
+fn sort_keys(alloc: Global, logs: &[Log]) -> Result<Vec<(Key, u32)>, NoMemory> {
+    let mut found = Vec::new(alloc);
+    for log in logs {
+        add_keys(&mut found, log)?;
+    }
+    found.sort()?;
+    Ok(found)
+}
+
+/// Whether a cursor that was stopped in the middle returns these keys from the beginning, and then ends.
+fn gives_again<'a>(cursor: &mut Cursor<'a>, logs: &'a [Log], want: &[(Key, u32)]) -> bool
+    requires places { length logs.now ≤ cursor.old.most }
+{
+    fill(cursor, logs)
+        && gives(cursor, &want[..want.len() / 2])
+        && fill(cursor, logs)
+        && gives(cursor, want)
+        && cursor.next().is_none()
+        && cursor.next().is_none()
+}
+
+/// Whether a cursor returns the sorted keys.
+fn merges(alloc: Global, logs: &[Log]) -> Result<bool, NoMemory> {
+    if logs.len() > 64 {
+        return Ok(false);
+    }
+    let want = sort_keys(alloc, logs)?;
+    let mut cursor = Cursor::new(alloc, logs.len().max(1))?;
+    Ok(gives_again(&mut cursor, logs, want.as_slice()))
+}
+
+/// A log for each of these lists of keys, of which there are at most 64.
+fn logs_of(alloc: Global, rows: &[&[(u64, u32, u64)]]) -> Result<Vec<Log>, NoMemory> {
+    let mut logs = Vec::new(alloc);
+    for (place, keys) in rows.iter().enumerate() {
+        logs.push(log_of(alloc, keys, place.min(63) as u32)?)?;
+    }
+    Ok(logs)
+}
+
+#[test]
+fn a_cursor_merges_as_a_sort_does(rt: HostRuntime) -> Result<(), Fail> {
+    for row in ROWS {
+        let logs = logs_of(rt.alloc(), row.logs)?;
+        assert!(rt; merges(rt.alloc(), logs.as_slice())?, "{}", row.shows);
+    }
+    Ok(())
+}
+
+/// The log of a station with its own pace; each seventh entry is another station's message.
+fn paced_log(alloc: Global, place: u32, count: u64) -> Result<Log, NoMemory> {
+    let mut log = Log::new(alloc);
+    for number in 0..count {
+        let sender = if number % 7 == 0 {
+            64u32.saturating_sub(place)
+        } else {
+            place.saturating_add(1)
+        };
+        let key = Key {
+            time: number.wrapping_mul(u64::from(place % 5 + 1)),
+            sender,
+            number,
+        };
+        log.push(entry(key, place))?;
+    }
+    Ok(log)
+}
+
+/// Logs of many paces; the last one is empty.
+fn sixty_four_logs(alloc: Global) -> Result<Vec<Log>, NoMemory> {
+    let mut logs = Vec::new(alloc);
+    for place in 0..64_u32 {
+        logs.push(paced_log(alloc, place, u64::from(63 - place) * 4)?)?;
+    }
+    Ok(logs)
+}
+
+#[test]
+fn sixty_four_logs_merge(rt: HostRuntime) -> Result<(), Fail> {
+    let logs = sixty_four_logs(rt.alloc())?;
+    assert!(rt; merges(rt.alloc(), logs.as_slice())?);
+    Ok(())
+}

@@ -1,5 +1,0 @@
-use Rattle.ground_tests.specs.States.{IsStateOf}
-use Rattle.ground_tests.proofs.stations_tests.answers.Given as goal
-
-abbrev pub invariant-loop-row : goal.invariant-loop-row
-invariant-loop-row g l = IsStateOf l.model l.station l.state

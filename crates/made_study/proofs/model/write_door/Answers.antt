@@ -1,8 +1,0 @@
-use Rattle.std.proofs.Common.{refl, append_assoc}
-use Rattle.made_study.proofs.model.write_door.Goals as goal
-
-pub returns : goal.returns
-returns c = record {
-  value = rw (c.in_ok-push_str-2.ensures.bytes, c.in_ok-write.ensures.bytes, c.in_ok-push_str.ensures.bytes)
-      (simp append_assoc refl);
-}
