@@ -18,7 +18,7 @@ use Rattle.clap.specs.declared.error.kind.ErrorKind.TheVariants as kind
 use Rattle.command_words.specs.Application.{cloner_app}
 use Rattle.command_words.specs.Clap.{ClapFindsTheValues, clap_values, unless_fault, up_to_four, values_in}
 use Rattle.command_words.specs.Rules.{DashedWord, OptionName, after_dashed, bare_option, clone, dashed_word, ending}
-use Rattle.command_words.specs.Rules.{is_dashed, option_text, option_with_value, option_word, read, unknown}
+use Rattle.command_words.specs.Rules.{is_dashed, option_text, option_with_value, option_word, read, unknown, until}
 use Rattle.command_words.specs.Rules.{values, with_positionals, with_value, workers}
 use Rattle.command_words.specs.Values.{GivenView}
 use Rattle.command_words.proofs.ClapRows.{Follows, HaveValues, OptionValues, Stage, at_first, at_mode, at_second}
@@ -44,13 +44,14 @@ abbrev pub many : OptionValues → Text → Text → Text → Text → Text → 
 many o x y z u t more = record {
   workers = o workers;
   clone = o clone;
+  until = o until;
   positionals = x ∷ y ∷ z ∷ u ∷ t ∷ more;
 }
 
 -- clap has no place for them
-pub more_than_four : (w c : Option Text) (x y z u t : Text) (more : List Text)
-    → up_to_four (record { workers = w; clone = c; positionals = x ∷ y ∷ z ∷ u ∷ t ∷ more }) ≡ None
-more_than_four w c x y z u t more =
+pub more_than_four : (w c n : Option Text) (x y z u t : Text) (more : List Text)
+    → up_to_four (record { workers = w; clone = c; until = n; positionals = x ∷ y ∷ z ∷ u ∷ t ∷ more }) ≡ None
+more_than_four w c n x y z u t more =
     let long_list : nat_le (length (x ∷ y ∷ z ∷ u ∷ t ∷ more)) 4 ≡ false =
     lt-leb (length (x ∷ y ∷ z ∷ u ∷ t ∷ more)) 4 (omega arith) in
     rw long_list refl
@@ -80,7 +81,7 @@ many_dashed : (d : DashedWord) (rest : List Text) (o : OptionValues) (x y z u t 
     → StaysMany rest x y z u t
     → option_and_then up_to_four (after_dashed d rest (read rest) (many o x y z u t more)) ≡ None
 many_dashed ending rest o x y z u t more again =
-    more_than_four (o workers) (o clone) x y z u t (more ++ rest)
+    more_than_four (o workers) (o clone) (o until) x y z u t (more ++ rest)
 many_dashed (bare_option name) rest o x y z u t more again = again (Some name) o more
 many_dashed (option_with_value name v) rest o x y z u t more again = many_value name v rest o x y z u t more again
 many_dashed unknown rest o x y z u t more again = refl
@@ -103,7 +104,7 @@ many_due false name word rest o x y z u t more again = many_value name word rest
 
 -- they stay too many, with any words
 too_many : (words : List Text) (x y z u t : Text) → StaysMany words x y z u t
-too_many [] x y z u t None o more = more_than_four (o workers) (o clone) x y z u t more
+too_many [] x y z u t None o more = more_than_four (o workers) (o clone) (o until) x y z u t more
 too_many [] x y z u t (Some name) o more = refl
 too_many (word ∷ rest) x y z u t None o more =
     many_free (is_dashed word) word rest o x y z u t more (too_many rest x y z u t)
@@ -185,7 +186,7 @@ behind (word ∷ rest) rows p waiting o (three a b c) clear st =
 behind (word ∷ rest) rows p waiting o (four a b c d) clear st =
     values_from-refused (walk_between rows p waiting 5 true) word rest kind.UnknownArgument []
     (fault_of_fifth_behind word rows p waiting)
-    ∙ sym (more_than_four (o workers) (o clone) a b c d word rest)
+    ∙ sym (more_than_four (o workers) (o clone) (o until) a b c d word rest)
 
 -- ---- if the pending use has a fault, clap refuses the words, whatever follows
 
@@ -530,7 +531,7 @@ no_defaults (a ∷ rest) rows h =
 
 -- no argument of the command has a default value
 cloner_has_no_default : AllByRecursion HasNoDefault shape.rules
-cloner_has_no_default = (refl, (refl, (refl, (refl, (refl, (refl, tt))))))
+cloner_has_no_default = (refl, (refl, (refl, (refl, (refl, (refl, (refl, tt)))))))
 
 -- the faults of a whole command line are those of the walk and of its end
 fault-start : (words : List Text) → fault_of cloner_app words

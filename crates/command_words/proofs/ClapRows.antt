@@ -8,7 +8,7 @@ use Rattle.clap.specs.declared.error.kind.ErrorKind.TheVariants as kind
 use Rattle.clap.specs.declared.builder.value_parser.Reading.TheVariants.{AsWritten}
 use Rattle.clap.specs.declared.parser.matches.ValueSource.TheVariants.{CommandLine}
 use Rattle.command_words.specs.Clap.{values_in}
-use Rattle.command_words.specs.Rules.{OptionName, workers, clone, option_text, with_value}
+use Rattle.command_words.specs.Rules.{OptionName, workers, clone, until, option_text, with_value}
 use Rattle.command_words.specs.Values.{GivenView, positionals_of}
 use Rattle.command_words.proofs.ClapSteps.{Place, first, mode, next_positional, pending_fault, positional_name, second}
 use Rattle.command_words.proofs.ClapSteps.{third}
@@ -139,11 +139,12 @@ no_options name = None
 abbrev pub with_option : OptionName → Text → OptionValues → OptionValues
 with_option workers v o workers = Some v
 with_option clone v o clone = Some v
+with_option until v o until = Some v
 with_option given v o name = o name
 
 -- these values as those of a command line
 abbrev pub values_at : OptionValues → Stage → GivenView
-values_at o s = record { workers = o workers; clone = o clone; positionals = listed s }
+values_at o s = record { workers = o workers; clone = o clone; until = o until; positionals = listed s }
 
 -- the rows have these values of the options, and these positionals
 pub record HaveValues (rows : List Row) (o : OptionValues) (s : Stage) : Type 0 where
@@ -178,6 +179,7 @@ pub values_in-have : (rows : List Row) (o : OptionValues) (s : Stage) → HaveVa
 values_in-have rows o s h = rw (
   (h.options workers).first_value,
   (h.options clone).first_value,
+  (h.options until).first_value,
   (h.places mode).first_value,
   (h.places first).first_value,
   (h.places second).first_value,
@@ -195,17 +197,25 @@ option_or_place clone mode = refl
 option_or_place clone first = refl
 option_or_place clone second = refl
 option_or_place clone third = refl
+option_or_place until mode = refl
+option_or_place until first = refl
+option_or_place until second = refl
+option_or_place until third = refl
 
 -- no option has the name of a positional
 place_or_option : (k : Place) (name : OptionName) → bytes_eq (positional_name k) (option_text name) ≡ false
 place_or_option mode workers = refl
 place_or_option mode clone = refl
+place_or_option mode until = refl
 place_or_option first workers = refl
 place_or_option first clone = refl
+place_or_option first until = refl
 place_or_option second workers = refl
 place_or_option second clone = refl
+place_or_option second until = refl
 place_or_option third workers = refl
 place_or_option third clone = refl
+place_or_option third until = refl
 
 -- an option without a value has no row
 pub not_given : (rows : List Row) (o : OptionValues) (s : Stage) (name : OptionName) → HaveValues rows o s
@@ -235,9 +245,18 @@ option_used name v rows o s h unused = record {
         → Tells (used (option_text name) v rows) (option_text n) (with_option name v o n)
     of_option workers workers f t old = tells-same (option_text workers) v rows refl t
     of_option workers clone f t old = tells-other (option_text workers) (option_text clone) v rows (o clone) f refl old
+    of_option workers until f t old =
+        tells-other (option_text workers) (option_text until) v rows (o until) f refl old
     of_option clone workers f t old =
         tells-other (option_text clone) (option_text workers) v rows (o workers) f refl old
     of_option clone clone f t old = tells-same (option_text clone) v rows refl t
+    of_option clone until f t old =
+        tells-other (option_text clone) (option_text until) v rows (o until) f refl old
+    of_option until workers f t old =
+        tells-other (option_text until) (option_text workers) v rows (o workers) f refl old
+    of_option until clone f t old =
+        tells-other (option_text until) (option_text clone) v rows (o clone) f refl old
+    of_option until until f t old = tells-same (option_text until) v rows refl t
 
 -- the same, while it is pending
 pub option_pending : (name : OptionName) (v : Text) (rows : List Row) (o : OptionValues) (s : Stage)
@@ -250,20 +269,23 @@ option_pending name v rows o s h unused = subst (λ r. HaveValues r (with_option
 
 -- a first value of an option
 pub with_value-new : (name : OptionName) (v : Text) (o : OptionValues) (words : List Text) → o name ≡ None
-    → with_value name v (record { workers = o workers; clone = o clone; positionals = words })
+    → with_value name v (record { workers = o workers; clone = o clone; until = o until; positionals = words })
     ≡ Some (record {
       workers = with_option name v o workers;
       clone = with_option name v o clone;
+      until = with_option name v o until;
       positionals = words;
     })
 with_value-new workers v o words h = rw h refl
 with_value-new clone v o words h = rw h refl
+with_value-new until v o words h = rw h refl
 
 -- a second value
 pub with_value-twice : (name : OptionName) (v w : Text) (o : OptionValues) (words : List Text) → o name ≡ Some w
-    → with_value name v (record { workers = o workers; clone = o clone; positionals = words }) ≡ None
+    → with_value name v (record { workers = o workers; clone = o clone; until = o until; positionals = words }) ≡ None
 with_value-twice workers v w o words h = rw h refl
 with_value-twice clone v w o words h = rw h refl
+with_value-twice until v w o words h = rw h refl
 
 -- ---- a use of a positional
 
@@ -341,12 +363,14 @@ pub no_fault-option : (name : OptionName) (v : Text) (rows : List Row) → has_r
     → pending_fault rows (Some (option_text name, v ∷ [])) ≡ []
 no_fault-option workers v rows h = rw h refl
 no_fault-option clone v rows h = rw h refl
+no_fault-option until v rows h = rw h refl
 
 -- a second use has one
 pub fault-twice : (name : OptionName) (v : Text) (rows : List Row) → has_row (option_text name) rows ≡ true
     → pending_fault rows (Some (option_text name, v ∷ [])) ≡ kind.ArgumentConflict ∷ []
 fault-twice workers v rows h = rw h refl
 fault-twice clone v rows h = rw h refl
+fault-twice until v rows h = rw h refl
 
 -- a positional has none
 pub no_fault-place : (k : Place) (v : Text) (rows : List Row) → has_row (positional_name k) rows ≡ false
@@ -361,3 +385,4 @@ pub fault-missing : (name : OptionName) (rows : List Row)
     → pending_fault rows (Some (option_text name, [])) ≡ kind.InvalidValue ∷ []
 fault-missing workers rows = refl
 fault-missing clone rows = refl
+fault-missing until rows = refl

@@ -18,7 +18,7 @@ use Rattle.clap.specs.declared.builder.value_parser.Reading.TheVariants.{AsWritt
 use Rattle.clap.specs.declared.parser.matches.ValueSource.TheVariants.{CommandLine}
 use Rattle.command_words.specs.Application.{cloner_app}
 use Rattle.command_words.specs.Clap.{unless_fault, values_in}
-use Rattle.command_words.specs.Rules.{OptionName, workers, clone, option_text, option_word}
+use Rattle.command_words.specs.Rules.{OptionName, workers, clone, until, option_text, option_word}
 use Rattle.command_words.specs.Values.{GivenView}
 
 -- the command, built
@@ -118,6 +118,9 @@ fault_of_name workers rows p positional position = refl
 fault_of_name clone rows p idle position = refl
 fault_of_name clone rows p (option id) position = refl
 fault_of_name clone rows p positional position = refl
+fault_of_name until rows p idle position = refl
+fault_of_name until rows p (option id) position = refl
+fault_of_name until rows p positional position = refl
 
 -- the option waits for its value
 pub walk_of_name : (name : OptionName) (rows : List Row) (p : Option (Text × List Text)) (position : ℕ)
@@ -126,6 +129,7 @@ pub walk_of_name : (name : OptionName) (rows : List Row) (p : Option (Text × Li
 unfolding walked
 walk_of_name workers rows p position = refl
 walk_of_name clone rows p position = refl
+walk_of_name until rows p position = refl
 
 -- ---- `--NAME=V`
 
@@ -144,6 +148,9 @@ fault_of_value workers v rows p positional position = refl
 fault_of_value clone v rows p idle position = refl
 fault_of_value clone v rows p (option id) position = refl
 fault_of_value clone v rows p positional position = refl
+fault_of_value until v rows p idle position = refl
+fault_of_value until v rows p (option id) position = refl
+fault_of_value until v rows p positional position = refl
 
 -- the option is used
 pub walk_of_value : (name : OptionName) (v : Text) (rows : List Row) (p : Option (Text × List Text)) (position : ℕ)
@@ -152,6 +159,7 @@ pub walk_of_value : (name : OptionName) (v : Text) (rows : List Row) (p : Option
 unfolding walked
 walk_of_value workers v rows p position = refl
 walk_of_value clone v rows p position = refl
+walk_of_value until v rows p position = refl
 
 -- ---- a word that is no flag
 
@@ -167,6 +175,7 @@ pub fault_of_next : (name : OptionName) (word : Text) (rows : List Row) (positio
     (walk_between rows (Some (option_text name, [])) (option (option_text name)) position false) word ≡ []
 fault_of_next workers word rows position plain = rw (plain.no_end, plain.no_long, plain.no_short) refl
 fault_of_next clone word rows position plain = rw (plain.no_end, plain.no_long, plain.no_short) refl
+fault_of_next until word rows position plain = rw (plain.no_end, plain.no_long, plain.no_short) refl
 
 -- the word is pending with the option
 pub walk_of_next : (name : OptionName) (word : Text) (rows : List Row) (position : ℕ) → IsPlain word
@@ -176,6 +185,7 @@ pub walk_of_next : (name : OptionName) (word : Text) (rows : List Row) (position
 unfolding walked
 walk_of_next workers word rows position plain = rw (plain.no_end, plain.no_long, plain.no_short) refl
 walk_of_next clone word rows position plain = rw (plain.no_end, plain.no_long, plain.no_short) refl
+walk_of_next until word rows position plain = rw (plain.no_end, plain.no_long, plain.no_short) refl
 
 -- the word as a positional: the first to the fourth
 pub data Place : Type 0 where
@@ -215,6 +225,7 @@ pub rows_with-option : (name : OptionName) (v : Text) (rows : List Row)
     → rows_with rows (Some (option_text name, v ∷ [])) ≡ used (option_text name) v rows
 rows_with-option workers v rows = refl
 rows_with-option clone v rows = refl
+rows_with-option until v rows = refl
 
 -- the same for a positional
 pub rows_with-place : (k : Place) (v : Text) (rows : List Row)
@@ -295,9 +306,9 @@ long_name text = before_first (λ x. x == 61) text
 pub refused_long : (x : ℕ) (text : Text)
     → ((name : OptionName) → bytes_eq (option_text name) (long_name (x ∷ text)) ≡ false)
     → IsRefused (45 ∷ 45 ∷ x ∷ text)
-refused_long x text other rows p idle position = rw (other workers, other clone) refl
-refused_long x text other rows p (option id) position = rw (other workers, other clone) refl
-refused_long x text other rows p positional position = rw (other workers, other clone) refl
+refused_long x text other rows p idle position = rw (other workers, other clone, other until) refl
+refused_long x text other rows p (option id) position = rw (other workers, other clone, other until) refl
+refused_long x text other rows p positional position = rw (other workers, other clone, other until) refl
 
 -- no option is one character
 no_bundle : (x c : ℕ) (text : Text) (h : Held) → h.skip ≡ 0 → slice_get (chars (x ∷ text)) 0 ≡ Some c

@@ -11,22 +11,22 @@ use Rattle.command_words.proofs.Bridge.{more_than_four}
 
 -- ---- form_of
 -- no form has more than four positionals
-form_of_few : (w c : Option (List ℕ)) (words : List (List ℕ))
-    → option_and_then form_of (up_to_four (record { workers = w; clone = c; positionals = words }))
-    ≡ form_of (record { workers = w; clone = c; positionals = words })
-form_of_few w c [] = refl
-form_of_few w c (x ∷ []) = refl
-form_of_few w c (x ∷ y ∷ []) = refl
-form_of_few w c (x ∷ y ∷ z ∷ []) = refl
-form_of_few w c (x ∷ y ∷ z ∷ u ∷ []) = refl
-form_of_few w c (x ∷ y ∷ z ∷ u ∷ t ∷ more) =
-    ap (λ (v : Option GivenView). option_and_then form_of v) (more_than_four w c x y z u t more)
+form_of_few : (w c n : Option (List ℕ)) (words : List (List ℕ))
+    → option_and_then form_of (up_to_four (record { workers = w; clone = c; until = n; positionals = words }))
+    ≡ form_of (record { workers = w; clone = c; until = n; positionals = words })
+form_of_few w c n [] = refl
+form_of_few w c n (x ∷ []) = refl
+form_of_few w c n (x ∷ y ∷ []) = refl
+form_of_few w c n (x ∷ y ∷ z ∷ []) = refl
+form_of_few w c n (x ∷ y ∷ z ∷ u ∷ []) = refl
+form_of_few w c n (x ∷ y ∷ z ∷ u ∷ t ∷ more) =
+    ap (λ (v : Option GivenView). option_and_then form_of v) (more_than_four w c n x y z u t more)
 
 -- the same if a rule is broken
 form_by_few : (v : Option GivenView)
     → option_and_then form_of (option_and_then up_to_four v) ≡ option_and_then form_of v
 form_by_few None = refl
-form_by_few (Some v) = form_of_few v.workers v.clone v.positionals
+form_by_few (Some v) = form_of_few v.workers v.clone v.until v.positionals
 
 -- ---- form_given
 -- the request of the values that were read

@@ -80,6 +80,7 @@ pub read_words : (words : List (List ℕ)) (m : ArgMatches) → fault_of cloner_
     → Some (record {
       workers = first_value (found_of m) (codes "workers");
       clone = first_value (found_of m) (codes "clone");
+      until = first_value (found_of m) (codes "until");
       positionals = positionals_of (first_value (found_of m) (codes "mode"))
           (first_value (found_of m) (codes "first")) (first_value (found_of m) (codes "second"))
           (first_value (found_of m) (codes "third"));
@@ -95,4 +96,5 @@ read_words words m none rows =
       first_is (found_of m) (codes "third"),
       first_is (found_of m) (codes "workers"),
       first_is (found_of m) (codes "clone"),
+      first_is (found_of m) (codes "until"),
     ) refl

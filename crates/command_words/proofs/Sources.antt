@@ -2,13 +2,14 @@
 use Rattle.std.proofs.Common.{◌≡◌, ◌&&◌, ℕ, Bool, true, false, cond, List, [], ◌∷◌, codes, refl, subst, IfSome}
 use Rattle.std.proofs.Common.{Option, Some, None, bytes_eq, option_map, option_and_then}
 use Rattle.command_words.specs.declared.request.TheConstants.{MAX_STUDY}
-use Rattle.command_words.specs.Numbers.{number_to}
+use Rattle.command_words.specs.Numbers.{number_in}
 use Rattle.command_words.specs.declared.request.Mode.{Mode}
 use Rattle.command_words.specs.declared.request.Mode.TheVariants.{Links, Report, Run, Solo, Stats}
 use Rattle.command_words.specs.Requests.{AssignmentView, FileNames, Live, MadeIsReported, Number, RequestView, Study}
-use Rattle.command_words.specs.Requests.{Watch, by_positionals, clone_alone, form_of, form_of_one, form_of_three}
-use Rattle.command_words.specs.Requests.{form_of_two, if_named, is_text, live_by, live_form, solo_form, study_form}
-use Rattle.command_words.specs.Requests.{study_of, watch_by, watch_form, workers_alone}
+use Rattle.command_words.specs.Requests.{Resume, Watch, by_positionals, clone_alone, form_of, form_of_one}
+use Rattle.command_words.specs.Requests.{form_of_three, form_of_two, if_named, is_text, live_by, live_form, none_given}
+use Rattle.command_words.specs.Requests.{resume_form, save_form, saving, solo_form, study_form, study_of, watch_by}
+use Rattle.command_words.specs.Requests.{watch_form, workers_alone}
 use Rattle.command_words.specs.Rules.{values}
 use Rattle.command_words.specs.Values.{GivenView}
 
@@ -18,6 +19,7 @@ IsReportIfMade (Study (Number n) mode) = mode ≡ Report
 IsReportIfMade (Study (FileNames model script) mode) = Unit {0}
 IsReportIfMade (Live model script) = Unit {0}
 IsReportIfMade (Watch model script watches) = Unit {0}
+IsReportIfMade (Resume model snapshot) = Unit {0}
 
 -- the same for a request, if any
 abbrev AreReportsIfMade : Option RequestView → Type 0
@@ -46,17 +48,28 @@ named-reports first second x h = cond-reports (is_text first && is_text second) 
 study-reports : (mode : Mode) (model script : List ℕ) (v : GivenView)
     → AreReportsIfMade (study_form mode model script v)
 study-reports mode model script v = named-reports model script _
-    (map-reports (study_of (FileNames model script) mode) (workers_alone v.workers v.clone) (λ n. tt))
+    (map-reports (study_of (FileNames model script) mode) (workers_alone v.workers v.clone v.until) (λ n. tt))
 
 -- `live`
 live-reports : (model script : List ℕ) (v : GivenView) → AreReportsIfMade (live_form model script v)
 live-reports model script v = named-reports model script _
-    (map-reports (live_by model script) (workers_alone v.workers v.clone) (λ n. tt))
+    (map-reports (live_by model script) (workers_alone v.workers v.clone v.until) (λ n. tt))
 
 -- `solo`
 solo-reports : (model script : List ℕ) (v : GivenView) → AreReportsIfMade (solo_form model script v)
 solo-reports model script v = named-reports model script _
-    (map-reports (λ name. study_of (FileNames model script) (Solo name) 1) (clone_alone v.workers v.clone) (λ n. tt))
+    (map-reports (λ name. study_of (FileNames model script) (Solo name) 1) (clone_alone v.workers v.clone v.until)
+    (λ n. tt))
+
+-- `save`
+save-reports : (model script : List ℕ) (v : GivenView) → AreReportsIfMade (save_form model script v)
+save-reports model script v = named-reports model script _
+    (map-reports (λ mode. study_of (FileNames model script) mode 1) (saving v.workers v.clone v.until) (λ n. tt))
+
+-- `resume`
+resume-reports : (model snapshot : List ℕ) (v : GivenView) → AreReportsIfMade (resume_form model snapshot v)
+resume-reports model snapshot v = named-reports model snapshot _
+    (cond-reports (none_given v.workers v.clone v.until) _ None tt tt)
 
 -- `gen` of a number that was read
 made-reports : (number workers : Option ℕ)
@@ -69,7 +82,7 @@ made-reports (Some n) workers = map-reports (study_of (Number n) Report) workers
 -- one more positional
 one-reports : (mode number : List ℕ) (v : GivenView) → AreReportsIfMade (form_of_one mode number v)
 one-reports mode number v = cond-reports (bytes_eq mode (codes "gen")) _ None
-    (made-reports (number_to MAX_STUDY number) (workers_alone v.workers v.clone)) tt
+    (made-reports (number_in 1 MAX_STUDY number) (workers_alone v.workers v.clone v.until)) tt
 
 -- two more positionals
 two-reports : (mode first second : List ℕ) (v : GivenView) → AreReportsIfMade (form_of_two mode first second v)
@@ -78,14 +91,16 @@ two-reports mode first second v =
     (cond-reports (bytes_eq mode (codes "solo")) _ _ (solo-reports first second v)
     (cond-reports (bytes_eq mode (codes "live")) _ _ (live-reports first second v)
     (cond-reports (bytes_eq mode (codes "stats")) _ _ (study-reports Stats first second v)
-    (cond-reports (bytes_eq mode (codes "links")) _ None (study-reports Links first second v) tt))))
+    (cond-reports (bytes_eq mode (codes "save")) _ _ (save-reports first second v)
+    (cond-reports (bytes_eq mode (codes "resume")) _ _ (resume-reports first second v)
+    (cond-reports (bytes_eq mode (codes "links")) _ None (study-reports Links first second v) tt))))))
 
 -- `watch`
 watch-reports : (model script watches : List ℕ) (v : GivenView)
     → AreReportsIfMade (watch_form model script watches v)
 watch-reports model script watches v =
     cond-reports (is_text watches) _ None (named-reports model script _
-    (map-reports (watch_by model script watches) (workers_alone v.workers v.clone) (λ n. tt))) tt
+    (map-reports (watch_by model script watches) (workers_alone v.workers v.clone v.until) (λ n. tt))) tt
 
 -- three more positionals
 three-reports : (mode first second third : List ℕ) (v : GivenView)

@@ -16,7 +16,7 @@ use Rattle.std.proofs.lemmas.Str.{IsUtf8-past_char, chars-encodes, encode_ascii}
 use Rattle.clap.specs.Lexer.{long_of_rest, short_of_rest, strip_byte}
 use Rattle.clap.specs.Walk.{Text}
 use Rattle.command_words.specs.Rules.{DashedWord, OptionName, bare_option, clone, dashed_word, ending, is_dashed}
-use Rattle.command_words.specs.Rules.{option_or, option_text, option_with_value, option_word, unknown, workers}
+use Rattle.command_words.specs.Rules.{option_or, option_text, option_with_value, option_word, unknown, until, workers}
 use Rattle.command_words.proofs.ClapSteps.{IsPlain, IsRefused, long_name, refused_long, refused_short}
 
 -- ---- words that do not begin with `-`, and `-` itself
@@ -68,12 +68,14 @@ starts : (name : OptionName) (word v : Text) → word ≡ option_word name ++ (6
     → starts_with nat_eq word (option_word name ++ (61 ∷ [])) ≡ true
 starts workers word v e = (starts_is Decides-eqb word (codes "--workers=") _ refl).1 v e
 starts clone word v e = (starts_is Decides-eqb word (codes "--clone=") _ refl).1 v e
+starts until word v e = (starts_is Decides-eqb word (codes "--until=") _ refl).1 v e
 
 -- a word that begins with `--NAME=` is `--NAME=V`
 starts_back : (name : OptionName) (word : Text) → starts_with nat_eq word (option_word name ++ (61 ∷ [])) ≡ true
     → word ≡ option_word name ++ (61 ∷ drop (length (option_word name ++ (61 ∷ []))) word)
 starts_back workers word e = (starts_is Decides-eqb word (codes "--workers=") _ refl).0 e
 starts_back clone word e = (starts_is Decides-eqb word (codes "--clone=") _ refl).0 e
+starts_back until word e = (starts_is Decides-eqb word (codes "--until=") _ refl).0 e
 
 -- ---- the kind of a word with a dash
 
@@ -142,9 +144,10 @@ Says (option_with_value name v) word = word ≡ option_word name ++ (61 ∷ v)
 Says unknown word = IsRefused word
 
 -- what holds of each option
-each_option : (P : OptionName → Type 0) → P workers → P clone → (name : OptionName) → P name
-each_option P w c workers = w
-each_option P w c clone = c
+each_option : (P : OptionName → Type 0) → P workers → P clone → P until → (name : OptionName) → P name
+each_option P w c u workers = w
+each_option P w c u clone = c
+each_option P w c u until = u
 
 -- a word that may name an option has the same kind by the rules and by clap
 Says-option_or : (name : OptionName) (word : Text) (other : DashedWord)
@@ -169,12 +172,13 @@ pub Says-dashed_word : (word : Text) → IsUtf8 word → is_dashed word ≡ true
 Says-dashed_word word u h = at_end (bytes_eq word (codes "--")) refl
   where
     at_end : (t : Bool) → bytes_eq word (codes "--") ≡ t
-        → Says (cond t ending (option_or workers word (option_or clone word unknown))) word
+        → Says (cond t ending (option_or workers word (option_or clone word (option_or until word unknown)))) word
     at_end true a = (bytes_eq-Decides word (codes "--")).0 a
     at_end false a =
-        Says-option_or workers word (option_or clone word unknown) (λ w wv.
-        Says-option_or clone word unknown (λ c cv. refused word u h (record {
+        Says-option_or workers word (option_or clone word (option_or until word unknown)) (λ w wv.
+        Says-option_or clone word (option_or until word unknown) (λ c cv.
+        Says-option_or until word unknown (λ t tv. refused word u h (record {
           no_end = a;
-          no_name = each_option (λ name. bytes_eq word (option_word name) ≡ false) w c;
-          no_value = each_option (λ name. starts_with nat_eq word (option_word name ++ (61 ∷ [])) ≡ false) wv cv;
-        })))
+          no_name = each_option (λ name. bytes_eq word (option_word name) ≡ false) w c t;
+          no_value = each_option (λ name. starts_with nat_eq word (option_word name ++ (61 ∷ [])) ≡ false) wv cv tv;
+        }))))

@@ -1,5 +1,5 @@
--- The `clap` command that reads the words: two options and up to four positionals, without help and abbreviated names.
--- Each option or positional is one rule.
+-- The `clap` command that reads the words: three options and up to four positionals, without help and abbreviated
+-- names. Each option or positional is one rule.
 use Rattle.std.specs.Prelude.{ℕ, true, codes, List, Some}
 use Rattle.clap.specs.Words.{App, Rule, new_app, new_rule, with_rule}
 use Rattle.clap.specs.Simple.{on_top}
@@ -20,7 +20,8 @@ bare_app = on_top (λ s. record s { no_binary_name = true; disable_help_flag = t
 -- the command with its options
 abbrev pub app_of_options : App
 app_of_options =
-    with_rule (with_rule bare_app (option (codes "workers"))) (option (codes "clone"))
+    with_rule (with_rule (with_rule bare_app (option (codes "workers"))) (option (codes "clone")))
+    (option (codes "until"))
 
 -- the command with its options and its positionals
 abbrev pub cloner_app : App

@@ -13,6 +13,7 @@ abbrev pub values_in : List Row → GivenView
 values_in rows = record {
   workers = first_of (codes "workers") rows;
   clone = first_of (codes "clone") rows;
+  until = first_of (codes "until") rows;
   positionals = positionals_of (first_of (codes "mode") rows) (first_of (codes "first") rows)
       (first_of (codes "second") rows) (first_of (codes "third") rows);
 }

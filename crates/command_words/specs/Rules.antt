@@ -9,6 +9,7 @@ use Rattle.command_words.specs.Values.{GivenView}
 pub data OptionName : Type 0 where
   workers : OptionName
   clone : OptionName
+  until : OptionName
 
 -- the word begins with `-`, and is more than `-` itself
 abbrev pub is_dashed : List ℕ → Bool
@@ -31,6 +32,7 @@ pub data DashedWord : Type 0 where
 abbrev pub option_text : OptionName → List ℕ
 option_text workers = codes "workers"
 option_text clone = codes "clone"
+option_text until = codes "until"
 
 -- the word that names an option
 abbrev pub option_word : OptionName → List ℕ
@@ -48,12 +50,13 @@ option_or name word other =
 abbrev pub dashed_word : List ℕ → DashedWord
 dashed_word word =
     if bytes_eq word (codes "--") then ending
-    else option_or workers word (option_or clone word unknown)
+    else option_or workers word (option_or clone word (option_or until word unknown))
 
 -- one more value, None if the option has one already: each may occur once
 abbrev pub with_value : OptionName → List ℕ → GivenView → Option GivenView
 with_value workers value v = if is_some v.workers then None else Some (record v { workers = Some value })
 with_value clone value v = if is_some v.clone then None else Some (record v { clone = Some value })
+with_value until value v = if is_some v.until then None else Some (record v { until = Some value })
 
 -- more positionals, after the present ones
 abbrev pub with_positionals : List (List ℕ) → GivenView → GivenView
@@ -81,7 +84,7 @@ read (word ∷ rest) (Some due) v =
 
 -- no options and no positionals
 abbrev pub no_values : GivenView
-no_values = record { workers = None; clone = None; positionals = [] }
+no_values = record { workers = None; clone = None; until = None; positionals = [] }
 
 -- the values of the words, None if they break a rule
 unfoldable pub values : List (List ℕ) → Option GivenView

@@ -5,6 +5,7 @@ use Rattle.std.specs.Prelude.{ℕ, List, [], ◌∷◌, Option, Some, None}
 pub record GivenView : Type 0 where
   pub workers : Option (List ℕ)
   pub clone : Option (List ℕ)
+  pub until : Option (List ℕ)
   pub positionals : List (List ℕ)
 
 -- the positionals up to the first one that is missing

@@ -1,7 +1,7 @@
 //! The `clap` command that reads the words.
 ghost use Rattle.std.specs.Prelude.{◌≡◌, IfOk, false};
 ghost use Rattle.clap.specs.Words.{app_of, rule_of, with_rule};
-ghost use Rattle.command_words.specs.Application.{cloner_app, bare_app, option, positional};
+ghost use Rattle.command_words.specs.Application.{app_of_options, bare_app, cloner_app, option, positional};
 
 use clap::{Arg, ArgAction, Command};
 use std::alloc::{AllocError, Global};
@@ -39,12 +39,20 @@ fn with_arg<'a>(command: Command<'a>, arg: Arg<'a>) -> Result<Command<'a>, Alloc
     command.arg(arg)
 }
 
-/// The command: two options, and up to four positionals.
-pub(crate) fn command<'a>(alloc: Global) -> Result<Command<'a>, AllocError>
-    ensures value { IfOk result (λ c. app_of c ≡ cloner_app) }
+// The command with its options.
+fn command_of_options<'a>(alloc: Global) -> Result<Command<'a>, AllocError>
+    ensures value { IfOk result (λ c. app_of c ≡ app_of_options) }
 {
     let command = with_arg(bare_command(alloc), option_arg(alloc, "workers"))?;
     let command = with_arg(command, option_arg(alloc, "clone"))?;
+    with_arg(command, option_arg(alloc, "until"))
+}
+
+/// The command: three options, and up to four positionals.
+pub(crate) fn command<'a>(alloc: Global) -> Result<Command<'a>, AllocError>
+    ensures value { IfOk result (λ c. app_of c ≡ cloner_app) }
+{
+    let command = command_of_options(alloc)?;
     let command = with_arg(command, positional_arg(alloc, "mode"))?;
     let command = with_arg(command, positional_arg(alloc, "first"))?;
     let command = with_arg(command, positional_arg(alloc, "second"))?;

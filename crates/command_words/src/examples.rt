@@ -5,7 +5,7 @@
 ghost use Rattle.command_words.specs.Examples.{AreRight, dashes, modes, numbers, option_names, option_places};
 ghost use Rattle.command_words.specs.Examples.{option_values, options_of_modes, positionals};
 
-/// The seven modes, and words that are no mode.
+/// The nine modes, and words that are no mode.
 pub fn the_modes()
     ensures { AreRight modes }
 {}
@@ -40,7 +40,7 @@ pub fn options_by_mode()
     ensures { AreRight options_of_modes }
 {}
 
-/// Workers are 1 to 16 and numbers 1 to 999999, in decimal without a leading zero or sign.
+/// Workers are 1 to 16, numbers 1 to 999999 and times 0 to 4294967295, in decimal without a leading zero or sign.
 pub fn numbers_in_words()
     ensures { AreRight numbers }
 {}

@@ -23,6 +23,7 @@ pub(crate) struct Given<'a> {
     pub(crate) third: Option<&'a str>,
     pub(crate) workers: Option<&'a str>,
     pub(crate) clone: Option<&'a str>,
+    pub(crate) until: Option<&'a str>,
 }
 
 // Whether the library ran out of memory.
@@ -77,5 +78,6 @@ pub(crate) fn given_words<'a>(
         third: matches.get_str("third"),
         workers: matches.get_str("workers"),
         clone: matches.get_str("clone"),
+        until: matches.get_str("until"),
     }))
 }

@@ -1,15 +1,17 @@
 //! The command line, read with `clap`.
 //!
-//! A planner runs a study in one of seven modes. Options may be anywhere before a word `--`:
+//! A planner runs a study in one of nine modes. Options may be anywhere before a word `--`:
 //!
 //! ```text
-//! cloner run MODEL SCRIPT [--workers N]             all clones of a script
-//! cloner solo MODEL SCRIPT --clone NAME             one clone alone
-//! cloner live MODEL SCRIPT [--workers N]            all clones of a script, while analysts decide
-//! cloner gen NUMBER [--workers N]                   a generated study, all its clones
-//! cloner watch MODEL SCRIPT WATCHES [--workers N]   all clones of a script, and the branches that watches create
-//! cloner stats MODEL SCRIPT [--workers N]           all clones of a script: the statistics of their servers
-//! cloner links MODEL SCRIPT [--workers N]           all clones of a script, in rounds with a clock for each link
+//! cloner run MODEL SCRIPT [--workers N]              all clones of a script
+//! cloner solo MODEL SCRIPT --clone NAME              one clone alone
+//! cloner live MODEL SCRIPT [--workers N]             all clones of a script, while analysts decide
+//! cloner gen NUMBER [--workers N]                    a generated study, all its clones
+//! cloner watch MODEL SCRIPT WATCHES [--workers N]    all clones of a script, and the branches that watches create
+//! cloner stats MODEL SCRIPT [--workers N]            all clones of a script: the statistics of their servers
+//! cloner save MODEL SCRIPT --clone NAME --until T    one clone alone until a time: its snapshot
+//! cloner resume MODEL SNAPSHOT                       the rest of a clone's run, from its snapshot
+//! cloner links MODEL SCRIPT [--workers N]            all clones of a script, in rounds with a clock for each link
 //! ```
 //!
 //! `read_words` returns a `Request`: what to do (`Assignment`), and the number of workers. An assignment has no
@@ -21,8 +23,8 @@
 //! request.workers                               // 4
 //! ```
 //!
-//! Parsing allocates a command of six arguments and a list of the words. The promise: **a command line of no known form
-//! is refused before any file is read, and none is taken for another**.
+//! Parsing allocates a command of seven arguments and a list of the words. The promise: **a command line of no known
+//! form is refused before any file is read, and none is taken for another**.
 #![tactic(auto)]
 
 mod command;

@@ -2,13 +2,16 @@
 ghost use Rattle.std.specs.Prelude.{◌≡◌, ◌⊎◌, ◌≤◌, IfOk, IfSome, None, Err, option_map};
 ghost use Rattle.command_words.specs.Requests.{clone_alone as clone_alone_of, form, form_of, form_of_one};
 ghost use Rattle.command_words.specs.Requests.{form_of_three, form_of_two, gen_form, is_text as is_text_of};
-ghost use Rattle.command_words.specs.Requests.{live_form, request_view, solo_form, study_form, watch_form};
+ghost use Rattle.command_words.specs.Requests.{live_form, none_given as none_given_of, request_view, resume_form};
+ghost use Rattle.command_words.specs.Requests.{save_form, saving as saving_of, solo_form, study_form, watch_form};
 ghost use Rattle.command_words.specs.Requests.{workers_alone as workers_alone_of, workers_of as workers_in};
 ghost use Rattle.command_words.specs.Views.{given_view};
 
 use crate::given::{Given, given_words};
-use crate::number::number_to;
-use crate::request::{Assignment, MAX_STUDY, MAX_WORKERS, Mode, Request, Source, WordsFault};
+use crate::number::number_in;
+use crate::request::{
+    Assignment, MAX_STUDY, MAX_UNTIL, MAX_WORKERS, Mode, Request, Source, WordsFault,
+};
 use sim_base::Name;
 use sim_outer::Word;
 use std::alloc::{AllocError, Global};
@@ -31,29 +34,57 @@ fn workers_of(word: Option<&str>) -> Option<u32>
 {
     match word {
         None => Some(1),
-        Some(word) => number_to(MAX_WORKERS, word.as_bytes()),
+        Some(word) => number_in(1, MAX_WORKERS, word.as_bytes()),
     }
 }
 
 // The number of workers, if there is no other option.
 fn workers_alone(given: &Given) -> Option<u32>
-    ensures value { result ≡ workers_alone_of (given_view given.now).workers (given_view given.now).clone }
+    ensures value { result ≡ workers_alone_of (given_view given.now).workers (given_view given.now).clone
+        (given_view given.now).until }
     ensures at_least { IfSome result (λ n. 1 ≤ n) }
     ensures at_most { IfSome result (λ n. n ≤ MAX_WORKERS) }
 {
-    match given.clone {
-        None => workers_of(given.workers),
-        Some(_) => None,
+    match (given.clone, given.until) {
+        (None, None) => workers_of(given.workers),
+        _ => None,
     }
 }
 
 // The name of the clone, if there is no other option.
 fn clone_alone(given: &Given) -> Option<Name>
-    ensures value { result ≡ clone_alone_of (given_view given.now).workers (given_view given.now).clone }
+    ensures value { result ≡ clone_alone_of (given_view given.now).workers (given_view given.now).clone
+        (given_view given.now).until }
 {
-    match (given.workers, given.clone) {
-        (None, Some(clone)) => Name::read(clone.as_bytes()),
+    match (given.workers, given.clone, given.until) {
+        (None, Some(clone), None) => Name::read(clone.as_bytes()),
         _ => None,
+    }
+}
+
+// The clone to save and the time, if there is no other option.
+fn saving(given: &Given) -> Option<Mode>
+    ensures value { result ≡ saving_of (given_view given.now).workers (given_view given.now).clone
+        (given_view given.now).until }
+{
+    match (given.workers, given.clone, given.until) {
+        (None, Some(clone), Some(until)) => {
+            let name = Name::read(clone.as_bytes())?;
+            let until = number_in(0, MAX_UNTIL, until.as_bytes())?;
+            Some(Mode::Save { clone: name, until })
+        }
+        _ => None,
+    }
+}
+
+// Whether there is no option.
+fn none_given(given: &Given) -> bool
+    ensures value { result ≡ none_given_of (given_view given.now).workers (given_view given.now).clone
+        (given_view given.now).until }
+{
+    match (given.workers, given.clone, given.until) {
+        (None, None, None) => true,
+        _ => false,
     }
 }
 
@@ -107,6 +138,35 @@ fn solo_request<'a>(model: &'a str, script: &'a str, given: &Given) -> Option<Re
     })
 }
 
+// `save MODEL SCRIPT --clone NAME --until T`
+fn save_request<'a>(model: &'a str, script: &'a str, given: &Given) -> Option<Request<'a>>
+    ensures value { option_map request_view result ≡ save_form model.entry.now script.entry.now (given_view given.now) }
+{
+    if !is_text(model) || !is_text(script) {
+        return None;
+    }
+    let mode = saving(given)?;
+    let source = Source::FileNames { model, script };
+    Some(Request {
+        assignment: Assignment::Study { source, mode },
+        workers: 1,
+    })
+}
+
+// `resume MODEL SNAPSHOT`
+fn resume_request<'a>(model: &'a str, snapshot: &'a str, given: &Given) -> Option<Request<'a>>
+    ensures value { option_map request_view result ≡ resume_form model.entry.now snapshot.entry.now
+        (given_view given.now) }
+{
+    if !is_text(model) || !is_text(snapshot) || !none_given(given) {
+        return None;
+    }
+    Some(Request {
+        assignment: Assignment::Resume { model, snapshot },
+        workers: 1,
+    })
+}
+
 // `watch MODEL SCRIPT WATCHES [--workers N]`
 fn watch_request<'a>(
     model: &'a str,
@@ -135,7 +195,7 @@ fn watch_request<'a>(
 fn gen_request<'a>(number: &str, given: &Given) -> Option<Request<'a>>
     ensures value { option_map request_view result ≡ gen_form number.now (given_view given.now) }
 {
-    let number = number_to(MAX_STUDY, number.as_bytes())?;
+    let number = number_in(1, MAX_STUDY, number.as_bytes())?;
     let workers = workers_alone(given)?;
     let source = Source::Number(number);
     Some(Request {
@@ -176,6 +236,10 @@ fn request_of_two<'a>(
         live_request(first, second, given)
     } else if mode == "stats" {
         study_request(Mode::Stats, first, second, given)
+    } else if mode == "save" {
+        save_request(first, second, given)
+    } else if mode == "resume" {
+        resume_request(first, second, given)
     } else if mode == "links" {
         study_request(Mode::Links, first, second, given)
     } else {

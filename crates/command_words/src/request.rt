@@ -10,6 +10,9 @@ pub const MAX_WORKERS: u32 = sim_base::limits::MAX_WORKERS;
 /// The greatest number from which a study may be generated.
 pub(crate) const MAX_STUDY: u32 = 999_999;
 
+/// The greatest time that `--until` accepts.
+pub(crate) const MAX_UNTIL: u32 = 4_294_967_295;
+
 /// The mode of a study whose decisions are all made first: which clones are run, and what is written of them.
 #[derive(Clone, Copy, Debug, PartialEq, Eq)]
 pub enum Mode {
@@ -23,6 +26,8 @@ pub enum Mode {
     Links,
     /// The named clone alone: its trace.
     Solo(Name),
+    /// The named clone alone, until a time: its snapshot.
+    Save { clone: Name, until: u32 },
 }
 
 /// The source of the model and the script.
@@ -52,6 +57,11 @@ pub enum Assignment<'a> {
         model: &'a str,
         script: &'a str,
         watches: &'a str,
+    },
+    /// The rest of a clone's run, from two files, the model and a snapshot of the clone.
+    Resume {
+        model: &'a str,
+        snapshot: &'a str,
     },
 }
 

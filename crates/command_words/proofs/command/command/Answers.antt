@@ -1,18 +1,15 @@
-use Rattle.std.proofs.Common.{ap₂, ◌∙◌, ◌≡◌, codes}
+use Rattle.std.proofs.Common.{ap₂, ◌∙◌}
 use Rattle.std.proofs.lemmas.Result.{IfOk-weaker}
-use Rattle.clap.specs.Words.{app_of, with_rule}
-use Rattle.command_words.specs.Application.{bare_app, option}
+use Rattle.clap.specs.Words.{with_rule}
 use Rattle.command_words.proofs.command.command.Goals as goal
 
 pub returns : goal.returns
 returns c =
-    let one : app_of c.in_ok-command.command ≡ with_rule bare_app (option (codes "workers")) =
-    c.in_ok-command.ensures.value ∙ ap₂ with_rule c.bare_command.ensures.value c.option_arg.ensures.rule in
-    let two = c.in_ok-command-2.ensures.value ∙ ap₂ with_rule one c.option_arg-2.ensures.rule in
-    let three = c.in_ok-command-3.ensures.value ∙ ap₂ with_rule two c.positional_arg.ensures.rule in
-    let four = c.in_ok-command-4.ensures.value ∙ ap₂ with_rule three c.positional_arg-2.ensures.rule in
-    let five = c.in_ok-command-5.ensures.value ∙ ap₂ with_rule four c.positional_arg-3.ensures.rule in
+    let one = c.in_ok-command-2.ensures.value
+    ∙ ap₂ with_rule c.in_ok-command.ensures.value c.positional_arg.ensures.rule in
+    let two = c.in_ok-command-3.ensures.value ∙ ap₂ with_rule one c.positional_arg-2.ensures.rule in
+    let three = c.in_ok-command-4.ensures.value ∙ ap₂ with_rule two c.positional_arg-3.ensures.rule in
     record {
-      value = IfOk-weaker c.with_arg-6.result _ _
-          (λ m h. h ∙ ap₂ with_rule five c.positional_arg-4.ensures.rule) c.with_arg-6.ensures.value;
+      value = IfOk-weaker c.with_arg-4.result _ _
+          (λ m h. h ∙ ap₂ with_rule three c.positional_arg-4.ensures.rule) c.with_arg-4.ensures.value;
     }

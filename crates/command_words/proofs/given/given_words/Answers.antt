@@ -39,6 +39,7 @@ returns c =
       third = c.get_str-4.result;
       workers = c.get_str-5.result;
       clone = c.get_str-6.result;
+      until = c.get_str-7.result;
     })) ≡ option_and_then up_to_four (values c.args.words.now) = rw (
       c.get_str.ensures,
       c.get_str-2.ensures,
@@ -46,6 +47,7 @@ returns c =
       c.get_str-4.ensures,
       c.get_str-5.ensures,
       c.get_str-6.ensures,
+      c.get_str-7.ensures,
     ) (read_words words c.in-Ok.matches none rows ∙ ap clap_values (map-id c.args.words.now)
     ∙ clap_finds_the_values c.args.words.now c.recall_texts.ensures.texts) in
     record { value = same; asks = form_found c.args.words.now (Some _) same }
