@@ -9,6 +9,7 @@ from .check_flow import estimate_station
 from .errors import PlanningError
 from .explain_model import Explainer, Refusal
 from .explain_script import Decisions, Lines, explain_script, read_lines, some
+from .explain_snapshots import Snapshots
 from .explain_tables import Status, Tables, is_integer, read_tables
 from .explain_watches import Watches, explain_watches
 from .names import did_you_mean
@@ -25,10 +26,13 @@ Prints the meaning from docs/FORMATS.md, the line of the file, what is allowed t
 
 With a file of watches and an empty standard input it says what each watch waits for and what its branch changes:
 
-    cloner_planning.py explain MODEL SCRIPT WATCHES < /dev/null"""
+    cloner_planning.py explain MODEL SCRIPT WATCHES < /dev/null
+
+For `resume` the second file is the snapshot."""
 
 MODEL_LINE = re.compile(r"cloner: model: refusal (\d+) at station (\d+)(?: key ?(.*))?\Z")
 LINE_OF_TEXT = re.compile(r"cloner: (script|decision|watches|watch): refusal (\d+) at line (\d+)\Z")
+SNAPSHOT_LINE = re.compile(r"cloner: snapshot: refusal (\d+) at (\d+)\Z")
 LIMIT_LINE = re.compile(r"cloner: limit (\d+) met at station (\w+) in clone (\w+)\Z")
 CLONE_LINE = re.compile(r"cloner: no clone (\S+)\Z")
 FRONT_LINE = re.compile(rb"# front (\d{1,10})\s*\Z")
@@ -41,7 +45,7 @@ ROOM_TO_SPARE = 1.1
 def add_arguments(parser: argparse.ArgumentParser) -> None:
     """Adds the words of the command line."""
     parser.add_argument("model", nargs="?", metavar="MODEL", help="the model file that cloner was given")
-    parser.add_argument("script", nargs="?", metavar="SCRIPT", help="the script that cloner was given")
+    parser.add_argument("script", nargs="?", metavar="SCRIPT", help="the script that cloner was given; for `resume` the snapshot")
     parser.add_argument("watches", nargs="?", metavar="WATCHES", help="the file of watches that cloner was given")
 
 
@@ -68,6 +72,10 @@ class Files:
     def lines(self) -> Optional[Lines]:
         """Returns the lines of the script."""
         return read_lines(self.script) if self.script else None
+
+    def snapshot_lines(self) -> Optional[Lines]:
+        """Returns the lines of the snapshot, which is named where a script is."""
+        return read_lines(self.script, "snapshot") if self.script else None
 
     def watch_lines(self) -> Optional[Lines]:
         """Returns the lines of the file of watches."""
@@ -97,10 +105,13 @@ def explain(said: str, front: Optional[int], tables: Tables, files: Files) -> Li
     if row is None:
         raise PlanningError(f"this is no error line of cloner: {printable(said)}")
     model, text, limit = MODEL_LINE.match(said), LINE_OF_TEXT.match(said), LIMIT_LINE.match(said)
+    snapshot = SNAPSHOT_LINE.match(said)
     if model:
         return explain_model(Refusal(int(model.group(1)), int(model.group(2)), model.group(3)), tables, files)
     if text:
         return explain_lines(text.group(1), int(text.group(2)), int(text.group(3)), tables, files)
+    if snapshot:
+        return explain_snapshot(int(snapshot.group(1)), int(snapshot.group(2)), tables, files)
     if limit:
         return [row.meaning] + explain_limit(limit.groups(), front, files) + [f"What to do: {row.to_do}"]
     return [row.meaning] + more_of(said, row, tables, files) + ([f"What to do: {row.to_do}"] if row.to_do else [])
@@ -144,6 +155,15 @@ def explain_watch(subject: str, number: int, line: int, tables: Tables, files: F
     if subject == "watches":
         return explain_watches(lines, tables, number, line)
     return Watches(lines, files.lines(), tables, files.places()).explain(number, line)
+
+
+def explain_snapshot(number: int, place: int, tables: Tables, files: Files) -> List[str]:
+    """Returns what a refusal of a snapshot means, and where."""
+    meaning = meaning_of("a snapshot", number, tables)
+    places, lines = files.places(), files.snapshot_lines()
+    if places is None or lines is None:
+        return meaning + ["Give the files of the model and the snapshot as well, and the line is shown."]
+    return meaning + Snapshots(lines, tables, places).explain(number, place)
 
 
 def explain_limit(groups: Tuple[str, ...], front: Optional[int], files: Files) -> List[str]:
@@ -206,7 +226,8 @@ def more_of(said: str, row: Status, tables: Tables, files: Files) -> List[str]:
         return [f"Known: {form}" for form in tables.commands()]
     if row.status == 3:
         what = said.split()[-1]
-        return why_unread({"model": files.model, "script": files.script, "watches": files.watches}[what], what)
+        paths = {"model": files.model, "script": files.script, "watches": files.watches, "snapshot": files.script}
+        return why_unread(paths[what], what)
     return []
 
 

@@ -1,4 +1,4 @@
-"""Reads the tables of docs/FORMATS.md: refusals, statuses, keys, parameters, lines of a script and of watches."""
+"""Reads the tables of docs/FORMATS.md: refusals, statuses, keys, parameters, lines of scripts, watches and snapshots."""
 import os
 import re
 from typing import Any, Dict, List, NamedTuple, Optional, Tuple
@@ -103,6 +103,16 @@ class Tables:
         if not found:
             raise PlanningError("docs/FORMATS.md has no form of a watch")
         return {"watch": found.group()}
+
+    def snapshot_forms(self) -> Dict[str, str]:
+        """Returns the form of each line of a snapshot by its first word, that of a message at TIME."""
+        forms = [row["Line"].strip("`") for row in self.rows("Line", "### Lines of a snapshot")]
+        return {form.split()[0]: form for form in forms if re.match(r"\w+ [A-Z]", form)}
+
+    def snapshot_shapes(self) -> Dict[str, str]:
+        """Returns the end of a station's line in a snapshot by its kind."""
+        shapes = [row["SHAPE"].strip("`") for row in self.rows("SHAPE", "### Lines of a snapshot")]
+        return {shape.split()[0]: shape for shape in shapes}
 
     def commands(self) -> List[str]:
         """Returns the forms of the command line."""

@@ -215,6 +215,7 @@ class TablesOfFormats(unittest.TestCase):
         self.assertEqual(sorted(self.tables.refusals("a decision")), list(range(1, 13)))
         self.assertEqual(sorted(self.tables.refusals("watches")), list(range(1, 6)))
         self.assertEqual(sorted(self.tables.refusals("a watch")), [*range(3, 10), 12])
+        self.assertEqual(sorted(self.tables.refusals("a snapshot")), [1, 2, 3, 4, 6])
 
     def test_keys(self):
         keys = self.tables.keys("of a station")
@@ -235,11 +236,14 @@ class TablesOfFormats(unittest.TestCase):
         self.assertEqual(type_of(True), "true or false")
 
     def test_statuses_parameters_and_forms(self):
-        self.assertEqual([row.status for row in self.tables.statuses()], [0, 1, 2, 3, 4, 5, 6, 6, 7, 8, 9, 9])
+        self.assertEqual([row.status for row in self.tables.statuses()],
+                         [0, 1, 2, 3, 4, 5, 6, 6, 7, 8, 9, 9, 10, 11])
         self.assertEqual(self.tables.parameters()["weight"].taken_by, "router by weights")
         self.assertEqual(list(self.tables.script_forms()), ["analyst", "fork", "set", "end", "look"])
         self.assertEqual(list(self.tables.watch_forms()), ["watch"])
-        self.assertEqual(len(self.tables.commands()), 7)
+        self.assertEqual(list(self.tables.snapshot_forms()), ["snapshot", "station", "pending", "TIME", "trace"])
+        self.assertEqual(list(self.tables.snapshot_shapes()), ["source", "server", "delay", "router", "sink"])
+        self.assertEqual(len(self.tables.commands()), 9)
 
     def test_links_become_pages(self):
         self.assertEqual(unlinked("[the rules](#rules)"), "see docs/FORMATS.md#rules")
