@@ -28,7 +28,9 @@ With a file of watches and an empty standard input it says what each watch waits
 
     cloner_planning.py explain MODEL SCRIPT WATCHES < /dev/null
 
-For `resume` the second file is the snapshot."""
+For `resume` the second file is the snapshot. With an empty standard input it says what the snapshot holds:
+
+    cloner_planning.py explain MODEL SNAPSHOT < /dev/null"""
 
 MODEL_LINE = re.compile(r"cloner: model: refusal (\d+) at station (\d+)(?: key ?(.*))?\Z")
 LINE_OF_TEXT = re.compile(r"cloner: (script|decision|watches|watch): refusal (\d+) at line (\d+)\Z")
@@ -45,7 +47,8 @@ ROOM_TO_SPARE = 1.1
 def add_arguments(parser: argparse.ArgumentParser) -> None:
     """Adds the words of the command line."""
     parser.add_argument("model", nargs="?", metavar="MODEL", help="the model file that cloner was given")
-    parser.add_argument("script", nargs="?", metavar="SCRIPT", help="the script that cloner was given; for `resume` the snapshot")
+    parser.add_argument("script", nargs="?", metavar="SCRIPT",
+                        help="the script that cloner was given; for `resume` the snapshot")
     parser.add_argument("watches", nargs="?", metavar="WATCHES", help="the file of watches that cloner was given")
 
 
@@ -259,6 +262,16 @@ def read_said(lines: Iterable[bytes]) -> Tuple[str, Optional[int]]:
     return said[:LONGEST_LINE].decode("utf-8", errors="replace"), front
 
 
+def described(files: Files) -> List[str]:
+    """Returns what the watches wait for, or what the snapshot holds, whichever is named."""
+    if files.watches:
+        return Watches(files.watch_lines(), files.lines(), read_tables(), files.places()).described()
+    lines = files.snapshot_lines() if files.model else None
+    if lines is None or not lines.raw[0].startswith(b"snapshot "):
+        return []
+    return Snapshots(lines, read_tables(), files.places()).described()
+
+
 def write(lines: List[str]) -> None:
     """Prints lines, with a substitute for each character that the output cannot show."""
     reconfigure: Any = getattr(sys.stdout, "reconfigure", None)
@@ -269,12 +282,11 @@ def write(lines: List[str]) -> None:
 
 
 def run(options: argparse.Namespace) -> int:
-    """Explains the error line on standard input; returns 1, or 0 if there is none, after a look at the watches."""
+    """Explains the error line on standard input; returns 1, or 0 if there is none, after a look at the files."""
     said, front = read_said(sys.stdin.buffer)
     files = Files(options.model, options.script, options.watches)
     if not said:
-        lines = files.watch_lines()
-        write(Watches(lines, files.lines(), read_tables(), files.places()).described() if lines else [])
+        write(described(files))
         return 0
     found = explain(said, front, read_tables(), files)
     write([printable(said)] + [f"  {line}" for line in found])

@@ -282,6 +282,51 @@ class Snapshots:
             return [self.lines.shown(self.pending_line), "This is one more."]
         return []
 
+    # what it holds
+
+    def described(self) -> List[str]:
+        """Returns what the snapshot holds, station by station; if it is none, its first line that is wrong."""
+        if self.places.fault:
+            return [f"{self.places.path} is no TOML."]
+        bad = [line for line in range(1, (self.trace_line() or self.pending_line) + 1) if self.faults_of_line(line)][:1]
+        if bad:
+            return self.bad_line(bad[0])
+        (front, end), lines = self.head(), self.count(self.trace_line() or 0) or 0
+        who = self.texts(1)[1]
+        found = [f"`{who}` at {front}, {'without an end' if end is None else f'with its end at {end}'}, "
+                 f"after {lines:,} lines of its trace:"]
+        found += [f"  {self.state_of(number)}" for number in range(1, len(self.stations) + 1)]
+        return found + self.to_come()
+
+    def state_of(self, station: int) -> str:
+        """Returns what a station does at the front."""
+        v, kind = self.values(station), self.texts(station + 1)[8]
+        name = f"`{printable(str(self.stations[station - 1].get('name')))}`"
+        if kind == "source":
+            return f"{name} has made {v['SENT']:,} jobs, one every {v['LO']} to {v['HI']}."
+        if kind == "server":
+            return (f"{name} has {v['BUSY']} of {v['SERVERS']} servers busy, for {v['LO']} to {v['HI']} each; "
+                    f"{v['line']:,} wait, with room for {v['ROOM']:,}; {v['DONE']:,} done, {v['LOST']:,} lost.")
+        if kind == "delay":
+            return f"{name} has passed on {v['PASSED']:,} jobs, holding each for {v['LO']} to {v['HI']}."
+        if kind == "router":
+            return f"{name} has passed on {v['PASSED']:,} jobs, by weights {' '.join(self.many(station, 'W'))}."
+        mean = f", after {v['STAY'] / v['GOT']:.2f} on average" if v["GOT"] else ""
+        return f"{name} has got {v['GOT']:,} jobs{mean}."
+
+    def to_come(self) -> List[str]:
+        """Returns how many messages are to come, and the sets among them."""
+        lines = range(self.pending_line + 1, self.trace_line() or 0)
+        sets = [words for words in map(self.texts, lines) if words[4] == "set"]
+        found = [f"  {len(lines):,} messages are to come, {len(sets)} of them sets:" if sets else
+                 f"  {len(lines):,} messages are to come, no sets among them."]
+        for words in sets:
+            receiver = int(words[3])
+            known = 1 <= receiver <= len(self.stations)
+            name = printable(str(self.stations[receiver - 1].get("name"))) if known else words[3]
+            found.append(f"    at {words[0]}: {name} {' '.join(words[5:])}")
+        return found
+
     # front, stations, messages
 
     def top(self, key: str, default: int) -> int:
@@ -362,7 +407,8 @@ class Snapshots:
         handled, limit = values["handled"], self.top("limit", DEFAULT_LIMIT)
         jobs = table.get("jobs")
         bounds = [("handled", limit, "the model's `limit`")]
-        bounds += [(name, MOST_SENDS * (handled + 1), f"{MOST_SENDS} times `handled` + 1") for name in ("next", "drawn")]
+        most_sent, said = MOST_SENDS * (handled + 1), f"{MOST_SENDS} times `handled` + 1"
+        bounds += [("next", most_sent, said), ("drawn", most_sent, said)]
         bounds += [(name, handled, "`handled`") for name in ("DONE", "LOST", "PASSED", "GOT")]
         bounds += [("SENT", jobs if is_integer(jobs) else GREATEST, "the `jobs` of the source")]
         bounds += [("BUSY", MOST_BUSY, "the most servers"), ("STAY", MOST_STAY - 1, "the greatest sum")]

@@ -1,4 +1,4 @@
-"""Reads the tables of docs/FORMATS.md: refusals, statuses, keys, parameters, lines of scripts, watches and snapshots."""
+"""Reads the tables of docs/FORMATS.md: refusals, statuses, keys, parameters, lines of scripts and of other files."""
 import os
 import re
 from typing import Any, Dict, List, NamedTuple, Optional, Tuple

@@ -1,5 +1,6 @@
 """explain: deliberate mistakes in a snapshot, with the error lines that docs/FORMATS.md states for them, as text."""
 import os
+import subprocess
 import sys
 import tempfile
 import unittest
@@ -209,6 +210,41 @@ class Mistakes(Folder):
     def test_a_page_without_the_forms(self):
         with self.assertRaises(PlanningError):
             Tables("nothing").snapshot_forms()
+
+
+class Contents(Folder):
+    def described(self):
+        """Returns what the entry script prints with nothing on standard input."""
+        entry = [sys.executable, os.path.join(PLANNING, "cloner_planning.py"), "explain", *self.paths.values()]
+        ended = subprocess.run(entry, input=b"", stdout=subprocess.PIPE, stderr=subprocess.PIPE, check=False)
+        self.assertEqual((ended.returncode, ended.stderr), (0, b""))
+        return ended.stdout.decode().replace(self.paths["SNAPSHOT"], "SNAPSHOT").splitlines()
+
+    def test_each_station(self):
+        self.assertEqual(self.described(), [
+            "`night` at 14, with its end at 90, after 2 lines of its trace:",
+            "  `gate` has made 2 jobs, one every 3 to 5.",
+            "  `desk` has 2 of 2 servers busy, for 4 to 8 each; 2 wait, with room for 5; 1 done, 0 lost.",
+            "  `check` has passed on 0 jobs, by weights 9 1.",
+            "  `wait` has passed on 0 jobs, holding each for 0 to 9.",
+            "  `out` has got 0 jobs.",
+            "  4 messages are to come, 1 of them sets:",
+            "    at 80: desk servers 3"])
+
+    def test_nothing_to_come(self):
+        self.write(SNAPSHOT=spoiled(SNAPSHOT.replace("end 90", "end -"), SNAPSHOT[SNAPSHOT.index("pending"):],
+                                    "pending 0\ntrace 0\n"))
+        lines = self.described()
+        self.assertEqual(lines[0], "`night` at 14, without an end, after 0 lines of its trace:")
+        self.assertEqual(lines[-1], "  0 messages are to come, no sets among them.")
+
+    def test_a_wrong_line(self):
+        self.write(SNAPSHOT=spoiled(SNAPSHOT, "pending 4", "pending 5"))
+        self.assertEqual(self.described()[:2], ["SNAPSHOT:12: trace 2", "Here belongs message 4, counted from 0."])
+
+    def test_a_script_is_no_snapshot(self):
+        self.write(SNAPSHOT=b"fork fast from base\n")
+        self.assertEqual(self.described(), [])
 
 
 if __name__ == "__main__":
