@@ -3,15 +3,17 @@
 
     tools/hostile.py [--bin FILE] [--seconds N] [ROW ..]
 
-Each row is a model, a script, for `watch` also a file of watches, and what has to come: status, error line, and for a finished run how the output
-ends. A row fails where something else comes, where anything is on the output after a refusal, or where it takes
-longer than N seconds of processor time (by default 1; the last row, a full study of the greatest size, has no
-bound). It prints a line for each row with its time and peak memory, and ends with status 1 where one failed.
+Each row is a model, a script or a snapshot, for `watch` also a file of watches, and what has to come: status, error
+line, and for a finished run how the output ends. A row fails where something else comes, where anything is on the
+output after a refusal, or where it takes longer than N seconds of processor time (by default 1; the last row, a full
+study of the greatest size, has no bound). It prints a line for each row with its time and peak memory, and ends with
+status 1 where one failed.
 """
 import argparse
 import os
 import sys
 import tempfile
+from collections import namedtuple
 from pathlib import Path
 
 HERE = Path(__file__).resolve().parent
@@ -24,6 +26,10 @@ OUT = b'[[station]]\nname = "out"\nkind = "sink"\n'
 HEAD = b"lookahead = 2\nhorizon = 20\n"
 ONE_DESK = HEAD + GATE + DESK + OUT
 ONE_DESK_REPORT = b"total handled=8 alone=8\n"
+
+# The second file is a script or a snapshot, the third one the watches. An error line that is None may be any of the
+# status, an end that is None any output.
+Row = namedtuple("Row", "name model second status line end mode third options", defaults=("run", None, ()))
 
 
 def spin(horizon):
@@ -67,10 +73,7 @@ def crowd(clones, sets, station):
 
 
 def rows():
-    """What each row shows: its name, model, script, status, error line (None: any of the status), end of the output.
-
-    A row for `watch` also has a file of watches.
-    """
+    """The rows, the first six of their fields as a tuple where the mode is `run`."""
     yield "a router that spins", spin(100_000), b"", 7, b"cloner: limit 16384 met at station spin in clone base\n", None
     yield ("a router that spins up to the limit", spin(16_386), b"", 0, b"",
            b"report\ngate copies=1 handled=1 alone=1\nspin copies=1 handled=16384 alone=16384\ntotal handled=16385 alone=16385\n")
@@ -115,13 +118,13 @@ def watch_rows():
                                 ("with one too many", in_vain, b"watches: refusal 5 at line 256"),
                                 ("with a word of a megabyte", b"watch " + b"a" * (MOST - 6), b"watches: refusal 3 at line 1"),
                                 ("with a clone too many", at_once.partition(b"\n")[2], b"watch: refusal 5 at line 255")]:
-        yield f"a file of watches {name}", ONE_DESK, b"fork fast from base\n", 9, b"cloner: %s\n" % line, None, watches
+        yield f"a file of watches {name}", ONE_DESK, b"fork fast from base\n", 9, b"cloner: %s\n" % line, None, "watch", watches
     for name, model, watches, handled, alone in [
             ("that are due at once", ONE_DESK, at_once.partition(b"\n")[2], 12, 2303),
             ("in a chain", ONE_DESK, chain, 22, 92),
             ("of a long log, in vain", busy_desk(), in_vain.partition(b"\n")[2], 79996, 79996)]:
         end = b"total handled=%d alone=%d\n" % (handled, alone)
-        yield f"255 watches {name}", model, b"", 0, b"", end, watches
+        yield f"255 watches {name}", model, b"", 0, b"", end, "watch", watches
 
 
 def run(words):
@@ -136,33 +139,40 @@ def run(words):
         return code, out.read(), err.read(), used.ru_utime + used.ru_stime, used.ru_maxrss // 1024
 
 
+def words_of(row, folder):
+    """Writes the files of a row into a folder; the words after the program's name."""
+    files = []
+    for name, data in [("model", row.model), ("second", row.second), ("third", row.third)]:
+        if data is not None:
+            files.append(folder / name)
+            files[-1].write_bytes(data)
+    return [row.mode, *map(str, files), *row.options]
+
+
+def tried(row, program, folder, most):
+    """Whether a row ends as it must within so many seconds; prints how it ended."""
+    code, out, err, seconds, memory = run([program, *words_of(row, folder)])
+    well = code == row.status and (row.line is None or err == row.line) and (row.end is None or out.endswith(row.end))
+    well = well and (row.status == 0 or (not out and err.count(b"\n") == 1))
+    well = well and (seconds <= most or "full lists" in row.name)
+    print(f"{'ok    ' if well else 'FAILED'} {row.name}: status {code}, {seconds:.2f} s, {memory} MB"
+          + ("" if well else f"; {err[:120]!r}"), flush=True)
+    return well
+
+
 def main():
     """Runs the rows that are asked for, and says how each ended; status 1 where one failed."""
-    parser = argparse.ArgumentParser(description="Runs `cloner` on hostile models and scripts.")
+    parser = argparse.ArgumentParser(description="Runs `cloner` on hostile models, scripts, watches and snapshots.")
     parser.add_argument("--bin", type=Path, metavar="FILE", default=BUILT, help="the program; by default as built")
     parser.add_argument("--seconds", type=float, default=1, metavar="N", help="the most that a row may take; by default 1")
     parser.add_argument("names", nargs="*", metavar="ROW", help="names of rows; by default all")
     given = parser.parse_args()
     failed = count = 0
     with tempfile.TemporaryDirectory() as folder:
-        model, script, watched = (Path(folder, name) for name in ("model.toml", "script.txt", "watches.txt"))
-        for name, model_text, script_text, status, line, end, *watches in rows():
-            if given.names and name not in given.names:
-                continue
-            model.write_bytes(model_text)
-            script.write_bytes(script_text)
-            words = ["run", str(model), str(script)]
-            if watches:
-                watched.write_bytes(watches[0])
-                words = ["watch", str(model), str(script), str(watched)]
-            code, out, err, seconds, memory = run([str(given.bin.resolve()), *words])
-            well = code == status and (line is None or err == line) and (end is None or out.endswith(end))
-            well = well and (status == 0 or (not out and err.count(b"\n") == 1))
-            well = well and (seconds <= given.seconds or "full lists" in name)
-            count += 1
-            failed += not well
-            print(f"{'ok    ' if well else 'FAILED'} {name}: status {code}, {seconds:.2f} s, {memory} MB"
-                  + ("" if well else f"; {err[:120]!r}"), flush=True)
+        for row in (Row(*fields) for fields in rows()):
+            if not given.names or row.name in given.names:
+                count += 1
+                failed += not tried(row, str(given.bin.resolve()), Path(folder), given.seconds)
     print(f"{count} rows, {failed} failed")
     return 1 if failed else 0
 
