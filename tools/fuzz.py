@@ -8,10 +8,12 @@ Of each case: `run` against `solo` of each clone; 1 against 4 and 16 workers, wh
 analysts asked, and its looks against the traces; `stats`, where the program knows it, against figures
 out of the traces; `watch`, where the program knows it, with watches made for the case, against `run` of
 the script that the due times give; `links`, where the program knows it, against `run` and rounds worked
-out from the model; the traces' order; the form of error lines, and no output beside one; the refusal of
-the model, the script or a decision, or the clones, against the formats written once more. With --plain
-also the traces of the plain simulator of bench/. A case that fails is kept in a folder, with its model,
-its script, its watches and what was found. Status 1 where one failed.
+out from the model; `save` and `resume`, where the program knows them, against a slow simulator and `solo`,
+and damaged snapshots against the refusals that they must get; the traces' order; the form of error lines,
+and no output beside one; the refusal of the model, the script or a decision, or the clones, against the
+formats written once more. With --plain also the traces of the plain simulator of bench/. A case that
+fails is kept in a folder, with its model, its script, its watches, its snapshot and what was found.
+Status 1 where one failed.
 """
 import argparse
 import collections
@@ -28,6 +30,7 @@ from fuzz_cases import made_case
 from fuzz_links import check_links
 from fuzz_live import Difference, check_live
 from fuzz_model import expected_model
+from fuzz_save import check_save
 from fuzz_script import decided, expected
 from fuzz_stats import expected_stats
 from fuzz_watch import check_watch
@@ -68,7 +71,8 @@ class Runner:
     def __init__(self, program, plain, folder):
         self.program, self.plain = str(program.resolve()), plain and str(plain.resolve())
         self.model, self.script, self.plainest = (str(folder / name) for name in ("model", "script", "plainest"))
-        self.watches, self.other = str(folder / "watches"), str(folder / "other")
+        self.watches, self.snapshot = str(folder / "watches"), str(folder / "snapshot")
+        self.other = str(folder / "other")
         self.out, self.err, self.runs = str(folder / "out"), str(folder / "err"), 0
         self.workers, self.knows = [], []
         signal.signal(signal.SIGALRM, rung)
@@ -115,6 +119,14 @@ class Runner:
         """`cloner links` of the present case."""
         return self.started([self.program, "links", self.model, self.script, *more])
 
+    def save(self, clone, until):
+        """`cloner save` of a clone of the present case until a time."""
+        return self.started([self.program, "save", self.model, self.script, "--clone", clone, "--until", str(until)])
+
+    def resume(self):
+        """`cloner resume` of the present snapshot."""
+        return self.started([self.program, "resume", self.model, self.snapshot])
+
     def run_script(self, script, model=None):
         """`cloner run` of the present model, or of another one, with another script."""
         write(self.plainest, script)
@@ -124,10 +136,11 @@ class Runner:
 
     def write_watches(self, watches):
         """Makes the present file of watches, or sees that there is none."""
-        if watches is None:
-            Path(self.watches).unlink(missing_ok=True)
-        else:
-            write(self.watches, watches)
+        write_or_remove(self.watches, watches)
+
+    def write_snapshot(self, snapshot):
+        """Makes the present snapshot, or sees that there is none."""
+        write_or_remove(self.snapshot, snapshot)
 
     def options(self):
         """The options with which a mode is compared: none, and more workers."""
@@ -142,12 +155,22 @@ class Runner:
         self.knows = [mode for mode in ("stats", "watch") if getattr(self, mode)().status == 0]
         if re.search(rb"\nrounds \d+\n\Z", self.links().out):
             self.knows.append("links")
+        if self.save("base", 10).status == 0:
+            self.knows.append("save")
 
 
 def write(path, data):
     """Writes a file whole."""
     with open(path, "wb") as file:
         file.write(data)
+
+
+def write_or_remove(path, data):
+    """Writes a file whole, or removes it if there is no data."""
+    if data is None:
+        Path(path).unlink(missing_ok=True)
+    else:
+        write(path, data)
 
 
 def check_end(ended):
@@ -305,6 +328,8 @@ def check_later_modes(runner, case, ended):
         check_watch(runner, split, case, ended)
     if "links" in runner.knows:
         check_links(runner, split, case, ended)
+    if "save" in runner.knows:
+        check_save(runner, case, ended)
 
 
 def check_case(runner, case):
@@ -332,7 +357,7 @@ def keep(folder, name, case, why):
     place = folder / name
     place.mkdir(parents=True, exist_ok=True)
     parts = {"model.toml": case.model, "script.txt": case.script, "watches.txt": case.watches,
-             "found.txt": f"{why}\n".encode()}
+             "snapshot.txt": case.snapshot, "found.txt": f"{why}\n".encode()}
     for part, data in parts.items():
         if data is not None:
             write(place / part, data)

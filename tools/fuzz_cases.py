@@ -230,11 +230,11 @@ def spoiled(rng, model):
 class Case:
     """The texts of model and script; the model itself where its text is valid, and its plainest text.
 
-    The watches are those that were last made for the case, None if there are none.
+    The watches are those that were last made for the case, None if there are none; so is the snapshot that is tried.
     """
 
     def __init__(self, model, script, valid=None):
-        self.model, self.script, self.valid, self.watches = model, script, valid, None
+        self.model, self.script, self.valid, self.watches, self.snapshot = model, script, valid, None, None
         self.plainest = valid and model_text(valid).encode()
 
 
