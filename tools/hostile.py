@@ -26,6 +26,19 @@ OUT = b'[[station]]\nname = "out"\nkind = "sink"\n'
 HEAD = b"lookahead = 2\nhorizon = 20\n"
 ONE_DESK = HEAD + GATE + DESK + OUT
 ONE_DESK_REPORT = b"total handled=8 alone=8\n"
+SNAPSHOT = b"""snapshot base front 10 end -
+station 1 next 4 drawn 2 handled 2 source 3 3 2
+station 2 next 3 drawn 2 handled 3 server 1 5 4 4 1 1 0 line 0
+station 3 next 0 drawn 0 handled 0 sink 0 0
+pending 2
+11 2 1 3 job 1.0.3
+13 2 2 2 done 1.1.6
+trace 0
+"""
+SOURCE, SERVER, SINK = SNAPSHOT.splitlines(True)[1:4]
+MESSAGES = SNAPSHOT[SNAPSHOT.index(b"pending"):]
+# The latest time until which the busy desk has a snapshot of at most MOST bytes, as the slow simulator finds it.
+LAST_SHORT = 4867
 
 # The second file is a script or a snapshot, the third one the watches. An error line that is None may be any of the
 # status, an end that is None any output.
@@ -105,6 +118,9 @@ def rows():
     yield "a dotted key of half a million parts", b"a" + b".a" * ((MOST - 4) // 2) + b"=1", b"", 4, None, None
     yield "87,000 tables", b"[[station]]\n" * 87_000 + HEAD, b"", 4, None, None
     yield from watch_rows()
+    yield from save_rows()
+    yield from refused_snapshots()
+    yield from accepted_snapshots()
     yield "64 stations with 16 links, 256 clones with full lists", web(64, 16), crowd(256, 256, b"gate"), 0, b"", None
 
 
@@ -125,6 +141,122 @@ def watch_rows():
             ("of a long log, in vain", busy_desk(), in_vain.partition(b"\n")[2], 79996, 79996)]:
         end = b"total handled=%d alone=%d\n" % (handled, alone)
         yield f"255 watches {name}", model, b"", 0, b"", end, "watch", watches
+
+
+def save_rows():
+    """The rows for `save`: the length of the snapshot, and the limit before the front."""
+    for name, model, until, status, line, end in [
+            ("as long as it may be", busy_desk(), LAST_SHORT, 0, b"", None),
+            ("a little longer than it may be", busy_desk(), LAST_SHORT + 1, 11, b"cloner: snapshot too long\n", None),
+            ("much longer than it may be", busy_desk(), 4294967295, 11, b"cloner: snapshot too long\n", None),
+            ("of a router that spins, before the limit", spin(100_000), 16386, 0, b"",
+             b"16385 spin spin 16382 job gate.0 passed=16384\n"),
+            ("of a router that spins, at the limit", spin(100_000), 16387, 7,
+             b"cloner: limit 16384 met at station spin in clone base\n", None)]:
+        options = ("--clone", "base", "--until", str(until))
+        yield f"a snapshot {name}", model, b"", status, line, end, "save", None, options
+
+
+def with_messages(lines):
+    """The snapshot with other messages."""
+    return SNAPSHOT.replace(MESSAGES, b"pending %d\n" % len(lines) + b"".join(lines) + b"trace 0\n")
+
+
+def refused_snapshots():
+    """The rows for snapshots that are refused: counts that are lies, long lines, numbers of many digits."""
+    half = SNAPSHOT.replace(b"trace 0\n", b"")
+    ends = [b"11 2 1 2 done 1.0.3\n", b"13 2 2 2 done 1.1.6\n"]
+    jobs, unfit = (MOST - len(SNAPSHOT)) // 6 - 2, SNAPSHOT.replace(b"handled 3", b"handled 16385")
+    for name, text, refusal in [
+            ("that is empty", b"", b"2 at 1"),
+            ("that is too long", b"y" * (MOST + 1), b"1 at 0"),
+            ("of a megabyte of line ends", b"\n" * MOST, b"2 at 1"),
+            ("of a megabyte of zero bytes", b"\0" * MOST, b"2 at 1"),
+            ("of a megabyte of spaces", b"snapshot" + b" " * (MOST - 8), b"2 at 1"),
+            ("with a name of a megabyte", b"snapshot " + b"a" * (MOST - 9), b"2 at 1"),
+            ("with more messages than there are", SNAPSHOT.replace(b"pending 2", b"pending 4294967295"), b"2 at 8"),
+            ("with many messages and none of them", SNAPSHOT[:SNAPSHOT.index(b"pending")] + b"pending 4294967295\n",
+             b"2 at 6"),
+            ("with more lines than there are", SNAPSHOT.replace(b"trace 0", b"trace 4294967295"), b"2 at 9"),
+            ("with more lines than a number says", SNAPSHOT.replace(b"trace 0", b"trace 4294967296"), b"2 at 8"),
+            ("with 10,000,000,000 messages", SNAPSHOT.replace(b"pending 2", b"pending 10000000000"), b"2 at 5"),
+            ("with a number of a megabyte", SNAPSHOT.replace(b"next 3", b"next " + b"9" * (MOST - len(SNAPSHOT))),
+             b"2 at 3"),
+            ("with zeros before a number", SNAPSHOT.replace(b"next 3", b"next " + b"0" * (MOST - len(SNAPSHOT))),
+             b"2 at 3"),
+            ("with a sum of 65 bits", SNAPSHOT.replace(b"sink 0 0", b"sink 0 18446744073709551616"), b"2 at 4"),
+            ("with a sum of 64 bits", SNAPSHOT.replace(b"sink 0 0", b"sink 0 18446744073709551615"), b"3 at 3"),
+            ("with a line of a megabyte", half + b"trace 1\n" + b"y" * (MOST - len(half) - 9) + b"\n", b"2 at 9"),
+            ("with a job too many in line", SNAPSHOT.replace(b"line 0", b"line 4294967295 1.0.0"), b"2 at 3"),
+            ("with 170,000 jobs in line", SNAPSHOT.replace(b"line 0", b"line %d" % jobs + b" 1.0.0" * jobs), b"3 at 2"),
+            ("with 4,097 jobs in line", SNAPSHOT.replace(b"line 0", b"line 4097" + b" 1.0.0" * 4097), b"3 at 2"),
+            ("with a time of 32 bits", SNAPSHOT.replace(b"13 2 2 2", b"2147483648 2 2 2"), b"4 at 1"),
+            ("with a time of 33 bits", SNAPSHOT.replace(b"13 2 2 2", b"4294967296 2 2 2"), b"2 at 7"),
+            ("with two ends of one service", with_messages(ends), b"4 at 1"),
+            ("with a bad line after all else", SNAPSHOT.replace(b"front 10", b"front 99") + b"\n", b"2 at 9"),
+            ("with a bad front before all else", unfit.replace(b"front 10", b"front 99"), b"6 at 0"),
+            ("of another model", SNAPSHOT.replace(SERVER, b"station 2 next 0 drawn 0 handled 0 sink 0 0\n"), b"3 at 2"),
+            ("with a station beyond the limit", unfit, b"3 at 2")]:
+        yield f"a snapshot {name}", ONE_DESK, text, 10, b"cloner: snapshot: refusal %s\n" % refusal, None, "resume"
+
+
+def accepted_snapshots():
+    """The rows for snapshots that no run comes to and that are resumed as they stand."""
+    far = b"".join(b"%d 1 0 3 tick\n" % time for time in range(20, 50_020))
+    ticks = [b"%d 1 %d 1 tick\n" % (time, time - 11) for time in (11, 12, 13)]
+    strange = [b"11 1 0 3 tick\n", b"12 1 1 1 job 1.0.0\n", b"13 2 0 3 done 1.0.0\n",
+               b"14 0 255 1 set room 4294967295\n", b"15 2 1 1 set every 4294967295 0\n"]
+    sum_kept = SNAPSHOT.replace(SINK, b"station 3 next 0 drawn 0 handled 1 sink 0 281474976710655\n")
+    for name, text, end in [
+            ("with jobs made and nothing handled", SNAPSHOT.replace(b"handled 2 source", b"handled 0 source"),
+             b"15 out desk 3 job gate.1 got=2 stay=17\n"),
+            ("with the greatest sum", sum_kept, b"15 out desk 3 job gate.1 got=2 stay=281474976710672\n"),
+            ("with three ticks and no job left", with_messages(ticks),
+             b"13 gate gate 2 tick sent=5\n13 desk gate 4 job gate.2 busy=1 wait=1 done=1 lost=0\n"
+             b"14 desk gate 5 job gate.3 busy=1 wait=2 done=1 lost=0\n"
+             b"15 desk gate 6 job gate.4 busy=1 wait=3 done=1 lost=0\n"),
+            ("with one number at two times", with_messages([b"11 2 1 3 job 1.0.3\n", b"12 2 1 3 job 1.0.3\n"]),
+             b"clone base\n11 out desk 1 job gate.0 got=1 stay=8\n12 out desk 1 job gate.0 got=2 stay=17\n"),
+            ("with a server that is never free", SNAPSHOT.replace(b"4 4 1 1 0", b"4 4 16 1 0"),
+             b"13 desk desk 2 done gate.1 busy=15 wait=0 done=2 lost=0\n15 out desk 3 job gate.1 got=2 stay=17\n"),
+            ("with a job that is not made yet", SNAPSHOT.replace(b"1.0.3", b"1.0.19"),
+             b"11 out desk 1 job gate.0 got=1 stay=0\n13 desk desk 2 done gate.1 busy=0 wait=0 done=2 lost=0\n"
+             b"15 out desk 3 job gate.1 got=2 stay=9\n"),
+            ("with messages that nobody takes", with_messages(strange),
+             b"clone base\n11 out gate 0 tick got=0 stay=0\n12 gate gate 1 job gate.0 sent=2\n"
+             b"13 out desk 0 done gate.0 got=0 stay=0\n14 gate analyst 255 set room 4294967295 sent=2\n"
+             b"15 gate desk 1 set every 4294967295 0 sent=2\n"),
+            ("that ends at its front", SNAPSHOT.replace(b"end -", b"end 10"), b"clone base\n"),
+            ("at time 0", SNAPSHOT.replace(b"front 10", b"front 0"), b"15 out desk 3 job gate.1 got=2 stay=17\n"),
+            ("with a trace of lies", SNAPSHOT.replace(b"trace 0\n", b"trace 2\nclone base\n~\n"),
+             b"clone base\nclone base\n~\n11 out desk 1 job gate.0 got=1 stay=8\n"
+             b"13 desk desk 2 done gate.1 busy=0 wait=0 done=2 lost=0\n15 out desk 3 job gate.1 got=2 stay=17\n"),
+            ("with 50,000 messages", SNAPSHOT.replace(MESSAGES, b"pending 50000\n" + far + b"trace 0\n"),
+             b"clone base\n")]:
+        yield f"a snapshot {name}", ONE_DESK, text, 0, b"", end, "resume"
+    yield from long_snapshots()
+
+
+def long_snapshots():
+    """The rows for snapshots that are accepted, at the limit or of much work."""
+    at_limit = SNAPSHOT.replace(b"handled 3", b"handled 16384")
+    limit_line = b"cloner: limit 16384 met at station desk in clone base\n"
+    yield "a snapshot at the limit", ONE_DESK, at_limit, 7, limit_line, None, "resume"
+    wide = ONE_DESK.replace(b"horizon = 20\n", b"horizon = 1000000000\nlimit = 65536\n")
+    wide = wide.replace(b"jobs = 2", b"jobs = 1000000")
+    words = SNAPSHOT.replace(SOURCE, b"station 1 next 1048576 drawn 1048576 handled 65535 source 3 3 2\n")
+    last = words.replace(MESSAGES, b"pending 1\n30 1 0 1 tick\ntrace 0\n")
+    yield ("a snapshot with a million words drawn", wide, last, 7,
+           b"cloner: limit 65536 met at station gate in clone base\n", None, "resume")
+    ticks = b"".join(b"%d 1 0 3 tick\n" % time for time in range(30, 50_030))
+    many = SNAPSHOT.replace(MESSAGES, b"pending 50000\n" + ticks + b"trace 0\n")
+    yield ("a snapshot with 50,000 messages to handle", wide, many, 0, b"", b"\n50029 out gate 0 tick got=0 stay=0\n",
+           "resume")
+    head = SNAPSHOT.replace(b"trace 0\n", b"trace 5216\n")
+    lines, last = divmod(MOST - len(head), 201)
+    text = head + (b"~" * 200 + b"\n") * lines + b"~" * (last - 1) + b"\n"
+    yield ("a snapshot as long as it may be", ONE_DESK, text, 0, b"",
+           b"15 out desk 3 job gate.1 got=2 stay=17\n", "resume")
 
 
 def run(words):
