@@ -233,8 +233,9 @@ def fits(saved, site, net):
 def is_bad(snapshot, index, net):
     """Whether a pending message is bad."""
     time, sender, number, receiver, payload = snapshot.pending[index]
-    before = snapshot.pending[:index]
-    if before and (time, sender, number) <= before[-1][:3] or not snapshot.front <= time < MOST_TIME:
+    if index and (time, sender, number) <= snapshot.pending[index - 1][:3]:
+        return True
+    if not snapshot.front <= time < MOST_TIME:
         return True
     if not net.site(receiver) or sender and not net.site(sender):
         return True
@@ -243,6 +244,7 @@ def is_bad(snapshot, index, net):
     if number >= (snapshot.saved[sender - 1].next if sender else MOST_SETS):
         return True
     if payload[0] == "done" and net.site(receiver).kind == "server":
+        before = snapshot.pending[:index]
         ends = [message for message in before if message[3] == receiver and message[4][0] == "done"]
         return len(ends) >= snapshot.saved[receiver - 1].values["busy"]
     return False
