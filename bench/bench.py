@@ -26,7 +26,7 @@ CRATE = TOP / "crates" / "cloner_cli"
 BUILT = CRATE / "out" / "cloner_cli"
 PARTS = ("workloads", "solo", "stats", "links", "watch", "start", "growth", "simpy")
 LINKED = ("clinic", "gen", "hub", "wide", "tight", "wait60000")
-MOST_WATCHES = 255
+MAX_WATCHES = 255
 
 
 def arguments():
@@ -200,7 +200,7 @@ def measure_watch(bench):
     """What watches cost that wait in vain: the clinic with as many as there may be, beside `cloner run`."""
     files = bench.files("clinic")
     watches = bench.folder / "watches.txt"
-    lines = [f"watch base doctor wait 4096 fork w{i} set doctor servers 4\n" for i in range(MOST_WATCHES - 7)]
+    lines = [f"watch base doctor wait 4096 fork w{i} set doctor servers 4\n" for i in range(MAX_WATCHES - 7)]
     watches.write_text("".join(lines))
     commands = {"run": [bench.cloner, "run", *files], "watch": [bench.cloner, "watch", *files, str(watches)]}
     if peak_and_bytes(commands["watch"], bench.folder)[1] != peak_and_bytes(commands["run"], bench.folder)[1]:

@@ -5,7 +5,7 @@ place, or None if the text is still a snapshot. Of two changed lines the fault i
 """
 import re
 
-from fuzz_snapshot import GREATEST, LONGEST, MOST_JOBS, MOST_SETS, MOST_STAY, MOST_TIME, snapshot_text
+from fuzz_snapshot import MAX_NUMBER, MAX_FILE_BYTES, MAX_JOBS, MAX_SETS, MAX_STAY_SUM, TIME_BOUND, snapshot_text
 
 RANK = {1: 0, 2: 1, 6: 2, 3: 3, 4: 4}
 NUMBER, LETTERS = re.compile(r"[0-9.]+\Z"), re.compile(r"[a-z]")
@@ -87,7 +87,7 @@ def long_number(rng, cut):
     places = [place for place, word in enumerate(words) if NUMBER.match(word) and place != stay]
     place = rng.choice(places)
     first, dot, rest = words[place].partition(".")
-    return at, cut.with_word(at, place, f"{GREATEST + 1}{dot}{rest}"), (2, at + 1)
+    return at, cut.with_word(at, place, f"{MAX_NUMBER + 1}{dot}{rest}"), (2, at + 1)
 
 
 def bad_trace_line(rng, cut):
@@ -110,7 +110,7 @@ def other_trace_line(rng, cut):
 def other_station(rng, cut):
     """The line of a station with another number."""
     at = rng.randrange(1, cut.pending)
-    return at, cut.with_word(at, 1, rng.choice([at - 1, at + 1, GREATEST])), (2, at + 1)
+    return at, cut.with_word(at, 1, rng.choice([at - 1, at + 1, MAX_NUMBER])), (2, at + 1)
 
 
 # ---- front and end
@@ -119,7 +119,7 @@ def other_station(rng, cut):
 def bad_front(rng, cut):
     """A front beyond the horizon or the end, or an end that is not below the horizon."""
     front, horizon = cut.snapshot.front, cut.net.horizon
-    ways = [(3, horizon + 1), (3, GREATEST), (5, horizon), (5, GREATEST)] + ([(5, front - 1)] if front else [])
+    ways = [(3, horizon + 1), (3, MAX_NUMBER), (5, horizon), (5, MAX_NUMBER)] + ([(5, front - 1)] if front else [])
     return 0, cut.with_word(0, *rng.choice(ways)), (6, 0)
 
 
@@ -136,7 +136,7 @@ def good_end(rng, cut):
 def values_beyond(saved, site, net):
     """Of each number of a station: values that do not fit, and values at the bound that do."""
     most, jobs = 16 * (saved.handled + 1), site.keys.get("jobs", 0)
-    rows = {"next": ([most + 1, GREATEST], [most]), "drawn": ([most + 1, GREATEST], [most]),
+    rows = {"next": ([most + 1, MAX_NUMBER], [most]), "drawn": ([most + 1, MAX_NUMBER], [most]),
             "handled": ([net.limit + 1], [net.limit])}
     least = 0 if saved.kind == "delay" else 1
     low, high = saved.values.get("lo"), saved.values.get("hi")
@@ -147,7 +147,8 @@ def values_beyond(saved, site, net):
                        "lost": ([saved.handled + 1], [saved.handled])},
             "delay": {"passed": ([saved.handled + 1], [saved.handled]), "lo": ([above], [0])},
             "router": {"passed": ([saved.handled + 1], [saved.handled])},
-            "sink": {"got": ([saved.handled + 1], [saved.handled]), "stay": ([MOST_STAY, 2**64 - 1], [MOST_STAY - 1])}}
+            "sink": {"got": ([saved.handled + 1], [saved.handled]),
+                     "stay": ([MAX_STAY_SUM, 2**64 - 1], [MAX_STAY_SUM - 1])}}
     if low is not None:
         more[saved.kind]["hi"] = ([1000001] + ([low - 1] if low > least else []), [1000000])
     if saved.line:
@@ -219,8 +220,8 @@ def long_line(rng, cut):
 def bad_job(rng, cut, job):
     """A job of no source, beyond the greatest count, or born too late."""
     source, count, born = job
-    return ".".join(map(str, rng.choice([(rng.choice(cut.sources()[1]), count, born), (source, MOST_JOBS, born),
-                                         (source, count, cut.net.horizon), (GREATEST, count, born)])))
+    return ".".join(map(str, rng.choice([(rng.choice(cut.sources()[1]), count, born), (source, MAX_JOBS, born),
+                                         (source, count, cut.net.horizon), (MAX_NUMBER, count, born)])))
 
 
 # ---- messages
@@ -232,8 +233,8 @@ def bad_message(rng, cut):
         return None
     index = rng.randrange(len(cut.snapshot.pending))
     at, (_, sender, number, _, payload) = cut.pending + 1 + index, cut.snapshot.pending[index]
-    none, most = len(cut.net.sites) + 1, cut.snapshot.saved[sender - 1].next if sender else MOST_SETS
-    ways = [(0, MOST_TIME), (0, GREATEST), (1, none), (1, GREATEST), (2, most), (3, 0), (3, none)]
+    none, most = len(cut.net.sites) + 1, cut.snapshot.saved[sender - 1].next if sender else MAX_SETS
+    ways = [(0, TIME_BOUND), (0, MAX_NUMBER), (1, none), (1, MAX_NUMBER), (2, most), (3, 0), (3, none)]
     ways += [(0, cut.snapshot.front - 1)] if cut.snapshot.front else []
     ways += [(5, bad_job(rng, cut, payload[1]))] if payload[0] in ("job", "done") else []
     return at, cut.with_word(at, *rng.choice(ways)), (4, index)
@@ -285,7 +286,7 @@ def other_count(rng, cut):
     """A number of messages or lines that is not theirs."""
     at = rng.choice([cut.pending, cut.trace])
     count = int(cut.words(at)[1])
-    other = rng.choice([count + 1, count - 1, GREATEST])
+    other = rng.choice([count + 1, count - 1, MAX_NUMBER])
     last = cut.trace if at == cut.pending else len(cut.lines)
     if other == -1:
         return None
@@ -337,7 +338,7 @@ def longest(rng, cut):
     """A text of the greatest length, or one byte more."""
     more = rng.choice([0, 1])
     head = cut.lines[:cut.trace]
-    size = LONGEST + more - sum(map(len, head)) - len(head)
+    size = MAX_FILE_BYTES + more - sum(map(len, head)) - len(head)
     count = size // 201 + 1
     body = size - len(b"trace %d\n" % count)
     lines = [b"y" * (body // count - 1)] * count

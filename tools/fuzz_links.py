@@ -3,7 +3,7 @@ from fuzz_live import Difference
 from fuzz_model import expected_model
 from fuzz_watch import check_beyond
 
-MOST_ROUNDS = 20000
+MAX_ROUNDS = 20000
 
 
 def next_clocks(model, clocks):
@@ -21,7 +21,7 @@ def rounds_of(model):
     clocks, rounds = {station.name: 0 for station in model.stations}, 0
     while any(clock < model.top["horizon"] for clock in clocks.values()):
         clocks, rounds = next_clocks(model, clocks), rounds + 1
-        if rounds > MOST_ROUNDS:
+        if rounds > MAX_ROUNDS:
             return None
     return rounds
 

@@ -8,7 +8,7 @@ import re
 from fuzz_script import TAKEN, in_range
 
 WORD, LONG_WORD = (1 << 32) - 1, (1 << 64) - 1
-MOST_LIMIT = 16384
+DEFAULT_LIMIT = 16384
 
 
 class LimitMet(Exception):
@@ -73,7 +73,7 @@ class Net:
 
     def __init__(self, model):
         number_of = {station.name: number for number, station in enumerate(model.stations, 1)}
-        self.horizon, self.limit = model.top["horizon"], model.top.get("limit", MOST_LIMIT)
+        self.horizon, self.limit = model.top["horizon"], model.top.get("limit", DEFAULT_LIMIT)
         self.shows_class = model.top.get("format", 1) == 2
         self.sites = [Site(number, station, number_of, model.top) for number, station in enumerate(model.stations, 1)]
         self.number_of = number_of

@@ -22,7 +22,7 @@ from fuzz_snapshot import (
     Fault, limit_line, opened_again, read_lines, read_snapshot, resumed_end, saved_end, snapshot_of, snapshot_text)
 
 WITHOUT_MODEL = b"snapshot base front 0 end -\npending 0\ntrace 0\n"
-GREATEST = 2**32 - 1
+MAX_NUMBER = 2**32 - 1
 
 
 def solo_end(net, who, changes, end):
@@ -38,7 +38,7 @@ def solo_end(net, who, changes, end):
 def made_until(rng, net, changes, end):
     """A time to save at: any, that of a change or the end, or one beyond the horizon."""
     marks = [time + more for time, *_ in changes for more in (0, 1)] + ([end, end + 1] if end is not None else [])
-    ways = [rng.randint(0, net.horizon)] * 6 + [0, 1, net.horizon - 1, net.horizon, net.horizon + 1, GREATEST]
+    ways = [rng.randint(0, net.horizon)] * 6 + [0, 1, net.horizon - 1, net.horizon, net.horizon + 1, MAX_NUMBER]
     return rng.choice(marks) if marks and rng.random() < 0.2 else rng.choice(ways)
 
 

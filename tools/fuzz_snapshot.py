@@ -9,9 +9,9 @@ from collections import namedtuple
 from fuzz_run import LimitMet, State, World
 from fuzz_script import VALUES
 
-LONGEST = 1048576
-GREATEST, GREATEST_STAY = 2**32 - 1, 2**64 - 1
-MOST_JOBS, MOST_STAY, MOST_TIME, MOST_SETS = 1000000, 2**48, 2**31, 256
+MAX_FILE_BYTES = 1048576
+MAX_NUMBER, MAX_STAY = 2**32 - 1, 2**64 - 1
+MAX_JOBS, MAX_STAY_SUM, TIME_BOUND, MAX_SETS = 1000000, 2**48, 2**31, 256
 SHAPES = {"source": ["lo", "hi", "sent"], "server": ["servers", "room", "lo", "hi", "busy", "done", "lost"],
           "delay": ["lo", "hi", "passed"], "router": ["passed"], "sink": ["got", "stay"]}
 NUMBER = r"(0|[1-9]\d{0,19})"
@@ -86,7 +86,7 @@ def snapshot_text(snapshot):
 # ---- reading
 
 
-def number_in(word, most=GREATEST):
+def number_in(word, most=MAX_NUMBER):
     """The number that a word writes."""
     if not re.match(NUMBER + r"\Z", word, re.A) or int(word) > most:
         raise NotOfTheForm
@@ -118,7 +118,7 @@ def read_station(text, site):
     kind, *words = shape.split(" ")
     if number_in(number) != site.number or kind not in SHAPES or len(words) < len(SHAPES[kind]):
         raise NotOfTheForm
-    most = [GREATEST_STAY if name == "stay" else GREATEST for name in SHAPES[kind]]
+    most = [MAX_STAY if name == "stay" else MAX_NUMBER for name in SHAPES[kind]]
     values, rest, line = dict(zip(SHAPES[kind], map(number_in, words, most))), words[len(SHAPES[kind]):], []
     if kind == "router":
         values["weights"] = list(map(number_in, rest))
@@ -202,7 +202,7 @@ def read_lines(data, net):
 def is_job(net, job):
     """Whether a job may be one of the model's."""
     source = net.site(job[0])
-    return bool(source) and source.kind == "source" and job[1] < MOST_JOBS and job[2] < net.horizon
+    return bool(source) and source.kind == "source" and job[1] < MAX_JOBS and job[2] < net.horizon
 
 
 def are_parameters(saved, site):
@@ -223,7 +223,7 @@ def fits(saved, site, net):
         return False
     if any(saved.values.get(name, 0) > saved.handled for name in ("done", "lost", "passed", "got")):
         return False
-    if saved.values.get("sent", 0) > site.keys.get("jobs", 0) or saved.values.get("stay", 0) >= MOST_STAY:
+    if saved.values.get("sent", 0) > site.keys.get("jobs", 0) or saved.values.get("stay", 0) >= MAX_STAY_SUM:
         return False
     if len(saved.line) > 4096 or saved.line and saved.values["busy"] < saved.values["servers"]:
         return False
@@ -235,13 +235,13 @@ def is_bad(snapshot, index, net):
     time, sender, number, receiver, payload = snapshot.pending[index]
     if index and (time, sender, number) <= snapshot.pending[index - 1][:3]:
         return True
-    if not snapshot.front <= time < MOST_TIME:
+    if not snapshot.front <= time < TIME_BOUND:
         return True
     if not net.site(receiver) or sender and not net.site(sender):
         return True
     if payload[0] in ("job", "done") and not is_job(net, payload[1]):
         return True
-    if number >= (snapshot.saved[sender - 1].next if sender else MOST_SETS):
+    if number >= (snapshot.saved[sender - 1].next if sender else MAX_SETS):
         return True
     if payload[0] == "done" and net.site(receiver).kind == "server":
         before = snapshot.pending[:index]
@@ -252,7 +252,7 @@ def is_bad(snapshot, index, net):
 
 def read_snapshot(data, net):
     """The snapshot that a text writes for a model; raises the first fault."""
-    if len(data) > LONGEST:
+    if len(data) > MAX_FILE_BYTES:
         raise Fault(1, 0)
     snapshot = read_lines(data, net)
     last = net.horizon if snapshot.end is None else snapshot.end
@@ -290,7 +290,7 @@ def saved_end(world, net, who, until, end):
     except LimitMet as met:
         return 7, b"", limit_line(net, met, who)
     text = snapshot_text(snapshot_of(who, front, end, world))
-    return (11, b"", b"cloner: snapshot too long\n") if len(text) > LONGEST else (0, text, b"")
+    return (11, b"", b"cloner: snapshot too long\n") if len(text) > MAX_FILE_BYTES else (0, text, b"")
 
 
 def resumed_end(data, net):

@@ -14,7 +14,7 @@ from fuzz_script import NAME, NUMBER, VALUES, Refused, decided
 
 Watch = namedtuple("Watch", "line who station least new target parameter values")
 
-MOST_WATCHES = 255
+MAX_WATCHES = 255
 LIMIT_LINE = re.compile(rb"cloner: limit (\d+) met at station ([a-z0-9_]+) in clone ([a-z0-9_]+)\n")
 WAITING = re.compile(rb"(?m)^\d+ ([a-z0-9_]+) .* wait=(\d+) ")
 WITHOUT_MODEL = b"watch base desk wait 1 fork help set desk servers 2\n"
@@ -23,8 +23,8 @@ WITHOUT_MODEL = b"watch base desk wait 1 fork help set desk servers 2\n"
 def made_chain(rng, servers, clones):
     """As many watches as there may be, or one more or less, each of the branch of the one before it or of `base`."""
     who, lines, is_chain = "base", [], rng.random() < 0.3
-    room_left = MOST_WATCHES + 1 - clones
-    for number in range(rng.choice([room_left, room_left, room_left + 1, MOST_WATCHES + 1])):
+    room_left = MAX_WATCHES + 1 - clones
+    for number in range(rng.choice([room_left, room_left, room_left + 1, MAX_WATCHES + 1])):
         station, target = rng.choice(servers).name, rng.choice(servers).name
         lines.append(f"watch {who} {station} wait {rng.choice([0, 1])} fork w{number} set {target} room {number % 7}")
         who = f"w{number}" if is_chain else who
@@ -101,7 +101,7 @@ def read_watches(data):
     for number, line in enumerate(data.split(b"\n"), 1):
         try:
             watch = read_line(number, line[:-1] if line.endswith(b"\r") else line)
-            if watch and len(watches) == MOST_WATCHES:
+            if watch and len(watches) == MAX_WATCHES:
                 raise Refused(5)
         except Refused as why:
             return f"cloner: watches: refusal {why} at line {number}\n", None

@@ -15,7 +15,7 @@ branch. The estimate comes from mean rates alone, without a run. Ends with 1 if 
 there is none."""
 
 FULL, NEARLY_FULL = 1.005, 0.95
-MOST_NAMES = 5
+MAX_NAMES = 5
 BYTES_OF_A_LINE = (50, 75)
 
 
@@ -66,8 +66,8 @@ def is_active(station: Station, model: Model) -> bool:
 def listed(names: Iterable[str]) -> str:
     """Returns names as a list, cut if there are many."""
     names = list(names)
-    more = f" and {len(names) - MOST_NAMES} more" if len(names) > MOST_NAMES else ""
-    return ", ".join(names[:MOST_NAMES]) + more
+    more = f" and {len(names) - MAX_NAMES} more" if len(names) > MAX_NAMES else ""
+    return ", ".join(names[:MAX_NAMES]) + more
 
 
 def in_branches(branches: List[str]) -> str:

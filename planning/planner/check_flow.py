@@ -11,7 +11,7 @@ from .scripts import Decision, Script, parse_script, read_script
 Values = Tuple[int, ...]
 Setting = Tuple[str, ...]
 Settings = Dict[Setting, Values]
-MOST_ROUNDS = 20_000
+MAX_ROUNDS = 20_000
 NEAR = 1e-6
 
 
@@ -191,7 +191,7 @@ class Flow:
         begin = [made.get(station.name, 0.0) for station in self.model.stations]
         passed = [min(rate, bound) for rate, bound in zip(self.last, most)]
         rates = list(self.last)
-        for _ in range(MOST_ROUNDS):
+        for _ in range(MAX_ROUNDS):
             change = 0.0
             for place, ways in enumerate(incoming):
                 rate = begin[place]

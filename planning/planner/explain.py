@@ -38,9 +38,9 @@ SNAPSHOT_LINE = re.compile(r"cloner: snapshot: refusal (\d+) at (\d+)\Z")
 LIMIT_LINE = re.compile(r"cloner: limit (\d+) met at station (\w+) in clone (\w+)\Z")
 CLONE_LINE = re.compile(r"cloner: no clone (\S+)\Z")
 FRONT_LINE = re.compile(rb"# front (\d{1,10})\s*\Z")
-LONGEST_LINE = 4096
+MAX_LINE_BYTES = 4096
 SUBJECTS = {"script": "a script", "decision": "a decision", "watches": "watches", "watch": "a watch"}
-GREATEST_LIMIT = 65_536
+MAX_LIMIT = 65_536
 ROOM_TO_SPARE = 1.1
 
 
@@ -202,18 +202,18 @@ def needed(station: str, branch: str, limit: int, front: Optional[int], places: 
 
 def advice_for(limit: int, needs: Optional[Needed]) -> str:
     """Returns what to change so that the limit is kept."""
-    if needs is None and limit >= GREATEST_LIMIT:
+    if needs is None and limit >= MAX_LIMIT:
         return "Shorten `horizon`, or split the station over several."
     if needs is None:
-        return (f"Write a greater `limit` at the top, up to {GREATEST_LIMIT}, shorten `horizon`, "
+        return (f"Write a greater `limit` at the top, up to {MAX_LIMIT}, shorten `horizon`, "
                 "or split the station over several.")
     said = f"Up to the horizon {needs.horizon} it would handle about {needs.messages:,.0f}."
     wanted = int(needs.messages * ROOM_TO_SPARE) + 1
-    if wanted <= GREATEST_LIMIT:
+    if wanted <= MAX_LIMIT:
         shorter = int(needs.met / ROOM_TO_SPARE)
         return f"{said} Write `limit = {wanted}` at the top, or a `horizon` of at most about {shorter}."
-    fits = int(needs.met * GREATEST_LIMIT / limit / ROOM_TO_SPARE)
-    return (f"{said} The greatest limit is {GREATEST_LIMIT}: with it a `horizon` of about {fits} fits; "
+    fits = int(needs.met * MAX_LIMIT / limit / ROOM_TO_SPARE)
+    return (f"{said} The greatest limit is {MAX_LIMIT}: with it a `horizon` of about {fits} fits; "
             "or split the station over several.")
 
 
@@ -259,7 +259,7 @@ def read_said(lines: Iterable[bytes]) -> Tuple[str, Optional[int]]:
         found = FRONT_LINE.match(line)
         front = int(found.group(1)) if found else front
         said = line.strip() or said
-    return said[:LONGEST_LINE].decode("utf-8", errors="replace"), front
+    return said[:MAX_LINE_BYTES].decode("utf-8", errors="replace"), front
 
 
 def described(files: Files) -> List[str]:

@@ -5,11 +5,11 @@ from typing import Any, Dict, List, NamedTuple, Optional, Tuple
 from .explain_model import near_station
 from .explain_tables import NAME, Tables
 from .names import did_you_mean, nearest, why_no_name
-from .places import LONGEST, Places, printable, read_bytes, size_of
+from .places import MAX_FILE_BYTES, Places, printable, read_bytes, size_of
 
-GREATEST = 4_294_967_295
+MAX_NUMBER = 4_294_967_295
 NUMBER = re.compile(r"(0|[1-9][0-9]{0,9})\Z")
-MOST_DECISIONS, MOST_ANALYSTS, MOST_BRANCHES, MOST_SETS = 4096, 16, 256, 256
+MAX_DECISIONS, MAX_ANALYSTS, MAX_BRANCHES, MAX_SETS = 4096, 16, 256, 256
 NAME_RULE = "a name has 1 to 16 of a-z, 0-9 and _, the first a letter"
 GONE = "This line as it is now does not have this fault: was the file changed after the run, or is it another one?"
 
@@ -26,7 +26,7 @@ class Lines:
 
     def __init__(self, path: str, data: bytes):
         self.path = path
-        self.raw = data[:LONGEST].split(b"\n")
+        self.raw = data[:MAX_FILE_BYTES].split(b"\n")
 
     def text(self, number: int) -> str:
         """Returns a line, each byte one character; empty if there is none."""
@@ -64,7 +64,7 @@ def read_lines(path: str, what: str = "script") -> Lines:
 
 def is_number(text: str) -> bool:
     """Returns whether a word is a number of a script."""
-    return NUMBER.match(text) is not None and int(text) <= GREATEST
+    return NUMBER.match(text) is not None and int(text) <= MAX_NUMBER
 
 
 def here(word: Word) -> str:
@@ -85,12 +85,12 @@ def explain_script(lines: Lines, tables: Tables, number: int, line: int) -> List
     if number == 4:
         return shown + (why_no_number(words) or [GONE])
     if number == 5:
-        return shown + [f"It is the {MOST_DECISIONS + 1:,}th line that is a fork, a set, an end or a look: "
+        return shown + [f"It is the {MAX_DECISIONS + 1:,}th line that is a fork, a set, an end or a look: "
                         "cut the script by branches."]
     if number == 6:
         analysts = {said[1] for _, said in lines.before(line) if said[0] == "analyst" and len(said) == 2}
         known = ["main"] + sorted(analysts - {"main"})
-        return shown + [f"With `main` there are {MOST_ANALYSTS} before it: {', '.join(known)}."]
+        return shown + [f"With `main` there are {MAX_ANALYSTS} before it: {', '.join(known)}."]
     return shown
 
 
@@ -131,7 +131,7 @@ def fault_of_number(text: str) -> str:
     if re.match(r"0\d+\Z", text, re.A):
         return "it has a leading zero"
     if re.match(r"\d+\Z", text, re.A):
-        return f"the greatest is {GREATEST:,}"
+        return f"the greatest is {MAX_NUMBER:,}"
     if re.match(r"[+-]\d+\Z", text, re.A):
         return "a number has no sign"
     if re.match(r"\d+[.:]\d+\Z", text, re.A):
@@ -229,10 +229,10 @@ class Decisions:
         if number == 12:
             return shown + self.ended(line, branch)
         if number == 5:
-            return shown + [f"`base` and {MOST_BRANCHES - 1} forks are allowed: "
+            return shown + [f"`base` and {MAX_BRANCHES - 1} forks are allowed: "
                             "cut the script by families of branches."]
         if number == 9:
-            return shown + [f"`{branch}` has {MOST_SETS} sets at this line, those before its fork included."]
+            return shown + [f"`{branch}` has {MAX_SETS} sets at this line, those before its fork included."]
         if self.places is None:
             return shown + ["Give the model's file as well, and its lines are looked up."]
         if self.places.fault:

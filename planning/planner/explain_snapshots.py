@@ -2,17 +2,17 @@
 import re
 from typing import Any, Dict, List, NamedTuple, Optional, Tuple
 
-from .explain_script import GONE, GREATEST, Lines, Word, fault_of_number, here
+from .explain_script import GONE, MAX_NUMBER, Lines, Word, fault_of_number, here
 from .explain_tables import KINDS, NAME, Tables, in_range, is_integer, rule_of
 from .names import did_you_mean
 from .places import Places, printable, size_of
 
-GREATEST_STAY = 2**64 - 1
-MOST_STAY = 2**48
-MOST_TIME = 2**31
-MOST_JOBS = 1_000_000
-MOST_BUSY, MOST_WAITING, MOST_SENDS, MOST_SETS = 16, 4096, 16, 256
-LONGEST_LINE = 200
+MAX_STAY = 2**64 - 1
+MAX_STAY_SUM = 2**48
+TIME_BOUND = 2**31
+MAX_JOBS = 1_000_000
+MAX_BUSY, MAX_WAITING, MAX_SENDS, MAX_SETS = 16, 4096, 16, 256
+MAX_LINE_BYTES = 200
 DEFAULT_LIMIT = 16_384
 NUMBER = re.compile(r"(0|[1-9][0-9]*)\Z")
 JOB = re.compile(r"([0-9]+)\.([0-9]+)\.([0-9]+)\Z")
@@ -40,7 +40,7 @@ class Message(NamedTuple):
     job: Optional[Job]
 
 
-def number_fault(word: str, greatest: int = GREATEST) -> str:
+def number_fault(word: str, greatest: int = MAX_NUMBER) -> str:
     """Returns why a word is no number of a snapshot; an empty text if it is one."""
     if not NUMBER.match(word):
         return fault_of_number(word)
@@ -98,7 +98,7 @@ class SnapshotForms:
             return self.job_fault(word)
         if part == "E" and word == "-":
             return []
-        fault = number_fault(word, GREATEST_STAY if part == "STAY" else GREATEST)
+        fault = number_fault(word, MAX_STAY if part == "STAY" else MAX_NUMBER)
         return [f"is no number: {fault}."] if fault else []
 
     def job_fault(self, word: str) -> List[str]:
@@ -261,8 +261,8 @@ class Snapshots:
     def bad_trace_line(self, line: int) -> List[str]:
         """Returns why a line is none of a trace."""
         text = self.raw(line)
-        if not 1 <= len(text) <= LONGEST_LINE:
-            return [f"It has {len(text):,} bytes, and 1 to {LONGEST_LINE} are allowed."]
+        if not 1 <= len(text) <= MAX_LINE_BYTES:
+            return [f"It has {len(text):,} bytes, and 1 to {MAX_LINE_BYTES} are allowed."]
         found = re.search(r"[^ -~]", text)
         return [f"Column {found.start() + 1}: the byte 0x{ord(found.group()):02x} is no printed ASCII character."] \
             if found else []
@@ -348,7 +348,7 @@ class Snapshots:
         """Returns the lines of `BadFront`: which of front, end and horizon are out of order."""
         if not self.is_whole():
             return []
-        (front, end), horizon = self.head(), self.top("horizon", MOST_TIME)
+        (front, end), horizon = self.head(), self.top("horizon", TIME_BOUND)
         found = self.model_lines(("horizon",))
         if end is not None and end >= horizon:
             return found + [f"The end {end} is not before the horizon, which is {horizon}: write `-` for no end."]
@@ -381,8 +381,8 @@ class Snapshots:
             return self.model_lines(("station", station, "kind")) + [
                 f"{name} is a {kind} in the model, and here a {said}. {ANOTHER_MODEL}"]
         found = self.unfit_parameters(kind, values, station) + self.unfit_counts(table, values)
-        if values.get("line", 0) > MOST_WAITING:
-            found.append(f"{values['line']:,} jobs wait, and the most are {MOST_WAITING:,}.")
+        if values.get("line", 0) > MAX_WAITING:
+            found.append(f"{values['line']:,} jobs wait, and the most are {MAX_WAITING:,}.")
         if values.get("line") and values["BUSY"] < values["SERVERS"]:
             found.append(f"Jobs wait while a server is free: BUSY is {values['BUSY']}, SERVERS {values['SERVERS']}.")
         return found + [fault for word in self.many(station, "J") for fault in self.unfit_job(job_in(word))]
@@ -407,11 +407,11 @@ class Snapshots:
         handled, limit = values["handled"], self.top("limit", DEFAULT_LIMIT)
         jobs = table.get("jobs")
         bounds = [("handled", limit, "the model's `limit`")]
-        most_sent, said = MOST_SENDS * (handled + 1), f"{MOST_SENDS} times `handled` + 1"
+        most_sent, said = MAX_SENDS * (handled + 1), f"{MAX_SENDS} times `handled` + 1"
         bounds += [("next", most_sent, said), ("drawn", most_sent, said)]
         bounds += [(name, handled, "`handled`") for name in ("DONE", "LOST", "PASSED", "GOT")]
-        bounds += [("SENT", jobs if is_integer(jobs) else GREATEST, "the `jobs` of the source")]
-        bounds += [("BUSY", MOST_BUSY, "the most servers"), ("STAY", MOST_STAY - 1, "the greatest sum")]
+        bounds += [("SENT", jobs if is_integer(jobs) else MAX_NUMBER, "the `jobs` of the source")]
+        bounds += [("BUSY", MAX_BUSY, "the most servers"), ("STAY", MAX_STAY_SUM - 1, "the greatest sum")]
         return [f"{name if name.isupper() else f'`{name}`'} is {values[name]}, and at most {most} may be: {what}."
                 for name, most, what in bounds if values.get(name, 0) > most]
 
@@ -423,9 +423,9 @@ class Snapshots:
         if kind != "source":
             found.append(f"{said} has no source: station {job.source} is "
                          + (f"a {kind}." if kind else "not there."))
-        if job.count >= MOST_JOBS:
-            found.append(f"{said} has a count that no source comes to: it is below {MOST_JOBS:,}.")
-        horizon = self.top("horizon", MOST_TIME)
+        if job.count >= MAX_JOBS:
+            found.append(f"{said} has a count that no source comes to: it is below {MAX_JOBS:,}.")
+        horizon = self.top("horizon", TIME_BOUND)
         if job.born >= horizon:
             found.append(f"{said} was made at the horizon or later, which is {horizon}.")
         return found
@@ -442,8 +442,8 @@ class Snapshots:
         found = self.out_of_order(index, message) if index else []
         if message.time < front:
             found.append(f"Its time {message.time} is before the front, which is {front}: that is over already.")
-        if message.time >= MOST_TIME:
-            found.append(f"Its time {message.time} is too late: it is below {MOST_TIME:,}.")
+        if message.time >= TIME_BOUND:
+            found.append(f"Its time {message.time} is too late: it is below {TIME_BOUND:,}.")
         if not 1 <= message.receiver <= stations:
             found.append(f"Its receiver {message.receiver} is no station: they are 1 to {stations}.")
         if message.sender > stations:
@@ -462,11 +462,11 @@ class Snapshots:
         """Returns why a message's number is none that its sender has used."""
         if message.sender > len(self.stations):
             return []
-        most = self.values(message.sender)["next"] if message.sender else MOST_SETS
+        most = self.values(message.sender)["next"] if message.sender else MAX_SETS
         if message.number < most:
             return []
         if not message.sender:
-            return [f"Its number {message.number} is no place in a list of decisions: it is below {MOST_SETS}."]
+            return [f"Its number {message.number} is no place in a list of decisions: it is below {MAX_SETS}."]
         return [f"{self.lines.shown(message.sender + 1)}   (its sender)",
                 f"Its number {message.number} was not sent yet: `next` is {most}."]
 

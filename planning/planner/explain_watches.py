@@ -3,12 +3,12 @@ from typing import Dict, List, Optional
 
 from .explain_model import near_station
 from .explain_script import (
-    GONE, MOST_BRANCHES, MOST_SETS, BadLine, Decisions, Lines, Word, faults_of_numbers, some, why_not_ascii)
+    GONE, MAX_BRANCHES, MAX_SETS, BadLine, Decisions, Lines, Word, faults_of_numbers, some, why_not_ascii)
 from .explain_tables import NAME, Tables, is_integer
 from .names import did_you_mean
 from .places import Places, size_of
 
-MOST_WATCHES = 255
+MAX_WATCHES = 255
 SHORTEST_WATCH = 11
 
 
@@ -25,7 +25,7 @@ def explain_watches(lines: Lines, tables: Tables, number: int, line: int) -> Lis
     if number == 2:
         return shown + why_not_ascii(lines, line)
     if number == 5:
-        return shown + [f"It is watch number {MOST_WATCHES + 1}: there may be {MOST_WATCHES}."]
+        return shown + [f"It is watch number {MAX_WATCHES + 1}: there may be {MAX_WATCHES}."]
     faults = faults_of_line(lines.words(line), tables)
     return shown + (faults or [GONE])
 
@@ -145,8 +145,8 @@ class Watches:
         """Returns the lines of `TooManyClones`: how many there are."""
         branches, watches = len(self.script.forks()), len(self.lines.before(line + 1))
         return [f"{branches} branches of the script, `base` among them, and {watches} watches are "
-                f"{branches + watches}: at most {MOST_BRANCHES} are allowed."]
+                f"{branches + watches}: at most {MAX_BRANCHES} are allowed."]
 
     def list_full(self, _line: int, words: List[str]) -> List[str]:
         """Returns the lines of `ListFull`: the bound."""
-        return [f"`{words[1]}` has {MOST_SETS} sets, those before its fork and those of watches included."]
+        return [f"`{words[1]}` has {MAX_SETS} sets, those before its fork and those of watches included."]

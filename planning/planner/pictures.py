@@ -25,7 +25,7 @@ matplotlib.rcdefaults()
 matplotlib.rcParams.update(SETTINGS)
 
 PALE_TO_SOLID = LinearSegmentedColormap.from_list("alone", ["#DCE7F3", "#6C9BC9", "#08306B"])
-TALL_ROW, LOW_ROW, MOST_TALL_ROWS = 0.24, 0.1, 48
+TALL_ROW, LOW_ROW, MAX_TALL_ROWS = 0.24, 0.1, 48
 
 
 def write(figure: Figure, output, kind: str) -> None:
@@ -80,7 +80,7 @@ def share_of(row: Row, number: int) -> float:
 def draw_shares(shares: Shares, span: Tuple[int, int]) -> Figure:
     """Returns the picture of what each branch computed alone: a row for each, and its share in per cent."""
     rows, used = shares.rows, (shares.last - shares.begin) // shares.width + 1
-    tall = len(rows) <= MOST_TALL_ROWS
+    tall = len(rows) <= MAX_TALL_ROWS
     figure = Figure(figsize=(10, max(2.6, 1.2 + len(rows) * (TALL_ROW if tall else LOW_ROW))))
     axes = figure.add_subplot()
     image = axes.imshow([[share_of(row, number) for number in range(used)] for row in rows],

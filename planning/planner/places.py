@@ -7,7 +7,7 @@ from typing import Any, Dict, List, NamedTuple, Optional, Tuple
 from .errors import PlanningError
 from .toml_lines import Fault, Place, Reader
 
-LONGEST = 1_048_576
+MAX_FILE_BYTES = 1_048_576
 SHOWN = 160
 UNSHOWN = re.compile("[\x00-\x1f\x7f-\x9f]")
 
@@ -40,7 +40,7 @@ class Places:
 
     def __init__(self, path: str, data: bytes):
         self.path = path
-        data = data if len(data) <= LONGEST else b""
+        data = data if len(data) <= MAX_FILE_BYTES else b""
         text = data.decode("utf-8", errors="replace")
         text = text[1:] if text.startswith("\ufeff") else text
         self.text = text.replace("\r\n", "\n")
@@ -124,14 +124,14 @@ def read_bytes(path: str, what: str) -> bytes:
     """Returns the bytes of a file, of a longer one the first 1,048,577; PlanningError if it cannot be read."""
     try:
         with open(path, "rb") as file:
-            return file.read(LONGEST + 1)
+            return file.read(MAX_FILE_BYTES + 1)
     except OSError as fault:
         raise PlanningError(f"cannot read the {what} {path}: {fault.strerror}") from None
 
 
 def size_of(path: str) -> str:
     """Returns how long a file is, in words."""
-    return f"{path} has {os.path.getsize(path):,} bytes, and {LONGEST:,} are allowed."
+    return f"{path} has {os.path.getsize(path):,} bytes, and {MAX_FILE_BYTES:,} are allowed."
 
 
 def read_places(path: str) -> Places:

@@ -6,7 +6,7 @@ from typing import Optional, Tuple
 from . import models, traces
 from .choices import whole_number
 from .errors import PlanningError
-from .series import MOST_BRANCHES, StationReader, read_series
+from .series import MAX_BRANCHES, StationReader, read_series
 from .shares import Shares
 
 DESCRIPTION = f"""Pictures of a trace: a station over time in several branches, or what each branch computed alone.
@@ -15,7 +15,7 @@ TRACE is what `cloner run`, `solo`, `live`, `watch` or `links` wrote, or - for s
 standard output, or with --output a file .svg or .png. Drawing needs matplotlib.
 
 plot TRACE STATION [BRANCH ..]
-  A line for each branch; without BRANCH all branches, at most {MOST_BRANCHES}. It shows how many jobs wait at a server
+  A line for each branch; without BRANCH all branches, at most {MAX_BRANCHES}. It shows how many jobs wait at a server
   (line) or how many of its servers are busy (busy). At a sink, a dot for each job shows its time in the network
   (stay). If branches coincide, the first of them covers the others.
 plot TRACE --alone [BRANCH ..]

@@ -38,7 +38,7 @@ COLUMNS = [("station", "station"), ("figure", "figure"), ("branch", "branch"), (
            ("greatest_more", "greatest"), ("above", "above 0")]
 NAMES = ("station", "figure", "branch")
 CSV_HEAD = ("seed", "branch", "station", "figure", "value")
-MOST_JOBS = 256
+MAX_JOBS = 256
 
 
 def add_arguments(parser: argparse.ArgumentParser) -> None:
@@ -67,8 +67,8 @@ def add_arguments(parser: argparse.ArgumentParser) -> None:
 def number_of_jobs(word: str) -> int:
     """Returns the number of runs at a time that a word of the command line is."""
     number = whole_number(word)
-    if not 1 <= number <= MOST_JOBS:
-        raise argparse.ArgumentTypeError(f"{word!r} is no number from 1 to {MOST_JOBS}")
+    if not 1 <= number <= MAX_JOBS:
+        raise argparse.ArgumentTypeError(f"{word!r} is no number from 1 to {MAX_JOBS}")
     return number
 
 
@@ -206,7 +206,7 @@ def plan_of(options: argparse.Namespace, script: Script, folder: str) -> Plan:
 def replicate(plan: Plan, options: argparse.Namespace) -> Table:
     """Runs all seeds, writes the CSV, and returns the table."""
     table, progress = Table(), Progress(len(options.seeds), sys.stderr)
-    jobs = options.jobs or min(os.cpu_count() or 1, MOST_JOBS)
+    jobs = options.jobs or min(os.cpu_count() or 1, MAX_JOBS)
     try:
         with csv_output(options.csv) as writer:
             for seed, values in run_seeds(plan, options.seeds, jobs):

@@ -5,7 +5,7 @@ from typing import List, Optional, Tuple
 from .errors import PlanningError
 from .models import MAX_WORD
 
-MOST_SEEDS = 100_000
+MAX_SEEDS = 100_000
 
 RANGE = re.compile(r"([0-9]{1,19})(?:\.\.([0-9]{1,19}))?\Z")
 GAP = re.compile(r"(?:[ \t\r\n]|#[^\n]*)*")
@@ -25,8 +25,8 @@ def parse_seeds(text: str) -> List[int]:
         first, last = int(match.group(1)), int(match.group(2) or match.group(1))
         if last < first or last > MAX_WORD:
             raise PlanningError(f"{part} is no range of seeds: a seed is 0 to {MAX_WORD}, and a range goes upwards")
-        if len(seeds) + last - first + 1 > MOST_SEEDS:
-            raise PlanningError(f"{text} has more than {MOST_SEEDS} seeds")
+        if len(seeds) + last - first + 1 > MAX_SEEDS:
+            raise PlanningError(f"{text} has more than {MAX_SEEDS} seeds")
         seeds.extend(range(first, last + 1))
     if len(set(seeds)) < len(seeds):
         raise PlanningError(f"{text} has a seed twice")

@@ -7,7 +7,7 @@ from typing import Dict, Iterable, List, Optional, Sequence, Tuple
 
 from .errors import PlanningError
 
-MOST_BRANCHES = 12
+MAX_BRANCHES = 12
 
 # the last count of a line, and the kind of station that shows it
 KINDS = {"sent": "source", "passed": "delay or router", "lost": "server", "stay": "sink"}
@@ -108,9 +108,9 @@ def read_series(trace: Branches, reader: StationReader, names: Sequence[str]) ->
     for branch, lines in trace:
         if names and branch not in names:
             continue
-        if len(found) == MOST_BRANCHES:
-            raise PlanningError(f"the trace has more than {MOST_BRANCHES} branches: name those to draw, "
-                                f"at most {MOST_BRANCHES}; the first are {', '.join(found)}")
+        if len(found) == MAX_BRANCHES:
+            raise PlanningError(f"the trace has more than {MAX_BRANCHES} branches: name those to draw, "
+                                f"at most {MAX_BRANCHES}; the first are {', '.join(found)}")
         found[branch] = reader.read(branch, lines)
         if len(found) == len(names):
             break

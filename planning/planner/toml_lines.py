@@ -7,7 +7,7 @@ import re
 from typing import Any, Dict, List, NamedTuple, Optional, Tuple
 
 DEEPEST = 80
-GREATEST = 2**63 - 1
+MAX_INTEGER = 2**63 - 1
 Place = Tuple[Any, ...]
 
 BARE = re.compile(r"[A-Za-z0-9_-]+")
@@ -333,8 +333,8 @@ def scalar(text: str, offset: int) -> Any:
         return text == "true"
     if INTEGER.match(text):
         digits = text.replace("_", "")
-        number = int(digits, 0) if len(digits) <= 20 or digits[1] in "xob" else GREATEST + 1
-        if not -GREATEST - 1 <= number <= GREATEST:
+        number = int(digits, 0) if len(digits) <= 20 or digits[1] in "xob" else MAX_INTEGER + 1
+        if not -MAX_INTEGER - 1 <= number <= MAX_INTEGER:
             raise Fault(offset, f"the number `{text[:40]}` is outside the signed 64-bit range")
         return number
     if FLOAT.match(text):
