@@ -8,19 +8,19 @@ import tomllib
 from fuzz_cases import Model, Station
 
 NAME = re.compile(r"[a-z][a-z0-9_]{0,15}\Z")
-MOST = 2**63 - 1
+MAX_INTEGER = 2**63 - 1
 # Line ends or a last comma in an inline table, two more escapes, and times without seconds.
 LATER = re.compile(rb"\{[^{}]*(\n|,\s*\})|\\[ex]|\d\d:\d\d(?!:)")
 KINDS = ("source", "server", "delay", "router", "sink")
 # Of each key: the kinds that have it, whether it is required, its type, and its range or words.
-STATION = {"stream": (KINDS, False, int, (0, MOST)), "every": (("source",), True, list, (1, 1000000)),
+STATION = {"stream": (KINDS, False, int, (0, MAX_INTEGER)), "every": (("source",), True, list, (1, 1000000)),
            "jobs": (("source",), True, int, (0, 1000000)), "class": (("source",), False, int, (1, 4)),
            "servers": (("server",), True, int, (1, 16)), "room": (("server",), True, int, (0, 4096)),
            "service": (("server",), True, list, (1, 1000000)),
            "order": (("server",), False, str, ("arrival", "class")), "hold": (("delay",), True, list, (0, 1000000)),
            "by": (("router",), True, str, ("weights", "turn"))}
 TOP = {"format": (False, (1, 2)), "lookahead": (True, (1, 1000000)), "horizon": (True, (1, 1000000000)),
-       "seed": (False, (0, MOST)), "limit": (False, (1, 65536))}
+       "seed": (False, (0, MAX_INTEGER)), "limit": (False, (1, 65536))}
 
 
 class Unsure(Exception):
@@ -134,7 +134,7 @@ def has_long_number(value):
     """Whether an integer of the text has more than 64 bits."""
     if isinstance(value, (dict, list)):
         return any(map(has_long_number, value.values() if isinstance(value, dict) else value))
-    return isinstance(value, int) and not -2**63 <= value <= MOST
+    return isinstance(value, int) and not -2**63 <= value <= MAX_INTEGER
 
 
 def tested(data):

@@ -18,7 +18,7 @@ from pathlib import Path
 
 HERE = Path(__file__).resolve().parent
 BUILT = HERE.parent / "crates" / "cloner_cli" / "out" / "cloner_cli"
-MOST = 1_048_576
+MAX_BYTES = 1_048_576
 
 GATE = b'[[station]]\nname = "gate"\nkind = "source"\nevery = [3, 3]\njobs = 2\nlink = [{ to = "desk", delay = 2 }]\n'
 DESK = b'[[station]]\nname = "desk"\nkind = "server"\nservers = 1\nroom = 5\nservice = [4, 4]\nlink = [{ to = "out", delay = 2 }]\n'
@@ -37,7 +37,7 @@ trace 0
 """
 SOURCE, SERVER, SINK = SNAPSHOT.splitlines(True)[1:4]
 MESSAGES = SNAPSHOT[SNAPSHOT.index(b"pending"):]
-# The latest time until which the busy desk has a snapshot of at most MOST bytes, as the slow simulator finds it.
+# The latest time until which the busy desk has a snapshot of at most MAX_BYTES bytes, as the slow simulator finds it.
 LAST_SHORT = 4867
 
 # The second file is a script or a snapshot, the third one the watches. An error line that is None may be any of the
@@ -100,22 +100,22 @@ def rows():
     yield "256 forks", ONE_DESK, forks, 6, b"cloner: decision: refusal 5 at line 256\n", None
     analysts = b"".join(b"analyst a%d\n" % a for a in range(1, 18))
     yield "the analyst that is one too many", ONE_DESK, analysts, 5, b"cloner: script: refusal 6 at line 16\n", None
-    yield "a script that is too long", ONE_DESK, b"#" * (MOST + 1), 5, b"cloner: script: refusal 1 at line 0\n", None
-    yield "a script of one long comment", ONE_DESK, b"#" * MOST, 0, b"", ONE_DESK_REPORT
-    yield "a script of empty lines", ONE_DESK, b"\n" * MOST, 0, b"", ONE_DESK_REPORT
+    yield "a script that is too long", ONE_DESK, b"#" * (MAX_BYTES + 1), 5, b"cloner: script: refusal 1 at line 0\n", None
+    yield "a script of one long comment", ONE_DESK, b"#" * MAX_BYTES, 0, b"", ONE_DESK_REPORT
+    yield "a script of empty lines", ONE_DESK, b"\n" * MAX_BYTES, 0, b"", ONE_DESK_REPORT
     yield "byte 200 in a comment", ONE_DESK, b"\n# \xc8\n", 5, b"cloner: script: refusal 2 at line 2\n", None
-    yield "a word of a megabyte", ONE_DESK, b"set " + b"a" * (MOST - 4), 5, b"cloner: script: refusal 3 at line 1\n", None
+    yield "a word of a megabyte", ONE_DESK, b"set " + b"a" * (MAX_BYTES - 4), 5, b"cloner: script: refusal 3 at line 1\n", None
     no_toml = b"cloner: model: refusal 2 at station 0\n"
-    yield "a model that is too long", b" " * (MOST + 1), b"", 4, b"cloner: model: refusal 1 at station 0\n", None
-    yield "a megabyte of [", b"x = " + b"[" * (MOST - 4), b"", 4, no_toml, None
-    yield "a megabyte of {", b"x = " + b"{a=" * ((MOST - 4) // 3), b"", 4, no_toml, None
-    yield "a megabyte of quotes", b'x = "' + b"'" * (MOST - 5), b"", 4, no_toml, None
-    yield "a megabyte of zero bytes", b"\0" * MOST, b"", 4, no_toml, None
+    yield "a model that is too long", b" " * (MAX_BYTES + 1), b"", 4, b"cloner: model: refusal 1 at station 0\n", None
+    yield "a megabyte of [", b"x = " + b"[" * (MAX_BYTES - 4), b"", 4, no_toml, None
+    yield "a megabyte of {", b"x = " + b"{a=" * ((MAX_BYTES - 4) // 3), b"", 4, no_toml, None
+    yield "a megabyte of quotes", b'x = "' + b"'" * (MAX_BYTES - 5), b"", 4, no_toml, None
+    yield "a megabyte of zero bytes", b"\0" * MAX_BYTES, b"", 4, no_toml, None
     keys = b"".join(b"k%06d=1\n" % k for k in range(100_000))
     yield "100,000 keys", keys + HEAD, b"", 4, b"cloner: model: refusal 5 at station 0 key k000000\n", None
-    yield ("one key of a megabyte", b"a" * (MOST - 2) + b"=1", b"", 4,
+    yield ("one key of a megabyte", b"a" * (MAX_BYTES - 2) + b"=1", b"", 4,
            b"cloner: model: refusal 5 at station 0 key " + b"a" * 32 + b"\n", None)
-    yield "a dotted key of half a million parts", b"a" + b".a" * ((MOST - 4) // 2) + b"=1", b"", 4, None, None
+    yield "a dotted key of half a million parts", b"a" + b".a" * ((MAX_BYTES - 4) // 2) + b"=1", b"", 4, None, None
     yield "87,000 tables", b"[[station]]\n" * 87_000 + HEAD, b"", 4, None, None
     yield from watch_rows()
     yield from save_rows()
@@ -130,9 +130,9 @@ def watch_rows():
     at_once = in_vain.replace(b"4294967295", b"0")
     chain = b"".join(b"watch %s desk wait 0 fork w%d set desk room 5\n" % (b"w%d" % (k - 1) if k else b"base", k)
                      for k in range(255))
-    for name, watches, line in [("that is too long", b"#" * (MOST + 1), b"watches: refusal 1 at line 0"),
+    for name, watches, line in [("that is too long", b"#" * (MAX_BYTES + 1), b"watches: refusal 1 at line 0"),
                                 ("with one too many", in_vain, b"watches: refusal 5 at line 256"),
-                                ("with a word of a megabyte", b"watch " + b"a" * (MOST - 6), b"watches: refusal 3 at line 1"),
+                                ("with a word of a megabyte", b"watch " + b"a" * (MAX_BYTES - 6), b"watches: refusal 3 at line 1"),
                                 ("with a clone too many", at_once.partition(b"\n")[2], b"watch: refusal 5 at line 255")]:
         yield f"a file of watches {name}", ONE_DESK, b"fork fast from base\n", 9, b"cloner: %s\n" % line, None, "watch", watches
     for name, model, watches, handled, alone in [
@@ -166,27 +166,27 @@ def refused_snapshots():
     """The rows for snapshots that are refused: counts that are lies, long lines, numbers of many digits."""
     half = SNAPSHOT.replace(b"trace 0\n", b"")
     ends = [b"11 2 1 2 done 1.0.3\n", b"13 2 2 2 done 1.1.6\n"]
-    jobs, unfit = (MOST - len(SNAPSHOT)) // 6 - 2, SNAPSHOT.replace(b"handled 3", b"handled 16385")
+    jobs, unfit = (MAX_BYTES - len(SNAPSHOT)) // 6 - 2, SNAPSHOT.replace(b"handled 3", b"handled 16385")
     for name, text, refusal in [
             ("that is empty", b"", b"2 at 1"),
-            ("that is too long", b"y" * (MOST + 1), b"1 at 0"),
-            ("of a megabyte of line ends", b"\n" * MOST, b"2 at 1"),
-            ("of a megabyte of zero bytes", b"\0" * MOST, b"2 at 1"),
-            ("of a megabyte of spaces", b"snapshot" + b" " * (MOST - 8), b"2 at 1"),
-            ("with a name of a megabyte", b"snapshot " + b"a" * (MOST - 9), b"2 at 1"),
+            ("that is too long", b"y" * (MAX_BYTES + 1), b"1 at 0"),
+            ("of a megabyte of line ends", b"\n" * MAX_BYTES, b"2 at 1"),
+            ("of a megabyte of zero bytes", b"\0" * MAX_BYTES, b"2 at 1"),
+            ("of a megabyte of spaces", b"snapshot" + b" " * (MAX_BYTES - 8), b"2 at 1"),
+            ("with a name of a megabyte", b"snapshot " + b"a" * (MAX_BYTES - 9), b"2 at 1"),
             ("with more messages than there are", SNAPSHOT.replace(b"pending 2", b"pending 4294967295"), b"2 at 8"),
             ("with many messages and none of them", SNAPSHOT[:SNAPSHOT.index(b"pending")] + b"pending 4294967295\n",
              b"2 at 6"),
             ("with more lines than there are", SNAPSHOT.replace(b"trace 0", b"trace 4294967295"), b"2 at 9"),
             ("with more lines than a number says", SNAPSHOT.replace(b"trace 0", b"trace 4294967296"), b"2 at 8"),
             ("with 10,000,000,000 messages", SNAPSHOT.replace(b"pending 2", b"pending 10000000000"), b"2 at 5"),
-            ("with a number of a megabyte", SNAPSHOT.replace(b"next 3", b"next " + b"9" * (MOST - len(SNAPSHOT))),
+            ("with a number of a megabyte", SNAPSHOT.replace(b"next 3", b"next " + b"9" * (MAX_BYTES - len(SNAPSHOT))),
              b"2 at 3"),
-            ("with zeros before a number", SNAPSHOT.replace(b"next 3", b"next " + b"0" * (MOST - len(SNAPSHOT))),
+            ("with zeros before a number", SNAPSHOT.replace(b"next 3", b"next " + b"0" * (MAX_BYTES - len(SNAPSHOT))),
              b"2 at 3"),
             ("with a sum of 65 bits", SNAPSHOT.replace(b"sink 0 0", b"sink 0 18446744073709551616"), b"2 at 4"),
             ("with a sum of 64 bits", SNAPSHOT.replace(b"sink 0 0", b"sink 0 18446744073709551615"), b"3 at 3"),
-            ("with a line of a megabyte", half + b"trace 1\n" + b"y" * (MOST - len(half) - 9) + b"\n", b"2 at 9"),
+            ("with a line of a megabyte", half + b"trace 1\n" + b"y" * (MAX_BYTES - len(half) - 9) + b"\n", b"2 at 9"),
             ("with a job too many in line", SNAPSHOT.replace(b"line 0", b"line 4294967295 1.0.0"), b"2 at 3"),
             ("with 170,000 jobs in line", SNAPSHOT.replace(b"line 0", b"line %d" % jobs + b" 1.0.0" * jobs), b"3 at 2"),
             ("with 4,097 jobs in line", SNAPSHOT.replace(b"line 0", b"line 4097" + b" 1.0.0" * 4097), b"3 at 2"),
@@ -201,7 +201,7 @@ def refused_snapshots():
 
 
 def accepted_snapshots():
-    """The rows for snapshots that no run comes to and that are resumed as they stand."""
+    """The rows for snapshots that no run reaches and that are resumed as they are."""
     far = b"".join(b"%d 1 0 3 tick\n" % time for time in range(20, 50_020))
     ticks = [b"%d 1 %d 1 tick\n" % (time, time - 11) for time in (11, 12, 13)]
     strange = [b"11 1 0 3 tick\n", b"12 1 1 1 job 1.0.0\n", b"13 2 0 3 done 1.0.0\n",
@@ -253,7 +253,7 @@ def long_snapshots():
     yield ("a snapshot with 50,000 messages to handle", wide, many, 0, b"", b"\n50029 out gate 0 tick got=0 stay=0\n",
            "resume")
     head = SNAPSHOT.replace(b"trace 0\n", b"trace 5216\n")
-    lines, last = divmod(MOST - len(head), 201)
+    lines, last = divmod(MAX_BYTES - len(head), 201)
     text = head + (b"~" * 200 + b"\n") * lines + b"~" * (last - 1) + b"\n"
     yield ("a snapshot as long as it may be", ONE_DESK, text, 0, b"",
            b"15 out desk 3 job gate.1 got=2 stay=17\n", "resume")

@@ -30,7 +30,7 @@ class Job(NamedTuple):
 
 
 class Message(NamedTuple):
-    """A message that is to come; the job is None if it brings none."""
+    """A pending message; the job is None if it brings none."""
 
     time: int
     sender: int
@@ -296,7 +296,7 @@ class Snapshots:
         found = [f"`{who}` at {front}, {'without an end' if end is None else f'with its end at {end}'}, "
                  f"after {lines:,} lines of its trace:"]
         found += [f"  {self.state_of(number)}" for number in range(1, len(self.stations) + 1)]
-        return found + self.to_come()
+        return found + self.pending_messages()
 
     def state_of(self, station: int) -> str:
         """Returns what a station does at the front."""
@@ -314,12 +314,12 @@ class Snapshots:
         mean = f", after {v['STAY'] / v['GOT']:.2f} on average" if v["GOT"] else ""
         return f"{name} has got {v['GOT']:,} jobs{mean}."
 
-    def to_come(self) -> List[str]:
-        """Returns how many messages are to come, and the sets among them."""
+    def pending_messages(self) -> List[str]:
+        """Returns how many messages are pending, and the sets among them."""
         lines = range(self.pending_line + 1, self.trace_line() or 0)
         sets = [words for words in map(self.texts, lines) if words[4] == "set"]
-        found = [f"  {len(lines):,} messages are to come, {len(sets)} of them sets:" if sets else
-                 f"  {len(lines):,} messages are to come, no sets among them."]
+        found = [f"  {len(lines):,} messages are pending, {len(sets)} of them sets:" if sets else
+                 f"  {len(lines):,} messages are pending, no sets among them."]
         for words in sets:
             receiver = int(words[3])
             known = 1 <= receiver <= len(self.stations)

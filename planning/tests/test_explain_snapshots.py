@@ -228,15 +228,15 @@ class Contents(Folder):
             "  `check` has passed on 0 jobs, by weights 9 1.",
             "  `wait` has passed on 0 jobs, holding each for 0 to 9.",
             "  `out` has got 0 jobs.",
-            "  4 messages are to come, 1 of them sets:",
+            "  4 messages are pending, 1 of them sets:",
             "    at 80: desk servers 3"])
 
-    def test_nothing_to_come(self):
+    def test_nothing_pending(self):
         self.write(SNAPSHOT=spoiled(SNAPSHOT.replace("end 90", "end -"), SNAPSHOT[SNAPSHOT.index("pending"):],
                                     "pending 0\ntrace 0\n"))
         lines = self.described()
         self.assertEqual(lines[0], "`night` at 14, without an end, after 0 lines of its trace:")
-        self.assertEqual(lines[-1], "  0 messages are to come, no sets among them.")
+        self.assertEqual(lines[-1], "  0 messages are pending, no sets among them.")
 
     def test_a_wrong_line(self):
         self.write(SNAPSHOT=spoiled(SNAPSHOT, "pending 4", "pending 5"))
