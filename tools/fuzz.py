@@ -1,19 +1,22 @@
 #!/usr/bin/env python3
-"""Makes models and scripts, valid and mutated, and compares what `cloner` says of them in several ways.
+"""Makes models and scripts, valid and mutated, and compares what `cloner` writes of them in several ways.
 
     tools/fuzz.py [--bin FILE] [--cases N] [--seed N] [--first N] [--keep DIR] [--plain FILE] [--stop N]
 
-Of each case: `run` against `solo` of each clone; 1 against 4 and 16 workers, where the program knows
-`--workers`; the report against counts out of the traces; `live` against its journal under `run`, what its
-analysts asked, and its looks against the traces; `stats`, where the program knows it, against figures
-out of the traces; `watch`, where the program knows it, with watches made for the case, against `run` of
-the script that the due times give; `links`, where the program knows it, against `run` and rounds worked
-out from the model; `save` and `resume`, where the program knows them, against a slow simulator and `solo`,
-and damaged snapshots against the refusals that they must get; the traces' order; the form of error lines,
-and no output beside one; the refusal of the model, the script or a decision, or the clones, against the
-formats written once more. With --plain also the traces of the plain simulator of bench/. A case that
-fails is kept in a folder, with its model, its script, its watches, its snapshot and what was found.
-Status 1 where one failed.
+For each case it compares
+
+- `run` with `solo` of each clone, and 1 worker with 4 and 16;
+- the report with counts from the traces, and the order of the traces' lines;
+- `live` with its journal under `run`, with what its analysts asked, and its looks with the traces;
+- `stats` with figures from the traces;
+- `watch`, with watches made for the case, with `run` of the script that the due times give;
+- `links` with `run`, and with rounds worked out from the model;
+- `save` and `resume` with a slow simulator and `solo`, and damaged snapshots with the refusals that they must get;
+- each refusal with the formats written once more, the form of its line, and that there is no output;
+- with --plain, the traces with those of the plain simulator of bench/.
+
+Modes and options that the program does not know are left out. A case that fails is kept in a folder, with its model,
+its script, its watches, its snapshot and what was found. The status is then 1.
 """
 import argparse
 import collections
@@ -220,7 +223,7 @@ def log_entries(trace, stations):
 
 
 def counted_report(traces, stations):
-    """The report's lines, counted out of the traces: different logs, different beginnings, all entries."""
+    """The report's lines, counted from the traces: different logs, different beginnings, all entries."""
     nodes = {name: {} for name in stations}
     ends = {name: set() for name in stations}
     alone = dict.fromkeys(stations, 0)
@@ -292,7 +295,7 @@ def check_plain(runner, case, ended):
 
 
 def check_lives(runner, case, ended):
-    """`live` of the present case: refused texts as by `run`, and else right by itself."""
+    """`live` of the present case: refused texts as by `run`, and otherwise right on its own."""
     for more in runner.options():
         live = runner.live(*more)
         if ended.status in (4, 5):

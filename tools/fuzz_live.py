@@ -1,6 +1,6 @@
 """What `cloner live` says of a case, against its script, its journal under `run`, and its traces.
 
-When a decision comes depends on the schedule, so two runs may differ; each must be right by itself.
+When a decision comes depends on the schedule, so two runs may differ; each must be right on its own.
 """
 import re
 

@@ -3,11 +3,10 @@
 
     tools/hostile.py [--bin FILE] [--seconds N] [ROW ..]
 
-Each row is a model, a script or a snapshot, for `watch` also a file of watches, and what has to come: status, error
-line, and for a finished run how the output ends. A row fails where something else comes, where anything is on the
-output after a refusal, or where it takes longer than N seconds of processor time (by default 1; the last row, a full
-study of the greatest size, has no bound). It prints a line for each row with its time and peak memory, and ends with
-status 1 where one failed.
+Each row has a model, a script or a snapshot, and for `watch` a file of watches. It states the status, the error line,
+and how the output of a finished run ends. A row fails if it ends otherwise, if anything is on the output after a
+refusal, or if it takes longer than N seconds of processor time. N is 1 by default; the last row, the largest study, has
+no bound. A line for each row has its time and peak memory. The status is 1 if a row failed.
 """
 import argparse
 import os
@@ -53,7 +52,7 @@ def spin(horizon):
 
 
 def web(stations, links):
-    """A source, and routers by weights with so many links each, of which one in many leads out."""
+    """A source, and routers by weights with this number of links each, of which one in many leads out."""
     text = [b"lookahead = 1\nhorizon = 8000\nlimit = 65536\n"
             b'[[station]]\nname = "gate"\nkind = "source"\nevery = [1, 3]\njobs = 2000\nlink = [{ to = "s2", delay = 1 }]\n']
     for s in range(2, stations):
@@ -71,7 +70,7 @@ def busy_desk():
 
 
 def crowd(clones, sets, station):
-    """So many clones, all but `base` with so many sets each, which come late."""
+    """This number of clones, all but `base` with this number of sets each, which come late."""
     text = []
     for c in range(1, clones):
         text.append(b"fork c%d from base\n" % c)
@@ -282,7 +281,7 @@ def words_of(row, folder):
 
 
 def tried(row, program, folder, most):
-    """Whether a row ends as it must within so many seconds; prints how it ended."""
+    """Whether a row ends as it must, within `most` seconds; prints how it ended."""
     code, out, err, seconds, memory = run([program, *words_of(row, folder)])
     well = code == row.status and (row.line is None or err == row.line) and (row.end is None or out.endswith(row.end))
     well = well and (row.status == 0 or (not out and err.count(b"\n") == 1))
