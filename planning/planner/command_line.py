@@ -85,7 +85,7 @@ def dispatch(words: List[str]) -> int:
     return run_command(words[0], words[1:])
 
 
-def complain(message: str) -> int:
+def report_error(message: str) -> int:
     """Writes one error line and returns the status of bad input."""
     line = " ".join(message.split())
     try:
@@ -124,12 +124,12 @@ def main(words: List[str]) -> int:
         sys.stdout.flush()
         return status
     except PlanningError as fault:
-        return complain(str(fault))
+        return report_error(str(fault))
     except BrokenPipeError:
         drop(sys.stdout)
         return 0
     except OSError as fault:
         drop(sys.stdout)
-        return complain(": ".join(str(part) for part in (fault.filename, fault.strerror or fault) if part))
+        return report_error(": ".join(str(part) for part in (fault.filename, fault.strerror or fault) if part))
     except KeyboardInterrupt:
         return INTERRUPTED
