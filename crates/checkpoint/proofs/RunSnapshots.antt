@@ -365,3 +365,9 @@ module _ (net : Net) (valid : IsNet net) where
 
   pub resumed_run_is_unbroken : ResumedRunIsUnbroken net
   resumed_run_is_unbroken c front at = unbroken net valid c front at
+
+  -- the states that the snapshot restores are those of the run
+  pub restored_states : (c : Clone) (front : ℕ) → HasSnapshot net c front →
+      restored_from net 1 (snapshot_of net c front).saved
+      ≡ states_from (run (simulation net) c.plans front).at.states 1 (length net.sites)
+  restored_states c front at = same_states net valid c front at
