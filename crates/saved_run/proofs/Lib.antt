@@ -1,0 +1,4 @@
+pub mod Sayable
+pub mod Runs
+pub mod Pasts
+pub mod Resumed

@@ -1,0 +1,4 @@
+pub mod Sayable
+pub mod Writing
+pub mod Saving
+pub mod Laws

@@ -1,0 +1,16 @@
+//! The laws of saved runs: each function's contract is a law, and there is nothing to run.
+ghost use Rattle.net_model.specs.Net.{Net};
+ghost use Rattle.net_model.specs.Rules.{IsNet};
+ghost use Rattle.saved_run.specs.Laws.{SavedRunsAreResumed};
+ghost use Rattle.saved_run.specs.Sayable.{ScriptsAreSayable};
+
+/// Words can say all clones of a script.
+#[tactic(auto, using(crate::proofs::Sayable::scripts_are_sayable))]
+pub fn scripts_are_sayable()
+    ensures { ScriptsAreSayable }
+{}
+
+/// The text of a clone that was stopped is read back, and the run from it is the unbroken run.
+pub fn saved_runs_are_resumed()
+    ensures { (net : Net) → IsNet net → SavedRunsAreResumed net }
+{}
