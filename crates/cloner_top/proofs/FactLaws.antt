@@ -8,33 +8,36 @@ use Rattle.net_model.specs.Text.{model}
 use Rattle.decision_script.specs.Reading.{script}
 use Rattle.decision_script.specs.Stating.{ScriptView}
 use Rattle.command_words.specs.declared.request.Mode.{Mode}
-use Rattle.command_words.specs.declared.request.Mode.TheVariants.{Links, Solo}
+use Rattle.command_words.specs.declared.request.Mode.TheVariants.{Links, Save, Solo}
 use Rattle.watch_points.specs.declared.watch.Watch as watch
 use Rattle.watch_points.specs.Checking.{fit}
 use Rattle.watch_points.specs.Reading.{watches}
 use Rattle.watch_points.specs.Triggers.{clones_with_branches}
-use Rattle.command_words.specs.Requests.{AssignmentView, Live, Study, Watch}
+use Rattle.checkpoint.specs.Snapshots.{SnapshotView}
+use Rattle.snapshot_text.specs.Reading.{snapshot}
+use Rattle.study_run.specs.Limits.{until}
+use Rattle.command_words.specs.Requests.{AssignmentView, Live, Resume, Study, Watch}
 use Rattle.cloner_top.specs.declared.excess.Excess.{Excess}
-use Rattle.cloner_top.specs.declared.excess.Excess.TheVariants.{LimitMet}
+use Rattle.cloner_top.specs.declared.excess.Excess.TheVariants.{LimitMet, LongSnapshot}
 use Rattle.cloner_top.specs.declared.refusal.Refusal.{Refusal}
 use Rattle.cloner_top.specs.declared.refusal.Refusal.TheVariants.{OutOfMemory, Usage, NotRead}
 use Rattle.cloner_top.specs.declared.refusal.Refusal.TheVariants.{Stopped, Exceeded, CannotWrite}
 use Rattle.cloner_top.specs.declared.refusal.Text.{Text}
-use Rattle.cloner_top.specs.declared.refusal.Text.TheVariants.{Model, Script, Watches}
+use Rattle.cloner_top.specs.declared.refusal.Text.TheVariants.{Model, Script, Snapshot, Watches}
 use Rattle.cloner_top.specs.declared.stop.Stop.{Stop}
 use Rattle.cloner_top.specs.declared.stop.Stop.TheVariants.{BadModel, BadScript, BadDecision, BadWatch, BadWatches}
-use Rattle.cloner_top.specs.declared.stop.Stop.TheVariants.{NoClone}
+use Rattle.cloner_top.specs.declared.stop.Stop.TheVariants.{BadSnapshot, NoClone}
 use Rattle.cloner_top.specs.Answers.{InputsFailed, IsAnswer, IsLawfulEnding, Outside, cut, exceeded, memory}
 use Rattle.cloner_top.specs.Answers.{stopped, success, unread, usage}
 use Rattle.cloner_top.specs.Deciding.{clones_of}
 use Rattle.cloner_top.specs.Endings.{Ending, IsExcessOf, MayDecide, MayEnd, MayEndByTexts, MayFollow, MayLive, MayRun}
 use Rattle.cloner_top.specs.Endings.{IsOver, MayRunAlone, MayRunLinked, MaySimulate, MayStudy, MayWatch, early_stop}
-use Rattle.cloner_top.specs.Endings.{mode_meets}
-use Rattle.cloner_top.specs.Endings.{mode_texts, overrun, run_texts, solo_text, whole, whole_output}
+use Rattle.cloner_top.specs.Endings.{MayGoOn, MayResume, mode_meets}
+use Rattle.cloner_top.specs.Endings.{mode_texts, overrun, run_texts, saved_or_too_long, solo_text, whole, whole_output}
 use Rattle.cloner_top.specs.Endings as ends
 use Rattle.cloner_top.specs.Facts.{ArePreceded, Completes, IsCutFor, IsLive, IsStoppedFor, IsStudy, IsToldFor}
 use Rattle.cloner_top.specs.Facts.{IsUnreadFor, IsWritten, Writes, WritesAll, WritesIn, WritesLive, WritesOne}
-use Rattle.cloner_top.specs.Facts.{WritesLinked, WritesWatched}
+use Rattle.cloner_top.specs.Facts.{WritesLinked, WritesResumed, WritesWatched}
 use Rattle.cloner_top.specs.Facts.{at_limit, at_once}
 use Rattle.cloner_top.specs.Outsides.{ArePut, ArePutOrCut}
 use Rattle.cloner_top.specs.Refusals.{error_line, status_of}
@@ -51,6 +54,7 @@ stop_status-low (BadDecision reply line) = omega arith
 stop_status-low (NoClone name) = omega arith
 stop_status-low (BadWatches fault) = omega arith
 stop_status-low (BadWatch reply line) = omega arith
+stop_status-low (BadSnapshot fault) = omega arith
 
 -- it is not 8
 stop_status-other : (s : Stop) → stop_status s ≢ 8
@@ -60,18 +64,22 @@ stop_status-other (BadDecision reply line) = λ e. omega (arith, e)
 stop_status-other (NoClone name) = λ e. omega (arith, e)
 stop_status-other (BadWatches fault) = λ e. omega (arith, e)
 stop_status-other (BadWatch reply line) = λ e. omega (arith, e)
+stop_status-other (BadSnapshot fault) = λ e. omega (arith, e)
 
--- the status of an excess is 7
-excess_status-is : (e : Excess) → excess_status e ≡ 7
-excess_status-is (LimitMet limit station clone) = refl
+-- the status of an excess is 7 or 11
+excess_status-is : (e : Excess) → (excess_status e ≡ 7) ⊎ (excess_status e ≡ 11)
+excess_status-is (LimitMet limit station clone) = inl refl
+excess_status-is LongSnapshot = inr refl
 
 -- it is at least 7
 excess_status-low : (e : Excess) → 7 ≤ excess_status e
 excess_status-low (LimitMet limit station clone) = omega arith
+excess_status-low LongSnapshot = omega arith
 
 -- it is not 8
 excess_status-other : (e : Excess) → excess_status e ≢ 8
 excess_status-other (LimitMet limit station clone) = λ h. omega (arith, h)
+excess_status-other LongSnapshot = λ h. omega (arith, h)
 
 -- ---- what is put before the error line
 
@@ -96,6 +104,8 @@ alone_told net clones name part written told e most (ends.limit_met k station is
 simulation_told : (mode : Mode) (net : Net) (clones : List Clone) (told : List (List ℕ)) (e : Excess) (most : ℕ)
     → MaySimulate mode net clones (overrun told e most) → told ≡ []
 simulation_told (Solo name) net clones told e most h = alone_told net clones name whole (solo_text net) told e most h
+simulation_told (Save name time) net clones told e most h =
+    alone_told net clones name (until net time) (saved_or_too_long net time) told e most h
 simulation_told Links net clones told e most h = linked_told net clones told e most h
 simulation_told mode net clones told e most h =
     run_told net clones (mode_meets mode net clones) (mode_texts mode net clones) told e most h
@@ -106,6 +116,14 @@ watch_told : (text : List ℕ) (net : Net) (clones : List Clone) (told : List (L
 watch_told text net clones told e most (ends.watched ws end is fits may) =
     run_told net (clones_with_branches net clones ws) (IsOver net (clones_with_branches net clones ws))
     (run_texts net (clones_with_branches net clones ws)) told e most may
+
+-- nothing in a run from a snapshot
+resume_told : (text : List ℕ) (net : Net) (told : List (List ℕ)) (e : Excess) (most : ℕ)
+    → MayResume text net (overrun told e most) → told ≡ []
+resume_told text net told e most (ends.going_on x end is may) = onward_told told e most may
+  where
+    onward_told : (told : List (List ℕ)) (e : Excess) (most : ℕ) → MayGoOn net x (overrun told e most) → told ≡ []
+    onward_told told e most (ends.limit_met_onward station met) = refl
 
 -- nothing if all decisions are made first
 decide_told : (simulates : List Clone → Ending → Type 0) (net : Net) (s : ScriptView) (told : List (List ℕ))
@@ -140,6 +158,7 @@ follow_told (Watch m s w) t net told e most h =
     study_told (MayDecide (MayWatch (t Watches) net) net) _ (t Script) told e most
     (λ stated may. inl (decide_told (MayWatch (t Watches) net) net stated told e most
     (λ cs. watch_told (t Watches) net cs told e most) may)) h
+follow_told (Resume m x) t net told e most h = inl (resume_told (t Snapshot) net told e most h)
 
 -- in an assignment
 come_told : (a : AssignmentView) (t : Text → List ℕ) (told : List (List ℕ)) (e : Excess) (most : ℕ)
@@ -230,16 +249,19 @@ module _ (words : Option AssignmentView) (before after : Outside) where
   output_same _ (exceeded a told e is why refused) not_0 not_8 = refused.output
   output_same _ (cut a is off told) not_0 not_8 = absurd (not_8 refl)
 
-  -- if the status is 2 to 6 or 9, no message was handled
-  pub idle : (status : ℕ) → IsAnswer words before after status → 2 ≤ status → status ≢ 7 → status ≢ 8
+  -- if the status is 2 to 6, 9 or 10, no message was handled
+  pub idle : (status : ℕ) → IsAnswer words before after status → 2 ≤ status → status ≢ 7 → status ≢ 8 → status ≢ 11
       → after.steps ≡ before.steps
-  idle _ (success a is finished fetches quiet) l not_7 not_8 = absurd (omega (arith, l))
-  idle _ (memory refused) l not_7 not_8 = absurd (omega (arith, l))
-  idle _ (usage none refused inputs steps) l not_7 not_8 = steps
-  idle _ (unread a text is due not refused steps) l not_7 not_8 = steps
-  idle _ (stopped a s is may refused steps) l not_7 not_8 = steps
-  idle _ (exceeded a told e is why refused) l not_7 not_8 = absurd (not_7 (excess_status-is e))
-  idle _ (cut a is off told) l not_7 not_8 = absurd (not_8 refl)
+  idle _ (success a is finished fetches quiet) l not_7 not_8 not_11 = absurd (omega (arith, l))
+  idle _ (memory refused) l not_7 not_8 not_11 = absurd (omega (arith, l))
+  idle _ (usage none refused inputs steps) l not_7 not_8 not_11 = steps
+  idle _ (unread a text is due not refused steps) l not_7 not_8 not_11 = steps
+  idle _ (stopped a s is may refused steps) l not_7 not_8 not_11 = steps
+  idle _ (exceeded a told e is why refused) l not_7 not_8 not_11 = elim (excess_status-is e) [
+    | inl seven ↦ absurd (not_7 seven)
+    | inr eleven ↦ absurd (not_11 eleven)
+  ]
+  idle _ (cut a is off told) l not_7 not_8 not_11 = absurd (not_8 refl)
 
   -- a line alone, from its cause
   one_line : (r : Refusal) → ArePutOrCut (error_line r ∷ []) before.errors after.errors
@@ -320,6 +342,8 @@ module _ (before after : Outside) where
       → MaySimulate mode net (clones_of net s) (whole_output put work) → WritesIn mode before after a
   writes_by (Solo name) a net s put work study p may =
       writes_one a net s name (λ n. whole) solo_text put work study p may
+  writes_by (Save name time) a net s put work study p may =
+      writes_one a net s name (λ n. until n time) (λ n. saved_or_too_long n time) put work study p may
   writes_by Links a net s put work study p may = writes_linked a net s put work study p may
   writes_by mode a net s put work study p may =
       writes_all a net s (mode_meets mode net (clones_of net s)) (mode_texts mode) put work study p may
@@ -376,6 +400,25 @@ module _ (before after : Outside) where
           steps = p.steps;
         }
 
+    -- a run from a snapshot writes the trace of its clone
+    writes_resumed : (put : List (List ℕ)) (work : ℕ) → ArePutFor before after put work
+        → MayResume (t Snapshot) net (whole_output put work) → WritesResumed before after a
+    writes_resumed put work p (ends.going_on x _ is may) = by_run put work p may
+      where
+        by_run : (put : List (List ℕ)) (work : ℕ) → ArePutFor before after put work
+            → MayGoOn net x (whole_output put work) → WritesResumed before after a
+        by_run put work p (ends.resumed stays) = record {
+          t = t;
+          texts = texts;
+          net = net;
+          is_model = is_model;
+          x = x;
+          is_snapshot = is;
+          stays = stays;
+          put = p.are;
+          steps = p.steps;
+        }
+
     -- a study whose decisions are all made first writes what its clones' simulation writes
     writes_decided : (mode : Mode) (s : ScriptView) (put : List (List ℕ)) (work : ℕ) → script (t Script) ≡ Ok s
         → ArePutFor before after put work → MayDecide (MaySimulate mode net) net s (whole_output put work)
@@ -398,6 +441,8 @@ module _ (before after : Outside) where
   writes_follow (Watch m s w) t net put work texts is_model p may =
       writes_study (MayDecide (MayWatch (t Watches) net) net) _ (t Script) put work
       (λ stated is h. writes_watched (Watch m s w) t net texts is_model stated put work is p h) may
+  writes_follow (Resume m x) t net put work texts is_model p may =
+      writes_resumed (Resume m x) t net texts is_model put work p may
 
   -- an assignment
   writes_come : (a : AssignmentView) (t : Text → List ℕ) (put : List (List ℕ)) (work : ℕ)

@@ -7,7 +7,10 @@ pub mod Preparing
 pub mod RunPuts
 pub mod WatchedRuns
 pub mod LinkedRuns
+pub mod SavedRuns
+pub mod ResumedRuns
 pub mod OwnScriptLaws
 pub mod LiveRuns
 pub mod JournalLaws
 pub mod PrefixLaws
+pub mod GoingOnLaws

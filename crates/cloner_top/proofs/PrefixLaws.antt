@@ -1,5 +1,5 @@
 -- The part of a file that a fetch returns is read as the whole file is: it is the whole file, or too long as well.
-use Rattle.std.proofs.Common.{◌≡◌, ℕ, ◌+◌, Bool, true, false, nat_lt, if◌then◌else◌, cond, List, [], length, take}
+use Rattle.std.proofs.Common.{◌≡◌, ℕ, ◌+◌, Bool, true, false, nat_lt, if◌then◌else◌, cond, List, [], length, take, None}
 use Rattle.std.proofs.Common.{refl, ap, sym, ◌∙◌, arith, Ok, Err}
 use Rattle.std.proofs.lemmas.Bool.Decides.{nat_tests}
 use Rattle.std.proofs.lemmas.List.{length-take, take_all}
@@ -13,6 +13,9 @@ use Rattle.decision_script.specs.Reading.{after_lines, new_reader, script_of}
 use Rattle.decision_script.specs.declared.fault.ScriptFault.TheVariants as bad_script
 use Rattle.watch_points.specs.Reading as watch_text
 use Rattle.watch_points.specs.declared.fault.WatchFault.TheVariants as bad_watches
+use Rattle.exact_words.specs.Texts.{read_text}
+use Rattle.snapshot_text.specs.Reading.{ends, of_lines, step}
+use Rattle.snapshot_text.specs.declared.fault.SnapshotFault.TheVariants as bad_snapshot
 use Rattle.cloner_top.specs.Prefixes.{PrefixesStateTheSame}
 
 -- ---- readings that refuse what is too long
@@ -37,7 +40,7 @@ module _ {A : Type 0} (most : ℕ) (refusal : A) (reading : List ℕ → A) wher
   pub within-take : (text : List ℕ) → within (take (most + 1) text) ≡ within text
   within-take text = within-cut text (nat_lt most (length text)) refl
 
--- ---- a model and a script
+-- ---- the texts of an assignment
 
 -- the bytes that a fetch returns of a file are read as the whole file is
 pub prefixes_state_the_same : PrefixesStateTheSame
@@ -48,4 +51,6 @@ prefixes_state_the_same file = record {
       (λ t. after_lines 1 new_reader (lines t) >>= λ r. Ok (script_of r)) file;
   watches_are = within-take MAX_FILE_BYTES (Err bad_watches.TooLong)
       (λ t. watch_text.after_lines 1 [] (lines t)) file;
+  snapshot_is = λ net. within-take MAX_FILE_BYTES (Err bad_snapshot.TooLong)
+      (λ t. of_lines net (read_text (step net) ends None t)) file;
 }

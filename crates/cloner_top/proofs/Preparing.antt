@@ -8,7 +8,7 @@ use Rattle.net_model.specs.Net.{Net}
 use Rattle.net_model.specs.Text.{model}
 use Rattle.net_model.specs.declared.fault.ModelFault.{ModelFault}
 use Rattle.decision_script.specs.Reading.{script}
-use Rattle.decision_script.specs.Stating.{ScriptView}
+use Rattle.decision_script.specs.Stating.{IsScript, ScriptView}
 use Rattle.decision_script.specs.declared.fault.ScriptFault.{ScriptFault}
 use Rattle.decision_book.specs.Books.{BookView}
 use Rattle.decision_book.specs.Journal.{after}
@@ -19,23 +19,28 @@ use Rattle.watch_points.specs.Checking.{fit}
 use Rattle.watch_points.specs.Reading.{watches}
 use Rattle.watch_points.specs.declared.fault.WatchFault.{WatchFault}
 use Rattle.watch_points.specs.declared.watch.Watch as watch
-use Rattle.command_words.specs.Requests.{AssignmentView, FileNames, Live, Number, SourceView, Study, Watch}
+use Rattle.checkpoint.specs.Snapshots.{SnapshotView}
+use Rattle.snapshot_text.specs.Reading.{snapshot}
+use Rattle.snapshot_text.specs.declared.fault.SnapshotFault.{SnapshotFault}
+use Rattle.saved_run.specs.Sayable.{AreSayable}
+use Rattle.saved_run.proofs.Sayable.{scripts_are_sayable}
+use Rattle.command_words.specs.Requests.{AssignmentView, FileNames, Live, Number, Resume, SourceView, Study, Watch}
 use Rattle.cloner_top.specs.declared.refusal.Refusal.{Refusal}
 use Rattle.cloner_top.specs.declared.refusal.Refusal.TheVariants.{OutOfMemory, Usage, NotRead}
 use Rattle.cloner_top.specs.declared.refusal.Refusal.TheVariants.{Stopped, Exceeded, CannotWrite}
 use Rattle.cloner_top.specs.declared.refusal.Text.{Text}
-use Rattle.cloner_top.specs.declared.refusal.Text.TheVariants.{Model, Script, Watches}
+use Rattle.cloner_top.specs.declared.refusal.Text.TheVariants.{Model, Script, Snapshot, Watches}
 use Rattle.cloner_top.specs.declared.stop.Stop.{Stop}
 use Rattle.cloner_top.specs.declared.stop.Stop.TheVariants.{BadModel, BadScript, BadDecision, BadWatch, BadWatches}
-use Rattle.cloner_top.specs.declared.stop.Stop.TheVariants.{NoClone}
+use Rattle.cloner_top.specs.declared.stop.Stop.TheVariants.{BadSnapshot, NoClone}
 use Rattle.cloner_top.specs.Answers.{IsLawfulEnding}
 use Rattle.cloner_top.specs.Deciding.{IsDecided, IsRefusal, clones_of, clones_of_book, first_refused}
-use Rattle.cloner_top.specs.Endings.{Ending, MayDecide, MayEnd, MayLive, MayRunWatched, MaySimulate, MayStudy, MayWatch}
-use Rattle.cloner_top.specs.Endings.{early_stop}
+use Rattle.cloner_top.specs.Endings.{Ending, MayDecide, MayEnd, MayGoOn, MayLive, MayResume, MayRunWatched}
+use Rattle.cloner_top.specs.Endings.{MaySimulate, MayStudy, MayWatch, early_stop}
 use Rattle.cloner_top.specs.Endings as ends
 use Rattle.cloner_top.specs.Prepared.{IsNotPrepared}
-use Rattle.cloner_top.specs.Reading.{IsBadModel, IsBadScript, IsBadWatch, IsBadWatches, IsModelOf, IsNoScriptOf}
-use Rattle.cloner_top.specs.Reading.{IsNotFetched, IsScriptOf, IsUnscripted}
+use Rattle.cloner_top.specs.Reading.{IsBadModel, IsBadScript, IsBadSnapshot, IsBadWatch, IsBadWatches, IsModelOf}
+use Rattle.cloner_top.specs.Reading.{IsNoScriptOf, IsNotFetched, IsScriptOf, IsUnscripted}
 use Rattle.cloner_top.specs.Refusals.{IsMemoryOrStop}
 use Rattle.cloner_top.specs.Texts.{AreTexts, HasPlan, IsDue, IsText, IsTextOf, IsUnread, fetches_of, known_from}
 use Rattle.cloner_top.specs.Texts.{later_fetches}
@@ -44,16 +49,23 @@ use Rattle.cloner_top.proofs.Puts.{counted_both}
 
 -- ---- the texts of an assignment
 
--- the three texts
-abbrev texts_of : List ℕ → List ℕ → List ℕ → Text → List ℕ
-texts_of m s w Model = m
-texts_of m s w Script = s
-texts_of m s w Watches = w
+-- the four texts
+abbrev texts_of : List ℕ → List ℕ → List ℕ → List ℕ → Text → List ℕ
+texts_of m s w x Model = m
+texts_of m s w x Script = s
+texts_of m s w x Watches = w
+texts_of m s w x Snapshot = x
 
 -- a study has no watches
 no_watches : (source : SourceView) (files : Option Files) → IsText (known_from (study_origin source Watches) files) []
 no_watches (FileNames m s) files = tt
 no_watches (Number n) files = tt
+
+-- and no snapshot
+no_snapshot : (source : SourceView) (files : Option Files)
+    → IsText (known_from (study_origin source Snapshot) files) []
+no_snapshot (FileNames m s) files = tt
+no_snapshot (Number n) files = tt
 
 -- a result is not both Ok and Err
 ok_err : {A B : Type 0} (r : Result A B) (a : A) (b : B) → r ≡ Ok a → r ≡ Err b → ⊥
@@ -67,20 +79,25 @@ module _ (files : Option Files) (a : AssignmentView) (m : List ℕ) (m_is : IsTe
   -- the model's text breaks a rule
   model_refused : (fault : ModelFault) → model m ≡ Err fault → IsLawfulEnding files a (early_stop (BadModel fault))
   model_refused fault bad = record {
-    t = texts_of m [] [];
+    t = texts_of m [] [] [];
     texts = record {
       model_is = m_is;
       script_is = λ net is. absurd (ok_err (model m) net fault is bad);
+      snapshot_is = λ net is. absurd (ok_err (model m) net fault is bad);
       watches_is = λ net stated is script_is none. absurd (ok_err (model m) net fault is bad);
     };
     may = ends.bad_model fault bad;
   }
 
   -- all texts
-  all_texts : (s w : List ℕ) → IsTextOf a files Script s → IsTextOf a files Watches w
-      → AreTexts a files (texts_of m s w)
-  all_texts s w s_is w_is =
-      record { model_is = m_is; script_is = λ net is. s_is; watches_is = λ net stated is script_is none. w_is }
+  all_texts : (s w x : List ℕ) → IsTextOf a files Script s → IsTextOf a files Watches w → IsTextOf a files Snapshot x
+      → AreTexts a files (texts_of m s w x)
+  all_texts s w x s_is w_is x_is = record {
+    model_is = m_is;
+    script_is = λ net is. s_is;
+    snapshot_is = λ net is. x_is;
+    watches_is = λ net stated is script_is none. w_is;
+  }
 
 module _ (files : Option Files) (source : SourceView) (mode : Mode) (m s : List ℕ) (net : Net)
     (m_is : IsTextOf (Study source mode) files Model m) (is_model : model m ≡ Ok net)
@@ -88,8 +105,9 @@ module _ (files : Option Files) (source : SourceView) (mode : Mode) (m s : List 
   -- an ending of the study of these texts is one of the assignment
   study_ends : (end : Ending) → MayStudy (MayEnd mode net) s end → IsLawfulEnding files (Study source mode) end
   study_ends end may = record {
-    t = texts_of m s [];
-    texts = all_texts files (Study source mode) m m_is s [] s_is (no_watches source files);
+    t = texts_of m s [] [];
+    texts = all_texts files (Study source mode) m m_is s [] [] s_is (no_watches source files)
+        (no_snapshot source files);
     may = ends.read net end is_model may;
   }
 
@@ -108,8 +126,8 @@ module _ (files : Option Files) (mn sn m s : List ℕ) (net : Net) (m_is : IsTex
   -- an ending of a live study of these texts is one of the assignment
   live_ends : (end : Ending) → MayStudy (MayLive net) s end → IsLawfulEnding files (Live mn sn) end
   live_ends end may = record {
-    t = texts_of m s [];
-    texts = all_texts files (Live mn sn) m m_is s [] s_is tt;
+    t = texts_of m s [] [];
+    texts = all_texts files (Live mn sn) m m_is s [] [] s_is tt tt;
     may = ends.read net end is_model may;
   }
 
@@ -119,10 +137,11 @@ module _ (files : Option Files) (mn sn wn m s : List ℕ) (net : Net) (m_is : Is
   watch_no_script : (fault : ScriptFault) → script s ≡ Err fault
       → IsLawfulEnding files (Watch mn sn wn) (early_stop (BadScript fault))
   watch_no_script fault bad = record {
-    t = texts_of m s [];
+    t = texts_of m s [] [];
     texts = record {
       model_is = m_is;
       script_is = λ n is. s_is;
+      snapshot_is = λ n is. tt;
       watches_is = λ n st is script_is none. absurd (ok_err (script s) st fault script_is bad);
     };
     may = ends.read net _ is_model (ends.bad_script fault bad);
@@ -133,10 +152,11 @@ module _ (files : Option Files) (mn sn wn m s : List ℕ) (net : Net) (m_is : Is
       → first_refused net stated ≡ Some (reply, line)
       → IsLawfulEnding files (Watch mn sn wn) (early_stop (BadDecision reply line))
   watch_refused stated is_script reply line bad = record {
-    t = texts_of m s [];
+    t = texts_of m s [] [];
     texts = record {
       model_is = m_is;
       script_is = λ n is. s_is;
+      snapshot_is = λ n is. tt;
       watches_is = λ n st is script_is none.
           let same = ap₂ first_refused (same_ok (model m) net n is_model is)
           (same_ok (script s) stated st is_script script_is) in
@@ -150,10 +170,20 @@ module _ (files : Option Files) (mn sn wn m s : List ℕ) (net : Net) (m_is : Is
     -- an ending of a study with these watches is one of the assignment
     watch_ends : (end : Ending) → MayWatch w net (clones_of net stated) end → IsLawfulEnding files (Watch mn sn wn) end
     watch_ends end may = record {
-      t = texts_of m s w;
-      texts = all_texts files (Watch mn sn wn) m m_is s w s_is w_is;
+      t = texts_of m s w [];
+      texts = all_texts files (Watch mn sn wn) m m_is s w [] s_is w_is tt;
       may = ends.read net end is_model (ends.study stated end is_script (ends.simulation end accepted may));
     }
+
+-- an ending of a run from a snapshot with this text is one of the assignment
+resume_ends : (files : Option Files) (mn xn m x : List ℕ) (net : Net) → IsTextOf (Resume mn xn) files Model m
+    → model m ≡ Ok net → IsTextOf (Resume mn xn) files Snapshot x → (end : Ending) → MayResume x net end
+    → IsLawfulEnding files (Resume mn xn) end
+resume_ends files mn xn m x net m_is is_model x_is end may = record {
+  t = texts_of m [] [] x;
+  texts = all_texts files (Resume mn xn) m m_is [] [] x tt tt x_is;
+  may = ends.read net end is_model may;
+}
 
 -- one fetch count, followed by another, is at most the fetches of all texts
 pub few_of_both : (n m : ℕ) (old mid new : Option ℕ) → AreCounted n old mid
@@ -166,11 +196,20 @@ pub few_of_first : (n m : ℕ) (old new : Option ℕ) → AreCounted n old new
     → (k : ℕ) × ((k ≤ n + m) × AreCounted k old new)
 few_of_first n m old new h = let most : n ≤ n + m = omega arith in (n, (most, h))
 
--- the fetches of two are at most those of both
-pub few_of_two : (n m : ℕ) (old mid new : Option ℕ) → AreCounted n old mid → AreCounted m mid new
-    → (k : ℕ) × ((k ≤ n + m) × AreCounted k old new)
-few_of_two n m old mid new h k = let most : n + m ≤ n + m = omega arith in
+-- the fetches of two are at most those of all three
+pub few_of_two : (n m l : ℕ) (old mid new : Option ℕ) → AreCounted n old mid → AreCounted m mid new
+    → (k : ℕ) × ((k ≤ n + (m + l)) × AreCounted k old new)
+few_of_two n m l old mid new h k = let most : n + m ≤ n + (m + l) = omega arith in
     (n + m, (most, counted_both n m old mid new h k))
+
+-- a study with watches fetches the script and the watches after the model
+pub watch_fetches : (a : AssignmentView) → (mn : List ℕ) × ((sn : List ℕ) × ((wn : List ℕ) × (a ≡ Watch mn sn wn)))
+    → (old mid new : Option ℕ) → AreCounted (fetches_of (origin_of a Script)) old mid
+    → AreCounted (fetches_of (origin_of a Watches)) mid new → AreCounted (later_fetches a) old new
+watch_fetches a is old mid new h k =
+    subst (λ x. AreCounted (fetches_of (origin_of x Script)) old mid
+    → AreCounted (fetches_of (origin_of x Watches)) mid new → AreCounted (later_fetches x) old new) (sym is.1.1.1)
+    (λ one two. counted_both 1 1 old mid new one two) h k
 
 -- a study fetches only the script after the model
 pub study_fetches : (a : AssignmentView) (mode : Mode) → (source : SourceView) × (a ≡ Study source mode)
@@ -182,10 +221,14 @@ study_fetches a mode is old new h = subst (λ n. AreCounted n old new) (sym (scr
     none (FileNames m s) = refl
     none (Number n) = refl
 
+    none_saved : (source : SourceView) → fetches_of (study_origin source Snapshot) ≡ 0
+    none_saved (FileNames m s) = refl
+    none_saved (Number n) = refl
+
     script_alone : (source : SourceView) (x : AssignmentView) → x ≡ Study source mode
         → later_fetches x ≡ fetches_of (origin_of x Script)
     script_alone source x e = subst (λ y. later_fetches y ≡ fetches_of (origin_of y Script)) (sym e)
-        (let z = none source in omega (arith, z))
+        (let z = none source in let y = none_saved source in omega (arith, z, y))
 
 -- the same for a live study
 pub live_fetches : (a : AssignmentView) → (mn : List ℕ) × ((sn : List ℕ) × (a ≡ Live mn sn))
@@ -193,6 +236,14 @@ pub live_fetches : (a : AssignmentView) → (mn : List ℕ) × ((sn : List ℕ) 
     → AreCounted (later_fetches a) old new
 live_fetches a is old new h =
     subst (λ x. AreCounted (fetches_of (origin_of x Script)) old new → AreCounted (later_fetches x) old new)
+    (sym is.1.1) (λ k. k) h
+
+-- and for a run from a snapshot, which fetches only that text after the model
+pub resume_fetches : (a : AssignmentView) → (mn : List ℕ) × ((xn : List ℕ) × (a ≡ Resume mn xn))
+    → (old new : Option ℕ) → AreCounted (fetches_of (origin_of a Snapshot)) old new
+    → AreCounted (later_fetches a) old new
+resume_fetches a is old new h =
+    subst (λ x. AreCounted (fetches_of (origin_of x Snapshot)) old new → AreCounted (later_fetches x) old new)
     (sym is.1.1) (λ k. k) h
 
 -- ---- why nothing is prepared
@@ -233,6 +284,7 @@ bad_model files a m text (BadDecision reply line) h = absurd h
 bad_model files a m text (NoClone name) h = absurd h
 bad_model files a m text (BadWatches fault) h = absurd h
 bad_model files a m text (BadWatch reply line) h = absurd h
+bad_model files a m text (BadSnapshot fault) h = absurd h
 
 -- the script's text was not fetched
 pub no_script_text : (rose : Type 0) (files : Option Files) (a : AssignmentView) (r : Refusal)
@@ -263,6 +315,7 @@ by_script Q s (BadDecision reply line) h each = absurd h
 by_script Q s (NoClone name) h each = absurd h
 by_script Q s (BadWatches fault) h each = absurd h
 by_script Q s (BadWatch reply line) h each = absurd h
+by_script Q s (BadSnapshot fault) h each = absurd h
 
 -- the stop of a refused decision
 by_decision : (Q : Stop → Type 0) (net : Net) (st : ScriptView) (stop : Stop) → IsRefusal net st stop
@@ -273,6 +326,7 @@ by_decision Q net st (BadDecision reply line) h each = each reply line h
 by_decision Q net st (NoClone name) h each = absurd h
 by_decision Q net st (BadWatches fault) h each = absurd h
 by_decision Q net st (BadWatch reply line) h each = absurd h
+by_decision Q net st (BadSnapshot fault) h each = absurd h
 
 -- the stop of a refused text of watches
 by_watches : (Q : Stop → Type 0) (w : List ℕ) (stop : Stop) → IsBadWatches w stop
@@ -283,6 +337,7 @@ by_watches Q w (BadDecision reply line) h each = absurd h
 by_watches Q w (NoClone name) h each = absurd h
 by_watches Q w (BadWatches fault) h each = each fault h
 by_watches Q w (BadWatch reply line) h each = absurd h
+by_watches Q w (BadSnapshot fault) h each = absurd h
 
 -- the stop of a watch that does not fit
 by_watch : (Q : Stop → Type 0) (net : Net) (cs : List Clone) (ws : List watch.Watch) (stop : Stop)
@@ -295,6 +350,18 @@ by_watch Q net cs ws (BadDecision reply line) h each = absurd h
 by_watch Q net cs ws (NoClone name) h each = absurd h
 by_watch Q net cs ws (BadWatches fault) h each = absurd h
 by_watch Q net cs ws (BadWatch reply line) h each = each reply line h
+by_watch Q net cs ws (BadSnapshot fault) h each = absurd h
+
+-- the stop of a refused snapshot
+by_snapshot : (Q : Stop → Type 0) (net : Net) (x : List ℕ) (stop : Stop) → IsBadSnapshot net x stop
+    → ((fault : SnapshotFault) → snapshot net x ≡ Err fault → Q (BadSnapshot fault)) → Q stop
+by_snapshot Q net x (BadModel fault) h each = absurd h
+by_snapshot Q net x (BadScript fault) h each = absurd h
+by_snapshot Q net x (BadDecision reply line) h each = absurd h
+by_snapshot Q net x (NoClone name) h each = absurd h
+by_snapshot Q net x (BadWatches fault) h each = absurd h
+by_snapshot Q net x (BadWatch reply line) h each = absurd h
+by_snapshot Q net x (BadSnapshot fault) h each = each fault h
 
 module _ (rose : Type 0) (files : Option Files) (a : AssignmentView) (net : Net) (m : IsModelOf a files net) where
   -- there is no script, if each stop of its text ends the assignment
@@ -314,6 +381,15 @@ module _ (rose : Type 0) (files : Option Files) (a : AssignmentView) (net : Net)
 pub plan_accepted : (net : Net) (stated : ScriptView) (book : BookView) → IsDecided net stated book
     → IsAcceptedJournal book.net book.events
 plan_accepted net stated book is = subst (λ n. IsAcceptedJournal n book.events) (sym is.net_is) is.accepted
+
+-- and words can say its clones
+pub plan_ready : (net : Net) (stated : ScriptView) (book : BookView) → IsScript stated → IsDecided net stated book
+    → IsAcceptedJournal book.net book.events × AreSayable (clones_of_book book)
+plan_ready net stated book valid is = (
+  plan_accepted net stated book is,
+  subst AreSayable (sym (ap (λ n. (after n book.events).clones) is.net_is
+      ∙ is.clones)) (scripts_are_sayable net stated valid),
+)
 
 -- the network of its book is that of its model
 pub plan_net : (net told : Net) (stated : ScriptView) (book : BookView) → told ≡ net → IsDecided net stated book
@@ -499,3 +575,50 @@ module _ (rose : Type 0) (files : Option Files) (a : AssignmentView) (net : Net)
               (λ mm ss ww. watch_fits rose files is.0 is.1.0 is.1.1.0 net mm stated ss book decided w ww ws are
               (subst (λ n. fit n (clones_of_book book) ws ≡ Ok tt) same fits) end
               (subst (λ n. MayRunWatched n (clones_of_book book) ws end) same may)) m s w_is
+
+-- ---- a run from a snapshot
+
+module _ (rose : Type 0) (files : Option Files) (mn xn : List ℕ) (net : Net)
+    (m : IsModelOf (Resume mn xn) files net) where
+  -- the text of its snapshot was not fetched
+  resume_unfetched : (r : Refusal) → IsNotFetched rose (Resume mn xn) files Snapshot r
+      → IsNotPrepared rose files (Resume mn xn) r
+  resume_unfetched r h = unfetched rose files (Resume mn xn) Snapshot r
+      (record { m = m.m; net = net; text = m.text; is_model = m.is_model }) h
+
+  module _ (x : List ℕ) (x_is : IsTextOf (Resume mn xn) files Snapshot x) where
+    -- how a run from a snapshot with this text ends
+    resumes_with : (end : Ending) → MayResume x net end → IsLawfulEnding files (Resume mn xn) end
+    resumes_with = resume_ends files mn xn m.m x net m.text m.is_model x_is
+
+    -- the text breaks a rule
+    resume_unread : (r : Refusal) → IsMemoryOrStop (IsBadSnapshot net x) r
+        → IsNotPrepared rose files (Resume mn xn) r
+    resume_unread r h = stopped_by rose files (Resume mn xn) (IsBadSnapshot net x) r (λ stop bad.
+        by_snapshot (λ q. IsLawfulEnding files (Resume mn xn) (early_stop q)) net x stop bad
+        (λ fault is. resumes_with _ (ends.bad_snapshot fault is))) h
+
+-- the same for an assignment that is such a run
+module _ (rose : Type 0) (files : Option Files) (a : AssignmentView) (net : Net)
+    (is : (mn : List ℕ) × ((xn : List ℕ) × (a ≡ Resume mn xn))) (m : IsModelOf a files net) where
+  pub no_snapshot_text : (r : Refusal) → IsNotFetched rose a files Snapshot r → IsNotPrepared rose files a r
+  no_snapshot_text = subst (λ y. IsModelOf y files net → (r : Refusal) → IsNotFetched rose y files Snapshot r
+      → IsNotPrepared rose files y r) (sym is.1.1)
+      (λ mm r h. resume_unfetched rose files is.0 is.1.0 net mm r h) m
+
+  module _ (x : List ℕ) (x_is : IsTextOf a files Snapshot x) (told : Net) (same : told ≡ net) where
+    -- its text breaks a rule
+    pub bad_snapshot_text : (r : Refusal) → IsMemoryOrStop (IsBadSnapshot told x) r → IsNotPrepared rose files a r
+    bad_snapshot_text r bad = subst (λ y. IsModelOf y files net → IsTextOf y files Snapshot x
+        → IsNotPrepared rose files y r) (sym is.1.1)
+        (λ mm xx. resume_unread rose files is.0 is.1.0 net mm x xx r
+        (subst (λ n. IsMemoryOrStop (IsBadSnapshot n x) r) same bad)) m x_is
+
+    -- it is a snapshot of the model
+    pub resuming_ready : (v : SnapshotView) → snapshot told x ≡ Ok v → (end : Ending) → MayGoOn told v end
+        → IsLawfulEnding files a end
+    resuming_ready v is_snapshot end may = subst (λ y. IsModelOf y files net → IsTextOf y files Snapshot x
+        → IsLawfulEnding files y end) (sym is.1.1)
+        (λ mm xx. resumes_with rose files is.0 is.1.0 net mm x xx end
+        (ends.going_on v end (subst (λ n. snapshot n x ≡ Ok v) same is_snapshot)
+        (subst (λ n. MayGoOn n v end) same may))) m x_is

@@ -1,7 +1,8 @@
 -- The endings that each mode allows, in one table.
 use Rattle.std.specs.Prelude.{◌≡◌, ℕ, ◌+◌, ◌/◌, ◌<◌, ◌≤◌, List, [], ◌∷◌, ◌++◌, map, length, Some, None, Result, Ok, Err}
-use Rattle.std.specs.Prelude.{codes, decimal}
+use Rattle.std.specs.Prelude.{codes, decimal, nat_le, if◌then◌else◌}
 use Rattle.sim_base.specs.Clones.{Clone, clone_at, place_of}
+use Rattle.sim_base.specs.declared.limits.TheConstants.{MAX_FILE_BYTES}
 use Rattle.net_model.specs.Net.{HasStation, Net, site_of}
 use Rattle.net_model.specs.Text.{model}
 use Rattle.net_model.specs.declared.fault.ModelFault.{ModelFault}
@@ -15,7 +16,7 @@ use Rattle.stations.specs.Runs.{IsBeyond, trace_of}
 use Rattle.world_core.specs.Overs.{most_handled}
 use Rattle.world_core.specs.Worlds.{total_handled}
 use Rattle.trace_report.specs.Outputs.{clone_text, report}
-use Rattle.study_run.specs.Limits.{AreWithin, IsWithin, MeetsLimit, MeetsLimitAlone}
+use Rattle.study_run.specs.Limits.{AreWithin, IsWithin, MeetsLimit, MeetsLimitAlone, until}
 use Rattle.study_stats.specs.Rows.{statistics}
 use Rattle.link_clocks.specs.NetClocks.{AreAllRounds}
 use Rattle.journal_text.specs.declared.looked.Looked.{Looked}
@@ -28,17 +29,22 @@ use Rattle.watch_points.specs.Reading.{watches}
 use Rattle.watch_points.specs.Triggers.{clones_with_branches}
 use Rattle.watch_points.specs.declared.fault.WatchFault.{WatchFault}
 use Rattle.watch_points.specs.declared.watch.Watch.{Watch}
+use Rattle.checkpoint.specs.Laws.{StaysOnward}
+use Rattle.checkpoint.specs.Snapshots.{SnapshotView, onward, resumed_text}
+use Rattle.snapshot_text.specs.Reading.{snapshot}
+use Rattle.snapshot_text.specs.declared.fault.SnapshotFault.{SnapshotFault}
+use Rattle.saved_run.specs.Saving.{MeetsLimitOnward, saved_text}
 use Rattle.command_words.specs.declared.request.Mode.{Mode}
-use Rattle.command_words.specs.declared.request.Mode.TheVariants.{Links, Report, Solo, Stats}
+use Rattle.command_words.specs.declared.request.Mode.TheVariants.{Links, Report, Save, Solo, Stats}
 use Rattle.command_words.specs.Requests as asked
-use Rattle.command_words.specs.Requests.{AssignmentView, Live, Study}
+use Rattle.command_words.specs.Requests.{AssignmentView, Live, Resume, Study}
 use Rattle.cloner_top.specs.declared.excess.Excess.{Excess}
-use Rattle.cloner_top.specs.declared.excess.Excess.TheVariants.{LimitMet}
+use Rattle.cloner_top.specs.declared.excess.Excess.TheVariants.{LimitMet, LongSnapshot}
 use Rattle.cloner_top.specs.declared.refusal.Text.{Text}
-use Rattle.cloner_top.specs.declared.refusal.Text.TheVariants.{Model, Script, Watches}
+use Rattle.cloner_top.specs.declared.refusal.Text.TheVariants.{Model, Script, Snapshot, Watches}
 use Rattle.cloner_top.specs.declared.stop.Stop.{Stop}
 use Rattle.cloner_top.specs.declared.stop.Stop.TheVariants.{BadModel, BadScript, BadDecision, BadWatch, BadWatches}
-use Rattle.cloner_top.specs.declared.stop.Stop.TheVariants.{NoClone}
+use Rattle.cloner_top.specs.declared.stop.Stop.TheVariants.{BadSnapshot, NoClone}
 use Rattle.cloner_top.specs.Deciding.{clones_of, first_refused}
 
 -- an ending: these texts are written after this number of handled messages; or the study is not run; or a limit is
@@ -144,11 +150,34 @@ whole c = c
 abbrev pub solo_text : Net → Clone → Result (List ℕ) Excess
 solo_text net c = Ok (clone_text net c)
 
+-- the text that `save` writes if it stops a clone at a time: that of the clone's snapshot, unless it is too long
+abbrev pub saved_or_too_long : Net → ℕ → Clone → Result (List ℕ) Excess
+saved_or_too_long net time c =
+    if nat_le (length (saved_text net time c)) MAX_FILE_BYTES then Ok (saved_text net time c) else Err LongSnapshot
+
+-- ---- one clone, from a snapshot on
+
+-- how the run from a snapshot may end: the clone's name, the snapshot's lines and those that follow are written, or the
+-- limit is met
+pub data MayGoOn (net : Net) (x : SnapshotView) : Ending → Type 0 where
+  resumed : StaysOnward net x → MayGoOn net x (whole_output (resumed_text net x ∷ []) (length (onward net x)))
+  limit_met_onward : (station : ℕ) → MeetsLimitOnward net x station
+      → MayGoOn net x (overrun [] (limit_met_at net station x.who) (most_handled net 1))
+
+-- how a run from a text may end: the text is no snapshot of the model, or the run goes on from the snapshot
+pub data MayResume (text : List ℕ) (net : Net) : Ending → Type 0 where
+  bad_snapshot : (fault : SnapshotFault) → snapshot net text ≡ Err fault
+      → MayResume text net (early_stop (BadSnapshot fault))
+  going_on : (x : SnapshotView) (end : Ending) → snapshot net text ≡ Ok x → MayGoOn net x end
+      → MayResume text net end
+
 -- ---- the modes
 
 -- how the simulation of a plan may end
 abbrev pub MaySimulate : Mode → Net → List Clone → Ending → Type 0
 MaySimulate (Solo name) net clones end = MayRunAlone net clones name whole (solo_text net) end
+MaySimulate (Save name time) net clones end =
+    MayRunAlone net clones name (until net time) (saved_or_too_long net time) end
 MaySimulate Links net clones end = MayRunLinked net clones end
 MaySimulate mode net clones end = MayRun net clones (mode_meets mode net clones) (mode_texts mode net clones) end
 
@@ -190,6 +219,7 @@ abbrev pub MayFollow : AssignmentView → (Text → List ℕ) → Net → Ending
 MayFollow (Study source mode) t net end = MayStudy (MayEnd mode net) (t Script) end
 MayFollow (Live m s) t net end = MayStudy (MayLive net) (t Script) end
 MayFollow (asked.Watch m s w) t net end = MayStudy (MayDecide (MayWatch (t Watches) net) net) (t Script) end
+MayFollow (Resume m x) t net end = MayResume (t Snapshot) net end
 
 -- how an assignment with these texts may end
 pub data MayEndByTexts (a : AssignmentView) (t : Text → List ℕ) : Ending → Type 0 where

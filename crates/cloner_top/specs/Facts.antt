@@ -11,7 +11,7 @@ use Rattle.decision_book.specs.Books.{BookView}
 use Rattle.decision_book.specs.Journal.{after as after_events}
 use Rattle.stations.specs.Runs.{trace_of}
 use Rattle.world_core.specs.Worlds.{total_handled}
-use Rattle.study_run.specs.Limits.{AreWithin, IsWithin}
+use Rattle.study_run.specs.Limits.{AreWithin, IsWithin, until}
 use Rattle.link_clocks.specs.NetClocks.{AreAllRounds}
 use Rattle.journal_text.specs.declared.looked.Looked.{Looked}
 use Rattle.journal_text.specs.JournalText.{journal_text}
@@ -22,17 +22,20 @@ use Rattle.watch_points.specs.Reading.{watches}
 use Rattle.watch_points.specs.Triggers.{clones_with_branches}
 use Rattle.watch_points.specs.declared.watch.Watch as watch
 use Rattle.command_words.specs.declared.request.Mode.{Mode}
-use Rattle.command_words.specs.declared.request.Mode.TheVariants.{Links, Solo}
-use Rattle.command_words.specs.Requests.{AssignmentView, Live, Study, Watch}
+use Rattle.checkpoint.specs.Laws.{StaysOnward}
+use Rattle.checkpoint.specs.Snapshots.{SnapshotView, onward, resumed_text}
+use Rattle.snapshot_text.specs.Reading.{snapshot}
+use Rattle.command_words.specs.declared.request.Mode.TheVariants.{Links, Save, Solo}
+use Rattle.command_words.specs.Requests.{AssignmentView, Live, Resume, Study, Watch}
 use Rattle.cloner_top.specs.declared.excess.Excess.{Excess}
 use Rattle.cloner_top.specs.declared.refusal.Refusal.{Refusal}
 use Rattle.cloner_top.specs.declared.refusal.Text.{Text}
-use Rattle.cloner_top.specs.declared.refusal.Text.TheVariants.{Model, Script, Watches}
+use Rattle.cloner_top.specs.declared.refusal.Text.TheVariants.{Model, Script, Snapshot, Watches}
 use Rattle.cloner_top.specs.declared.stop.Stop.{Stop}
 use Rattle.cloner_top.specs.Answers.{InputsFailed, IsLawfulEnding, Outside}
 use Rattle.cloner_top.specs.Deciding.{clones_of, first_refused}
 use Rattle.cloner_top.specs.Endings.{Ending, IsExcessOf, early_stop, mode_texts, overrun, rounds_line, run_texts}
-use Rattle.cloner_top.specs.Endings.{solo_text, whole, whole_output}
+use Rattle.cloner_top.specs.Endings.{saved_or_too_long, solo_text, whole, whole_output}
 use Rattle.cloner_top.specs.Outsides.{ArePut, ArePutOrCut, IsStudyCut}
 use Rattle.cloner_top.specs.Refusals.{error_line, status_of}
 use Rattle.cloner_top.specs.Stops.{excess_line, excess_status, stop_line, stop_status}
@@ -120,18 +123,35 @@ pub record WritesWatched (before after : Outside) (a : AssignmentView) : Type 0 
   pub steps : after.steps
       ≡ before.steps + total_handled net (clones_with_branches net (clones_of net stated) ws) net.horizon
 
--- what a mode writes: the trace of one clone, the texts of a run and the rounds, or the texts of its row
+-- the run of the snapshot's clone went on from the snapshot, no station handled more than the limit, and the trace was
+-- put: the clone's name, the snapshot's lines, and those that follow
+pub record WritesResumed (before after : Outside) (a : AssignmentView) : Type 0 where
+  pub t : Text → List ℕ
+  pub texts : AreTexts a before.inputs.files t
+  pub net : Net
+  pub is_model : model (t Model) ≡ Ok net
+  pub x : SnapshotView
+  pub is_snapshot : snapshot net (t Snapshot) ≡ Ok x
+  pub stays : StaysOnward net x
+  pub put : ArePut (resumed_text net x ∷ []) before.output after.output
+  pub steps : after.steps ≡ before.steps + length (onward net x)
+
+-- what a mode writes: the trace of one clone, the text of its snapshot, the texts of a run and the rounds, or the texts
+-- of its row
 abbrev pub WritesIn : Mode → Outside → Outside → AssignmentView → Type 0
 WritesIn (Solo name) before after a = WritesOne name (λ net. whole) solo_text before after a
+WritesIn (Save name time) before after a =
+    WritesOne name (λ net. until net time) (λ net. saved_or_too_long net time) before after a
 WritesIn Links before after a = WritesLinked before after a
 WritesIn mode before after a = WritesAll (mode_texts mode) before after a
 
--- what is written: the texts of a study's mode; the journal of a live study and the texts of a run; or, with watches,
--- the texts of a run with their branches
+-- what is written: the texts of a study's mode; the journal of a live study and the texts of a run; with watches, the
+-- texts of a run with their branches; or the trace of a resumed run
 abbrev pub Writes : AssignmentView → Outside → Outside → Type 0
 Writes (Study source mode) before after = WritesIn mode before after (Study source mode)
 Writes (Live m s) before after = WritesLive before after (Live m s)
 Writes (Watch m s w) before after = WritesWatched before after (Watch m s w)
+Writes (Resume m x) before after = WritesResumed before after (Resume m x)
 
 -- status 0: the whole output is written, and the error sink is unchanged
 pub record IsWritten (words : Option AssignmentView) (before after : Outside) : Type 0 where
@@ -178,6 +198,7 @@ abbrev pub IsLive : AssignmentView → Type 0
 IsLive (Study source mode) = ⊥
 IsLive (Live m s) = Unit {0}
 IsLive (Watch m s w) = ⊥
+IsLive (Resume m x) = ⊥
 
 -- what is put before the error line: nothing, or one text at the limit of a live study
 abbrev pub ArePreceded : Option AssignmentView → ℕ → List (List ℕ) → Type 0

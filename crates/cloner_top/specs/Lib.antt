@@ -13,3 +13,4 @@ pub mod Facts
 pub mod OwnScripts
 pub mod Journals
 pub mod Prefixes
+pub mod GoingOn

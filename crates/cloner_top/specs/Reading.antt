@@ -12,15 +12,16 @@ use Rattle.study_generator.specs.Texts.{model_text}
 use Rattle.watch_points.specs.Checking.{fit}
 use Rattle.watch_points.specs.Reading.{watches}
 use Rattle.watch_points.specs.declared.watch.Watch.{Watch}
+use Rattle.snapshot_text.specs.Reading.{snapshot}
 use Rattle.command_words.specs.Requests.{AssignmentView}
 use Rattle.cloner_top.specs.declared.reading.Origin as code
 use Rattle.cloner_top.specs.declared.reading.Origin.TheVariants as from
 use Rattle.cloner_top.specs.declared.refusal.Refusal.{Refusal}
 use Rattle.cloner_top.specs.declared.refusal.Refusal.TheVariants.{NotRead, OutOfMemory, Stopped}
 use Rattle.cloner_top.specs.declared.refusal.Text.{Text}
-use Rattle.cloner_top.specs.declared.refusal.Text.TheVariants.{Model, Script, Watches}
+use Rattle.cloner_top.specs.declared.refusal.Text.TheVariants.{Model, Script, Snapshot, Watches}
 use Rattle.cloner_top.specs.declared.stop.Stop.{Stop}
-use Rattle.cloner_top.specs.declared.stop.Stop.TheVariants.{BadModel, BadScript, BadWatch, BadWatches}
+use Rattle.cloner_top.specs.declared.stop.Stop.TheVariants.{BadModel, BadScript, BadSnapshot, BadWatch, BadWatches}
 use Rattle.cloner_top.specs.Texts.{IsTextOf, IsUnread, Origin, in_file, made, not_asked}
 
 -- the text that is generated from a number: a model or a script
@@ -28,6 +29,7 @@ abbrev pub made_text : Text → ℕ → List ℕ
 made_text Model n = model_text n
 made_text Script n = canonical_text made_script
 made_text Watches n = []
+made_text Snapshot n = []
 
 -- the source of a text, as plain data
 abbrev pub origin_view : code.Origin → Text → Origin
@@ -55,6 +57,11 @@ IsBadScript text stop = ⊥
 abbrev pub IsBadWatches : List ℕ → Stop → Type 0
 IsBadWatches text (BadWatches fault) = watches text ≡ Err fault
 IsBadWatches text stop = ⊥
+
+-- the rule of snapshots that a text breaks
+abbrev pub IsBadSnapshot : Net → List ℕ → Stop → Type 0
+IsBadSnapshot net text (BadSnapshot fault) = snapshot net text ≡ Err fault
+IsBadSnapshot net text stop = ⊥
 
 -- the first watch that does not fit
 abbrev pub IsBadWatch : Net → List Clone → List Watch → Stop → Type 0

@@ -7,7 +7,7 @@ use Rattle.cloner_top.specs.declared.refusal.Refusal.{Refusal}
 use Rattle.cloner_top.specs.declared.refusal.Refusal.TheVariants.{OutOfMemory, Usage, NotRead}
 use Rattle.cloner_top.specs.declared.refusal.Refusal.TheVariants.{Stopped, Exceeded, CannotWrite}
 use Rattle.cloner_top.specs.declared.refusal.Text.{Text}
-use Rattle.cloner_top.specs.declared.refusal.Text.TheVariants.{Model, Script, Watches}
+use Rattle.cloner_top.specs.declared.refusal.Text.TheVariants.{Model, Script, Snapshot, Watches}
 use Rattle.cloner_top.specs.declared.stop.Stop.{Stop}
 use Rattle.cloner_top.specs.Stops.{excess_line, excess_status, stop_line, stop_status}
 
@@ -25,6 +25,7 @@ abbrev pub unread_line : Text → List ℕ
 unread_line Model = codes "cloner: cannot read the model\n"
 unread_line Script = codes "cloner: cannot read the script\n"
 unread_line Watches = codes "cloner: cannot read the watches\n"
+unread_line Snapshot = codes "cloner: cannot read the snapshot\n"
 
 -- the line for each cause
 abbrev pub error_line : Refusal → List ℕ

@@ -1,6 +1,7 @@
 //! Makes the decisions of a script.
 ghost use Rattle.std.specs.Prelude.{◌≡◌, IfErr, IfOk, OnOk};
 ghost use Rattle.decision_book.specs.Journal.{after};
+ghost use Rattle.decision_script.specs.Stating.{IsScript};
 ghost use Rattle.cloner_top.specs.Deciding.{AcceptsAct, IsDecided, IsRefusal, RefusesAct, journal_after};
 ghost use Rattle.study_run.specs.Accepted.{IsAcceptedJournal};
 ghost use Rattle.cloner_top.specs.Refusals.{IsMemoryOrStop};
@@ -44,6 +45,7 @@ pub(crate) fn decide_script(
 ) -> Result<Book, Refusal>
     ensures ok { IfOk result (λ book. IsDecided model.value script.now book) }
     ensures err { IfErr result (λ r. IsMemoryOrStop (IsRefusal model.value script.now) r) }
+    ensures valid { OnOk result (IsScript script.now) }
 {
     let Ok(mut book) = Book::begin(alloc, model) else {
         return Err(Refusal::OutOfMemory);

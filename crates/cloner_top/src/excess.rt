@@ -1,6 +1,6 @@
-//! Limits that a run exceeds while it handles messages.
+//! Limits that a run exceeds while it handles messages, or with what it has to write.
 ghost use Rattle.std.specs.Prelude.{◌≡◌};
-ghost use Rattle.cloner_top.specs.Stops.{excess_line, excess_status, limit_line};
+ghost use Rattle.cloner_top.specs.Stops.{excess_line, excess_status, limit_line, long_snapshot_line};
 
 use crate::error_line::ErrorLine;
 use sim_base::Name;
@@ -14,6 +14,8 @@ pub enum Excess {
         station: Name,
         clone: Name,
     },
+    /// The text of the snapshot would be longer than a file may be.
+    LongSnapshot,
 }
 
 // The error line for an exceeded limit.
@@ -31,6 +33,15 @@ fn line_of_limit(limit: u64, station: &Name, clone: &Name) -> ErrorLine
     line
 }
 
+// The error line for a snapshot that is too long.
+fn line_of_long_snapshot() -> ErrorLine
+    ensures { result ≡ long_snapshot_line }
+{
+    let mut line = ErrorLine::new();
+    line.push("cloner: snapshot too long\n");
+    line
+}
+
 impl Excess {
     /// Returns the exit status.
     pub fn status(&self) -> u8
@@ -38,6 +49,7 @@ impl Excess {
     {
         match self {
             Excess::LimitMet { .. } => 7,
+            Excess::LongSnapshot => 11,
         }
     }
 
@@ -51,6 +63,7 @@ impl Excess {
                 station,
                 clone,
             } => line_of_limit(*limit, station, clone),
+            Excess::LongSnapshot => line_of_long_snapshot(),
         }
     }
 }

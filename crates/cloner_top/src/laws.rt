@@ -1,5 +1,6 @@
-//! Laws on the program's results: a clone's own script and a live study's journal reproduce the output. The part of a
-//! file that a fetch returns is read as the whole file is.
+//! Laws on the program's results: a clone's own script and a live study's journal reproduce the output, and a resumed run
+//! writes what the unbroken one writes. The part of a file that a fetch returns is read as the whole file is.
+ghost use Rattle.cloner_top.specs.GoingOn.{SavedRunsGoOn};
 ghost use Rattle.cloner_top.specs.Journals.{JournalRunsTheSame};
 ghost use Rattle.cloner_top.specs.OwnScripts.{OwnScriptWritesTheSame};
 ghost use Rattle.cloner_top.specs.Prefixes.{PrefixesStateTheSame};
@@ -22,4 +23,10 @@ pub fn journal_runs_the_same()
 /// longer than a fetch: both texts are then refused as too long.
 pub fn prefixes_state_the_same()
     ensures { PrefixesStateTheSame }
+{}
+
+/// What `save` writes of a clone, `resume` turns into what `solo` writes of it. It never refuses that text: it writes the
+/// same bytes, or it meets the limit at the same station. The two parts handle as many messages as the whole.
+pub fn saved_runs_go_on()
+    ensures { SavedRunsGoOn }
 {}

@@ -6,7 +6,7 @@
 //!
 //! ```text
 //! words -command_words-> request -prepare-> what is read and decided -writing-> output
-//!                            statuses 3 to 6, 9                   statuses 6 to 8
+//!                            statuses 3 to 6, 9, 10               statuses 6 to 8, 11
 //! ```
 //!
 //! An example, over files and sinks in memory:
@@ -36,7 +36,9 @@ mod putting;
 mod reading;
 pub mod refusal;
 mod resources;
+mod resuming;
 mod running;
+mod saving;
 pub mod stop;
 mod watching;
 mod writing;

@@ -1,6 +1,7 @@
 //! Reads all texts and makes all decisions before the first message is handled.
 ghost use Rattle.std.specs.Prelude.{◌≡◌, ◌≤◌, ◌+◌, ℕ, List, IfErr, IfOk, Ok, OnOk};
 ghost use Rattle.sim_outer.specs.Counts.{AreCounted, HasRisen};
+ghost use Rattle.decision_script.specs.Stating.{IsScript};
 ghost use Rattle.command_words.specs.Requests as requests;
 ghost use Rattle.command_words.specs.Requests.{SourceView, assignment_view};
 ghost use Rattle.watch_points.specs.Checking.{fit};
@@ -11,8 +12,10 @@ ghost use Rattle.cloner_top.specs.Refusals.{IsMemoryOrStop};
 ghost use Rattle.cloner_top.specs.Texts.{all_fetches, fetches_of, later_fetches, origin_of};
 
 use crate::deciding::decide_script;
-use crate::prepared::{Decided, Plan, Prepared, Study, Watching};
-use crate::reading::{fetch_text, read_model_text, read_script_text, read_watches_text};
+use crate::prepared::{Decided, Plan, Prepared, Resuming, Study, Watching};
+use crate::reading::{
+    fetch_text, read_model_text, read_script_text, read_snapshot_text, read_watches_text,
+};
 use crate::refusal::{Refusal, Text};
 use crate::stop::Stop;
 use command_words::{Assignment, Mode};
@@ -28,6 +31,7 @@ fn plan_study(alloc: Global, model: Arc<Model>, script: &Script) -> Result<Plan,
     ensures model { IfOk result (λ plan. plan.model.value ≡ model.value) }
     ensures book { IfOk result (λ plan. IsDecided model.value script.now plan.book) }
     ensures err { IfErr result (λ r. IsMemoryOrStop (IsRefusal model.value script.now) r) }
+    ensures valid { OnOk result (IsScript script.now) }
 {
     let Ok(shared) = Arc::try_clone(&model) else {
         return Err(Refusal::OutOfMemory);
@@ -201,6 +205,36 @@ fn prepare_watch<I: Inputs>(
     }
 }
 
+// Prepares a run that goes on from a snapshot. The model has been read.
+fn prepare_resume<I: Inputs>(
+    alloc: Global,
+    inputs: &mut I,
+    assignment: &Assignment,
+    model: Arc<Model>,
+) -> Result<Prepared, Refusal>
+    requires resume { (m : List ℕ) × ((x : List ℕ) × (assignment_view assignment.now ≡ requests.Resume m x)) }
+    requires model { IsModelOf (assignment_view assignment.now) (I.view inputs.old).files model.value }
+    ensures ready { IfOk result IsReady }
+    ensures ok { IfOk result (λ p. IsPrepared (I.view inputs.old).files (assignment_view assignment.now) p) }
+    ensures err { IfErr result (λ r. IsNotPrepared (HasRisen (I.view inputs.old).faults (I.view inputs.new).faults)
+        (I.view inputs.old).files (assignment_view assignment.now) r) }
+    ensures later { (I.view inputs.old).faults ≤ (I.view inputs.new).faults }
+    ensures same { (I.view inputs.new).files ≡ (I.view inputs.old).files }
+    ensures fetched { OnOk result (AreCounted (later_fetches (assignment_view assignment.now))
+        (I.view inputs.old).calls (I.view inputs.new).calls) }
+    ensures at_most { (n : ℕ) × ((n ≤ later_fetches (assignment_view assignment.now))
+        × AreCounted n (I.view inputs.old).calls (I.view inputs.new).calls) }
+{
+    let text = match fetch_text(alloc, inputs, assignment, Text::Snapshot) {
+        Ok(text) => text,
+        Err(refusal) => return Err(refusal),
+    };
+    match read_snapshot_text(alloc, &model, text.as_slice()) {
+        Ok(snapshot) => Ok(Prepared::Resuming(Resuming { model, snapshot })),
+        Err(refusal) => Err(refusal),
+    }
+}
+
 /// Reads all texts of an assignment and makes its decisions. Returns the first error. No message is handled.
 pub(crate) fn prepare<I: Inputs>(
     alloc: Global,
@@ -229,5 +263,6 @@ pub(crate) fn prepare<I: Inputs>(
         Assignment::Study { mode, .. } => prepare_study(alloc, inputs, assignment, mode, model),
         Assignment::Live { .. } => prepare_live(alloc, inputs, assignment, model),
         Assignment::Watch { .. } => prepare_watch(alloc, inputs, assignment, model),
+        Assignment::Resume { .. } => prepare_resume(alloc, inputs, assignment, model),
     }
 }

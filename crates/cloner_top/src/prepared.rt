@@ -1,6 +1,7 @@
 //! Studies that are ready to run.
 ghost use Rattle.std.specs.Prelude.{◌≡◌};
 
+use checkpoint::Snapshot;
 use command_words::Mode;
 use decision_book::Book;
 use decision_script::Script;
@@ -37,6 +38,13 @@ pub(crate) struct Watching {
     pub(crate) watches: Watches,
 }
 
+/// A model, and a snapshot of a run of it.
+#[derive(Drop)]
+pub(crate) struct Resuming {
+    pub(crate) model: Arc<Model>,
+    pub(crate) snapshot: Snapshot,
+}
+
 /// A study that is ready to run: its texts are read, and no message is handled yet.
 #[derive(Drop)]
 pub(crate) enum Prepared {
@@ -46,4 +54,6 @@ pub(crate) enum Prepared {
     Undecided(Study),
     /// All decisions are made; watches create branches while the study runs.
     Watching(Watching),
+    /// One clone's run goes on from a snapshot.
+    Resuming(Resuming),
 }

@@ -143,6 +143,10 @@ fn run_or_report<I: Inputs, O: Sink, E: Sink, G: Gate, L: Ledger, R: Threads + W
 /// - `stats MODEL SCRIPT` runs as `run` does, and writes the statistics of each clone's servers.
 /// - `links MODEL SCRIPT` runs in rounds with a clock for each link. It writes what `run` writes, and then the number
 ///   of rounds.
+/// - `save MODEL SCRIPT --clone NAME --until T` runs one clone alone until T, or to its end or the horizon if they are
+///   earlier. It writes the text of a snapshot.
+/// - `resume MODEL SNAPSHOT` goes on from a snapshot. It writes the trace of the clone: the lines of the snapshot, and
+///   those that follow.
 ///
 /// Each text is put in one call, and all memory is allocated before the first put. The status is 0 if everything is
 /// written. Otherwise one line to the error sink says why. If a live study exceeds the limit, its journal precedes that
@@ -154,9 +158,11 @@ fn run_or_report<I: Inputs, O: Sink, E: Sink, G: Gate, L: Ledger, R: Threads + W
 /// 4. the model's text is not a model;
 /// 5. the script's text is not a script;
 /// 6. a decision is refused, or no clone has the name; the journal of a live study shows refusals instead;
-/// 7. a log would grow longer than the model's limit before the horizon;
+/// 7. a log would grow longer than the model's limit before the horizon, or before the time at which a clone is saved;
 /// 8. the output was cut off, only because a write failed;
-/// 9. the text of the watches is invalid, or a watch does not fit.
+/// 9. the text of the watches is invalid, or a watch does not fit;
+/// 10. the snapshot's text is not a snapshot of the model;
+/// 11. the text of the snapshot would be longer than a file may be.
 ///
 /// After every status except 0 and 8 the output is unchanged.
 pub fn cloner<R: Threads + Wait + Sync, I: Inputs, O: Sink, E: Sink, G: Gate, L: Ledger>(
@@ -193,7 +199,7 @@ pub fn cloner<R: Threads + Wait + Sync, I: Inputs, O: Sink, E: Sink, G: Gate, L:
         (outside_of (I.view inputs.old) (O.view out.old) (E.view err.old) steps.old)
         (outside_of (I.view inputs.new) (O.view out.new) (E.view err.new) steps.new)
         result }
-    ensures idle { 2 ≤ result → result ≢ 7 → result ≢ 8 → steps.new ≡ steps.old }
+    ensures idle { 2 ≤ result → result ≢ 7 → result ≢ 8 → result ≢ 11 → steps.new ≡ steps.old }
     ensures fetches { AreFewFetches (assignment_of words.now)
         (outside_of (I.view inputs.old) (O.view out.old) (E.view err.old) steps.old)
         (outside_of (I.view inputs.new) (O.view out.new) (E.view err.new) steps.new) }

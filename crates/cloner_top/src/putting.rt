@@ -4,7 +4,7 @@ ghost use Rattle.std.specs.Prelude.{◌≡◌, ◌≤◌, ◌∷◌, ◌++◌, [
 ghost use Rattle.sim_outer.specs.Bytes.{IsAppended};
 ghost use Rattle.sim_outer.specs.Counts.{AreCounted};
 ghost use Rattle.trace_writer.specs.Puts.{AreCut};
-ghost use Rattle.trace_writer.specs.Texts.{AreTextsReady};
+ghost use Rattle.trace_writer.specs.Texts.{AreTextsReady, text_after};
 ghost use Rattle.trace_report.specs.Outputs.{clone_text, clone_texts, report};
 ghost use Rattle.trace_report.specs.TraceText.{trace_text};
 ghost use Rattle.study_run.specs.Reports.{MayReport};
@@ -54,6 +54,23 @@ pub(crate) fn put_trace<O: Sink>(
     ensures done { AreDone (trace_text model.now name.now trace.now ∷ []) (O.view out.old) (O.view out.new) result }
 {
     match put_alone(model, name, b"", trace, out) {
+        Ok(()) => Ok(()),
+        Err(_) => Err(Refusal::CannotWrite),
+    }
+}
+
+/// Puts the text of a resumed run in one call: the clone's name, these lines, and the lines of the log after them.
+pub(crate) fn put_resumed<O: Sink>(
+    model: &Model,
+    name: &Name,
+    lines: &[u8],
+    trace: &Log,
+    out: &mut O,
+) -> Result<(), Refusal>
+    ensures done { AreDone (text_after model.now name.now lines.now trace.now ∷ [])
+        (O.view out.old) (O.view out.new) result }
+{
+    match put_alone(model, name, lines, trace, out) {
         Ok(()) => Ok(()),
         Err(_) => Err(Refusal::CannotWrite),
     }

@@ -4,19 +4,23 @@ ghost use Rattle.sim_outer.specs.Counts.{AreCounted, HasRisen};
 ghost use Rattle.net_model.specs.Text.{model};
 ghost use Rattle.decision_script.specs.Reading.{script};
 ghost use Rattle.watch_points.specs.Reading.{watches};
-ghost use Rattle.command_words.specs.Requests.{FileNames, Number, Watch, assignment_view, source_view};
-ghost use Rattle.cloner_top.specs.Reading.{IsBadModel, IsBadScript, IsBadWatches, IsNotFetched, made_text};
-ghost use Rattle.cloner_top.specs.Reading.{origin_view};
+ghost use Rattle.snapshot_text.specs.Reading.{snapshot};
+ghost use Rattle.checkpoint.specs.Accepted.{IsAccepted};
+ghost use Rattle.command_words.specs.Requests.{FileNames, Number, Resume, Watch, assignment_view, source_view};
+ghost use Rattle.cloner_top.specs.Reading.{IsBadModel, IsBadScript, IsBadSnapshot, IsBadWatches, IsNotFetched};
+ghost use Rattle.cloner_top.specs.Reading.{made_text, origin_view};
 ghost use Rattle.cloner_top.specs.Refusals.{IsMemoryOrStop};
 ghost use Rattle.cloner_top.specs.Texts.{IsTextOf, fetches_of, origin_of as origin_in, study_origin};
 
 use crate::refusal::{Refusal, Text};
 use crate::stop::Stop;
+use checkpoint::Snapshot;
 use command_words::{Assignment, Source};
 use decision_script::{Script, ScriptFault, read_script};
 use net_model::{Model, ModelFault, read_model};
 use sim_base::NoMemory;
 use sim_outer::{FetchFault, Inputs};
+use snapshot_text::{SnapshotFault, read_snapshot};
 use std::alloc::Global;
 use study_generator::{model_text, script_text};
 use watch_points::{WatchFault, Watches, read_watches};
@@ -57,6 +61,23 @@ pub(crate) fn read_watches_text(alloc: Global, text: &[u8]) -> Result<Watches, R
     }
 }
 
+/// Reads a text as a snapshot of a model.
+pub(crate) fn read_snapshot_text(
+    alloc: Global,
+    model: &Model,
+    text: &[u8],
+) -> Result<Snapshot, Refusal>
+    ensures ok { IfOk result (λ x. snapshot model.now text.now ≡ Ok x) }
+    ensures accepted { IfOk result (λ x. IsAccepted model.now x) }
+    ensures err { IfErr result (λ r. IsMemoryOrStop (IsBadSnapshot model.now text.now) r) }
+{
+    match read_snapshot(alloc, model, text) {
+        Ok(snapshot) => Ok(snapshot),
+        Err(SnapshotFault::NoMemory) => Err(Refusal::OutOfMemory),
+        Err(fault) => Err(Refusal::Stopped(Stop::BadSnapshot(fault))),
+    }
+}
+
 // Generates a text from a number: the model or the script.
 fn make_text(alloc: Global, text: Text, number: u32) -> Result<Vec<u8>, NoMemory>
     ensures { IfOk result (λ v. v.items ≡ made_text text number) }
@@ -64,7 +85,7 @@ fn make_text(alloc: Global, text: Text, number: u32) -> Result<Vec<u8>, NoMemory
     match text {
         Text::Model => model_text(alloc, number),
         Text::Script => script_text(alloc),
-        Text::Watches => Ok(Vec::new(alloc)),
+        Text::Watches | Text::Snapshot => Ok(Vec::new(alloc)),
     }
 }
 
@@ -86,7 +107,7 @@ fn origin_of_files<'a>(model: &'a str, script: &'a str, text: Text) -> Origin<'a
     match text {
         Text::Model => Origin::InFile(model),
         Text::Script => Origin::InFile(script),
-        Text::Watches => Origin::NotAsked,
+        Text::Watches | Text::Snapshot => Origin::NotAsked,
     }
 }
 
@@ -96,7 +117,7 @@ fn origin_of_number<'a>(number: u32, text: Text) -> Origin<'a>
 {
     match text {
         Text::Model | Text::Script => Origin::Made(number),
-        Text::Watches => Origin::NotAsked,
+        Text::Watches | Text::Snapshot => Origin::NotAsked,
     }
 }
 
@@ -119,6 +140,18 @@ fn origin_of_watch<'a>(model: &'a str, script: &'a str, watches: &'a str, text: 
         Text::Model => Origin::InFile(model),
         Text::Script => Origin::InFile(script),
         Text::Watches => Origin::InFile(watches),
+        Text::Snapshot => Origin::NotAsked,
+    }
+}
+
+// The source of a text of a run that goes on from a snapshot.
+fn origin_of_resume<'a>(model: &'a str, snapshot: &'a str, text: Text) -> Origin<'a>
+    ensures value { origin_view result text ≡ origin_in (Resume model.entry.now snapshot.entry.now) text }
+{
+    match text {
+        Text::Model => Origin::InFile(model),
+        Text::Snapshot => Origin::InFile(snapshot),
+        Text::Script | Text::Watches => Origin::NotAsked,
     }
 }
 
@@ -134,6 +167,7 @@ fn origin_of<'a>(assignment: &Assignment<'a>, text: Text) -> Origin<'a>
             script,
             watches,
         } => origin_of_watch(model, script, watches, text),
+        Assignment::Resume { model, snapshot } => origin_of_resume(model, snapshot, text),
     }
 }
 

@@ -17,6 +17,8 @@ pub enum Text {
     Script,
     /// The watches.
     Watches,
+    /// The snapshot.
+    Snapshot,
 }
 
 /// The error that ends the program: the first one, in the order of the statuses.
@@ -54,11 +56,12 @@ fn line_of_unread(text: Text) -> ErrorLine
         Text::Model => line_of_text("cloner: cannot read the model\n"),
         Text::Script => line_of_text("cloner: cannot read the script\n"),
         Text::Watches => line_of_text("cloner: cannot read the watches\n"),
+        Text::Snapshot => line_of_text("cloner: cannot read the snapshot\n"),
     }
 }
 
 impl Refusal {
-    /// Returns the exit status, from 1 to 9.
+    /// Returns the exit status, from 1 to 11.
     pub fn status(&self) -> u8
         ensures { result ≡ status_of self.now }
     {

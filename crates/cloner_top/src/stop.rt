@@ -1,7 +1,8 @@
 //! Why a study is not run.
 ghost use Rattle.std.specs.Prelude.{◌≡◌, ◌+◌, ◌++◌, ◌≤◌, length};
 ghost use Rattle.cloner_top.specs.Stops.{key_part, stop_line, stop_status, model_line};
-ghost use Rattle.cloner_top.specs.Stops.{script_line, decision_line, no_clone_line, watch_line, watches_line};
+ghost use Rattle.cloner_top.specs.Stops.{script_line, decision_line, no_clone_line, snapshot_line, watch_line};
+ghost use Rattle.cloner_top.specs.Stops.{watches_line};
 ghost use Rattle.cloner_top.specs.declared.error_line.TheConstants.{MAX_ERROR_LINE};
 ghost use Rattle.net_model.specs.Faults.{fault_key};
 ghost use Rattle.net_model.specs.declared.key_text.TheConstants.{MAX_KEY_TEXT_LEN};
@@ -11,6 +12,7 @@ use decision_book::Reply;
 use decision_script::ScriptFault;
 use net_model::ModelFault;
 use sim_base::Name;
+use snapshot_text::SnapshotFault;
 use watch_points::WatchFault;
 
 /// The error for which a study is not run: the first one, in the order of the statuses.
@@ -28,6 +30,8 @@ pub enum Stop {
     BadWatches(WatchFault),
     /// A watch does not fit the model and the script's clones: the first one, with its line.
     BadWatch { reply: Reply, line: u32 },
+    /// The snapshot's text is not a snapshot of the model.
+    BadSnapshot(SnapshotFault),
 }
 
 // The error line for a refused model.
@@ -108,6 +112,19 @@ fn line_of_watch(reply: &Reply, number: u32) -> ErrorLine
     line
 }
 
+// The error line for a refused snapshot: its place is a line, a station or a message.
+fn line_of_snapshot(fault: &SnapshotFault) -> ErrorLine
+    ensures { result ≡ snapshot_line fault.now }
+{
+    let mut line = ErrorLine::new();
+    line.push("cloner: snapshot: refusal ");
+    line.push_number(fault.number() as u64);
+    line.push(" at ");
+    line.push_number(fault.place() as u64);
+    line.push("\n");
+    line
+}
+
 // The error line for a name that no clone has.
 fn line_of_no_clone(name: &Name) -> ErrorLine
     ensures { result ≡ no_clone_line name.now }
@@ -120,7 +137,7 @@ fn line_of_no_clone(name: &Name) -> ErrorLine
 }
 
 impl Stop {
-    /// Returns the exit status: 4 to 6, or 9.
+    /// Returns the exit status: 4 to 6, 9 or 10.
     pub fn status(&self) -> u8
         ensures { result ≡ stop_status self.now }
     {
@@ -129,6 +146,7 @@ impl Stop {
             Stop::BadScript(_) => 5,
             Stop::BadDecision { .. } | Stop::NoClone(_) => 6,
             Stop::BadWatches(_) | Stop::BadWatch { .. } => 9,
+            Stop::BadSnapshot(_) => 10,
         }
     }
 
@@ -143,6 +161,7 @@ impl Stop {
             Stop::NoClone(name) => line_of_no_clone(name),
             Stop::BadWatches(fault) => line_of_watches(fault),
             Stop::BadWatch { reply, line } => line_of_watch(reply, *line),
+            Stop::BadSnapshot(fault) => line_of_snapshot(fault),
         }
     }
 }

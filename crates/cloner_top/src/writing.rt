@@ -4,6 +4,7 @@ ghost use Rattle.cloner_top.specs.Deciding.{clones_of_book};
 ghost use Rattle.cloner_top.specs.Endings.{MaySimulate};
 ghost use Rattle.cloner_top.specs.Outsides.{IsDone, IsHalted, IsStudyPut};
 ghost use Rattle.cloner_top.specs.Prepared.{IsReady, MayEndFrom};
+ghost use Rattle.saved_run.specs.Sayable.{AreSayable};
 ghost use Rattle.study_run.specs.Accepted.{IsAcceptedJournal};
 
 use crate::alone::write_alone;
@@ -13,7 +14,9 @@ use crate::live::write_live;
 use crate::prepared::{Decided, Prepared};
 use crate::refusal::Refusal;
 use crate::resources::Resources;
+use crate::resuming::write_resumed;
 use crate::running::{write_report, write_run, write_stats};
+use crate::saving::write_saved;
 use crate::watching::write_watched;
 use command_words::Mode;
 use crew_pool::Gate;
@@ -31,6 +34,7 @@ fn write_decided<O: Sink, G: Gate, L: Ledger, R: Threads + Wait + Sync>(
     steps: &mut Steps<L>,
 ) -> Result<(), Refusal>
     requires accepted { IsAcceptedJournal decided.now.plan.book.net decided.now.plan.book.events }
+    requires sayable { AreSayable (clones_of_book decided.now.plan.book) }
     ensures done { IsDone
         (MaySimulate decided.now.mode decided.now.plan.model.value (clones_of_book decided.now.plan.book))
         steps.old steps.new (O.view out.old) (O.view out.new) result }
@@ -41,6 +45,9 @@ fn write_decided<O: Sink, G: Gate, L: Ledger, R: Threads + Wait + Sync>(
         Mode::Stats => write_stats(resources, &decided.plan, out, steps),
         Mode::Links => write_links(resources, &decided.plan, out, steps),
         Mode::Solo(name) => write_alone(resources.alloc, &name, &decided.plan, out, steps),
+        Mode::Save { clone, until } => {
+            write_saved(resources.alloc, &clone, until, &decided.plan, out, steps)
+        }
     }
 }
 
@@ -67,6 +74,12 @@ pub(crate) fn write_prepared<O: Sink, G: Gate, L: Ledger, R: Threads + Wait + Sy
         Prepared::Undecided(study) => write_live(resources, study, out, steps),
         Prepared::Watching(watching) => {
             match write_watched(resources, watching, out, steps) {
+                Ok(()) => Ok(()),
+                Err(refusal) => Err(Halt::Refused(refusal)),
+            }
+        }
+        Prepared::Resuming(resuming) => {
+            match write_resumed(resources.alloc, resuming, out, steps) {
                 Ok(()) => Ok(()),
                 Err(refusal) => Err(Halt::Refused(refusal)),
             }

@@ -1,6 +1,5 @@
 use Rattle.cloner_top.proofs.Preparing.{few_of_two, no_fit, no_watch_decisions, no_watch_list, no_watch_script}
-use Rattle.cloner_top.proofs.Preparing.{watching_ready}
-use Rattle.cloner_top.proofs.Puts.{counted_both}
+use Rattle.cloner_top.proofs.Preparing.{watch_fetches, watching_ready}
 use Rattle.cloner_top.proofs.prepare.prepare_watch.Goals as goal
 
 pub returns-in-Err-clause-err : goal.returns-in-Err-clause-err
@@ -14,7 +13,7 @@ returns-in-Err-plan_study-clause-err g c =
 
 pub returns-in-Err-fetch_text-clause-at_most : goal.returns-in-Err-fetch_text-clause-at_most
 returns-in-Err-fetch_text-clause-at_most g c =
-    few_of_two _ _ _ _ _ c.fetch_script.ensures.counted c.fetch_text.ensures.counted
+    few_of_two _ _ _ _ _ _ c.fetch_script.ensures.counted c.fetch_text.ensures.counted
 
 pub returns-in-Err-read_watches_text-clause-err : goal.returns-in-Err-read_watches_text-clause-err
 returns-in-Err-read_watches_text-clause-err g c =
@@ -24,7 +23,7 @@ returns-in-Err-read_watches_text-clause-err g c =
 
 pub returns-in-Err-read_watches_text-clause-at_most : goal.returns-in-Err-read_watches_text-clause-at_most
 returns-in-Err-read_watches_text-clause-at_most g c =
-    few_of_two _ _ _ _ _ c.fetch_script.ensures.counted c.fetch_text.ensures.counted
+    few_of_two _ _ _ _ _ _ c.fetch_script.ensures.counted c.fetch_text.ensures.counted
 
 pub returns-in-Ok-check_watches-clause-ok : goal.returns-in-Ok-check_watches-clause-ok
 returns-in-Ok-check_watches-clause-ok g c =
@@ -35,11 +34,11 @@ returns-in-Ok-check_watches-clause-ok g c =
 
 pub returns-in-Ok-check_watches-clause-fetched : goal.returns-in-Ok-check_watches-clause-fetched
 returns-in-Ok-check_watches-clause-fetched g c =
-    counted_both _ _ _ _ _ c.fetch_script.ensures.counted c.fetch_text.ensures.counted
+    watch_fetches _ c.requires.watch _ _ _ c.fetch_script.ensures.counted c.fetch_text.ensures.counted
 
 pub returns-in-Ok-check_watches-clause-at_most : goal.returns-in-Ok-check_watches-clause-at_most
 returns-in-Ok-check_watches-clause-at_most g c =
-    few_of_two _ _ _ _ _ c.fetch_script.ensures.counted c.fetch_text.ensures.counted
+    few_of_two _ _ _ _ _ _ c.fetch_script.ensures.counted c.fetch_text.ensures.counted
 
 pub returns-clause-err : goal.returns-clause-err
 returns-clause-err g c =
@@ -49,4 +48,4 @@ returns-clause-err g c =
     c.in-Err-check_watches.ensures.err
 
 pub returns-clause-at_most : goal.returns-clause-at_most
-returns-clause-at_most g c = few_of_two _ _ _ _ _ c.fetch_script.ensures.counted c.fetch_text.ensures.counted
+returns-clause-at_most g c = few_of_two _ _ _ _ _ _ c.fetch_script.ensures.counted c.fetch_text.ensures.counted
