@@ -1,9 +1,8 @@
-//! Tests of logs that diverge: when the tail becomes a segment, and which entries are packed.
+//! Tests of long logs that are shared: the number of segments, and which entries are packed.
 
 use log_chain::Log;
-use sim_base::{Change, Entry, Job, Key, Line, Msg, NoMemory, Param, Payload};
+use sim_base::{Change, Entry, Job, Key, Line, Msg, Param, Payload};
 use std::alloc::Global;
-use std::test::Fail;
 
 /// Each kind of payload and of counts, selected by a number.
 fn contents(number: u64) -> (Payload, Line) {
@@ -74,38 +73,6 @@ fn walks_from(log: &Log, at: u64, count: u64) -> bool {
     true
 }
 
-/// A log of the first entry.
-fn begin_log(alloc: Global) -> Result<Log, NoMemory> {
-    let mut log = Log::new(alloc);
-    log.push(entry(0))?;
-    Ok(log)
-}
-
-/// Whether a log has two entries, the first and this one.
-fn goes_on_with(log: &Log, number: u64) -> bool {
-    log.len() == 2 && log.get(0) == entry(0) && log.get(1) == entry(number)
-}
-
-#[test]
-fn shared_logs_grow_apart(rt: HostRuntime) -> Result<(), Fail> {
-    let mut first = begin_log(rt.alloc())?;
-    let mut second = first.share(rt.alloc())?;
-    assert!(rt; first.segments() == 1 && second.segments() == 1);
-    assert!(rt; first.push(entry(1)).is_ok() && second.push(entry(9)).is_ok());
-    assert!(rt; goes_on_with(&first, 1) && goes_on_with(&second, 9));
-    assert!(rt; walks_from(&first, 0, 3));
-    Ok(())
-}
-
-#[test]
-fn a_copied_log_grows_apart(rt: HostRuntime) -> Result<(), Fail> {
-    let first = begin_log(rt.alloc())?;
-    let mut second = first.copy(rt.alloc())?;
-    assert!(rt; second.push(entry(2)).is_ok() && goes_on_with(&second, 2));
-    assert!(rt; first.len() == 1 && first.get(0) == entry(0));
-    Ok(())
-}
-
 /// Shares a log. Returns whether both halves have the same few segments.
 fn shares(log: &mut Log, alloc: Global) -> bool {
     match log.share(alloc) {
@@ -159,26 +126,6 @@ fn a_log_shared_behind_each_entry_has_few_segments(rt: HostRuntime) {
     assert!(rt; log.len() == 20_000 && log.segments() <= 16);
 }
 
-/// Pushes a thousand entries.
-fn push_thousand(log: &mut Log) -> bool {
-    for number in 0..1_000 {
-        if log.push(entry(number)).is_err() {
-            return false;
-        }
-    }
-    true
-}
-
-#[test]
-fn a_long_tail_is_walked(rt: HostRuntime) {
-    let mut log = Log::new(rt.alloc());
-    assert!(rt; push_thousand(&mut log) && log.segments() == 0);
-    for at in [0, 63, 64, 65, 128, 959, 960, 999, 1_000] {
-        assert!(rt; walks_from(&log, at, 1_000), "from {at}");
-    }
-    assert!(rt; log.walk_from(2_000).next().is_none());
-}
-
 /// The greatest numbers of a packed entry.
 fn greatest() -> Entry {
     Entry {
@@ -202,39 +149,7 @@ fn greatest() -> Entry {
     }
 }
 
-/// The same entry with another key, receiver, payload or line.
-fn with_key(time: u64, sender: u32, number: u64) -> Entry {
-    let entry = greatest();
-    let key = Key {
-        time,
-        sender,
-        number,
-    };
-    Entry {
-        msg: Msg { key, ..entry.msg },
-        line: entry.line,
-    }
-}
-
-fn with_receiver(to: u32) -> Entry {
-    let entry = greatest();
-    Entry {
-        msg: Msg { to, ..entry.msg },
-        line: entry.line,
-    }
-}
-
-fn with_payload(payload: Payload) -> Entry {
-    let entry = greatest();
-    Entry {
-        msg: Msg {
-            payload,
-            ..entry.msg
-        },
-        line: entry.line,
-    }
-}
-
+/// The same entry with another line.
 fn with_line(line: Line) -> Entry {
     Entry {
         msg: greatest().msg,
@@ -243,12 +158,7 @@ fn with_line(line: Line) -> Entry {
 }
 
 /// In each of these, one number is too great for a packed entry.
-fn too_great() -> [Entry; 7] {
-    let weight = Payload::Set(Change {
-        param: Param::Weight,
-        a: 1 << 32,
-        b: 0,
-    });
+fn too_great() -> [Entry; 2] {
     let wait = Line::Server {
         busy: 0,
         wait: 1 << 16,
@@ -259,15 +169,7 @@ fn too_great() -> [Entry; 7] {
         got: 0,
         stay: 1 << 48,
     };
-    [
-        with_key(1 << 30, 127, (1 << 21) - 1),
-        with_key((1 << 30) - 1, 128, (1 << 21) - 1),
-        with_key((1 << 30) - 1, 127, 1 << 21),
-        with_receiver(256),
-        with_payload(weight),
-        with_line(wait),
-        with_line(stay),
-    ]
+    [with_line(wait), with_line(stay)]
 }
 
 /// Whether a log of only this entry is packed; None if out of memory.

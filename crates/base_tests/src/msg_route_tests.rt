@@ -42,8 +42,6 @@ fn are_cut(alloc: Global, set: CloneSet, want: &[Part]) -> bool {
 fn receivers_get_what_they_share(rt: HostRuntime) {
     let two = [part(0, CloneSet::one(0)), part(1, CloneSet::one(1))];
     assert!(rt; are_cut(rt.alloc(), pair(0, 1).with(2), &two));
-    assert!(rt; are_cut(rt.alloc(), pair(2, 4), &[part(2, CloneSet::one(4))]));
-    assert!(rt; are_cut(rt.alloc(), CloneSet::one(5), &[]));
 }
 
 /// Whether these messages are joined to the wanted ones.
@@ -67,8 +65,4 @@ fn equal_messages_are_joined(rt: HostRuntime) {
         (m, CloneSet::one(2)),
     ];
     assert!(rt; are_joined(rt.alloc(), &sent, &[(m, pair(0, 2)), (n, pair(0, 1))]));
-    let before = message(2, 9);
-    let sent = [(n, CloneSet::one(1)), (before, CloneSet::one(3))];
-    let want = [(before, CloneSet::one(3)), (n, CloneSet::one(1))];
-    assert!(rt; are_joined(rt.alloc(), &sent, &want));
 }

@@ -49,35 +49,17 @@ fn has(lists: &Lists, c: u32, plans: &[Planned], end: Option<u64>) -> bool {
     c < lists.len() && lists.list(c) == plans && lists.end_of(c) == end
 }
 
-/// Whether a clone has this name.
-fn is_named(lists: &Lists, c: u32, name: Name) -> bool {
-    c < lists.len() && lists.name(c) == name && lists.find(&name) == Some(c)
-}
-
+/// Memory is reserved for two clones with one decision, and a second decision needs more.
 #[test]
 fn forks_go_separate_ways(rt: HostRuntime) -> Result<(), Fail> {
     let left = name(&rt, b"left");
-    let mut lists = Lists::new(rt.alloc())?;
+    let mut lists = Lists::with_room(rt.alloc(), 2, 1)?;
     assert!(rt; add(&mut lists, 0, plan(5, 1)) && end(&mut lists, 0, 90));
-    assert!(rt; fork(&mut lists, rt.alloc(), left));
+    let before = lists.copy(rt.alloc())?;
+    assert!(rt; fork(&mut lists, rt.alloc(), left) && lists.find(&left) == Some(1));
     assert!(rt; add(&mut lists, 0, plan(6, 2)) && add(&mut lists, 1, plan(7, 3)));
-    assert!(rt; lists.len() == 2);
-    assert!(rt; is_named(&lists, 0, name(&rt, b"base")) && is_named(&lists, 1, left));
+    assert!(rt; has(&before, 0, &[plan(5, 1)], Some(90)));
     assert!(rt; has(&lists, 0, &[plan(5, 1), plan(6, 2)], Some(90)));
     assert!(rt; has(&lists, 1, &[plan(5, 1), plan(7, 3)], None));
-    Ok(())
-}
-
-/// Memory is reserved for two clones with one decision, and a second decision needs more.
-#[test]
-fn copies_stay_as_they_were(rt: HostRuntime) -> Result<(), Fail> {
-    let mut lists = Lists::with_room(rt.alloc(), 2, 1)?;
-    assert!(rt; add(&mut lists, 0, plan(5, 1)));
-    let before = lists.copy(rt.alloc())?;
-    assert!(rt; fork(&mut lists, rt.alloc(), name(&rt, b"left")));
-    assert!(rt; end(&mut lists, 1, 40) && add(&mut lists, 0, plan(6, 2)));
-    assert!(rt; before.len() == 1 && has(&before, 0, &[plan(5, 1)], None));
-    assert!(rt; has(&lists, 0, &[plan(5, 1), plan(6, 2)], None));
-    assert!(rt; has(&lists, 1, &[plan(5, 1)], Some(40)));
     Ok(())
 }

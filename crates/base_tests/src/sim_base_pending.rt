@@ -1,4 +1,4 @@
-//! Tests of pending messages: their marks, a bound, and long lists.
+//! Tests of pending messages: long lists, and their marks.
 ghost use Rattle.std.specs.Prelude.{bit_or, bit_and, ◌==◌, if◌then◌else◌, Option, Some, None};
 
 use crate::sim_base_messages::message;
@@ -34,83 +34,9 @@ fn set(bits: u8) -> Bits {
     Bits { bits }
 }
 
-/// The message that comes first, and the one after it.
-fn first() -> Msg {
-    message(3, 1, 0)
-}
-
-fn second() -> Msg {
-    message(4, 1, 1)
-}
-
-/// These two messages; the first is put in twice.
-fn with_a_message_twice(alloc: Global) -> Result<Pending<Bits>, NoMemory> {
-    let mut pending = Pending::new(alloc);
-    pending.insert(second(), set(0b011))?;
-    pending.insert(first(), set(0b001))?;
-    pending.insert(first(), set(0b100))?;
-    Ok(pending)
-}
-
 /// Whether the least message is this one with these marks; it is removed.
 fn takes(pending: &mut Pending<Bits>, msg: Msg, marks: u8) -> bool {
     pending.take_least() == Some((msg, set(marks)))
-}
-
-#[test]
-fn equal_messages_join_marks(rt: HostRuntime) -> Result<(), Fail> {
-    let mut pending = with_a_message_twice(rt.alloc())?;
-    assert!(rt; pending.least() == Some((first(), set(0b101))));
-    assert!(rt; pending.least_with(set(0b010)) == Some((second(), set(0b010))));
-    assert!(rt; pending.least_with(set(0b1000)).is_none());
-    assert!(rt; takes(&mut pending, first(), 0b101) && takes(&mut pending, second(), 0b011));
-    assert!(rt; pending.least().is_none());
-    Ok(())
-}
-
-/// The second message is not for clone 2, which gets only the first.
-#[test]
-fn marks_are_cut(rt: HostRuntime) -> Result<(), Fail> {
-    let pending = with_a_message_twice(rt.alloc())?;
-    let mut part = pending.cut(rt.alloc(), set(0b100))?;
-    assert!(rt; takes(&mut part, first(), 0b100) && part.is_empty());
-    Ok(())
-}
-
-/// The first message is not for clone 1, and so not for clone 3, which gets what clone 1 has.
-#[test]
-fn marks_are_spread(rt: HostRuntime) -> Result<(), Fail> {
-    let mut pending = with_a_message_twice(rt.alloc())?;
-    pending.spread(set(0b010), set(0b1000));
-    assert!(rt; takes(&mut pending, first(), 0b101) && takes(&mut pending, second(), 0b1011));
-    Ok(())
-}
-
-/// Whether the only message before a bound is this one, or there is none; it is removed.
-fn takes_before(pending: &mut Pending<()>, bound: u64, want: Option<Msg>) -> bool {
-    match pending.take_before(bound) {
-        Some((msg, ())) => want == Some(msg),
-        None => want.is_none(),
-    }
-}
-
-/// Messages at 3 and 5.
-fn at_three_and_five(alloc: Global) -> Result<Pending<()>, NoMemory> {
-    let mut pending = Pending::new(alloc);
-    pending.insert(message(5, 1, 1), ())?;
-    pending.insert(first(), ())?;
-    Ok(pending)
-}
-
-#[test]
-fn a_message_at_the_bound_stays(rt: HostRuntime) -> Result<(), Fail> {
-    let mut pending = at_three_and_five(rt.alloc())?;
-    assert!(rt; pending.least_time() == Some(3));
-    assert!(rt; takes_before(&mut pending, 5, Some(first())));
-    assert!(rt; takes_before(&mut pending, 5, None) && pending.least_time() == Some(5));
-    assert!(rt; takes_before(&mut pending, 6, Some(message(5, 1, 1))));
-    assert!(rt; takes_before(&mut pending, 6, None) && pending.is_empty());
-    Ok(())
 }
 
 /// Puts a message of this time in.

@@ -1,4 +1,4 @@
-//! Messages delivered by hand to a desk, for two clones and for many.
+//! Messages delivered by hand to a desk of two clones.
 ghost use Rattle.std.specs.Prelude.{◌≡◌, ◌≤◌, ◌<◌, length, IfSome};
 ghost use Rattle.sim_base.specs.declared.lists.TheConstants.{MAX_CLONES};
 ghost use Rattle.phys_proc.specs.Procs.{IsProc};
@@ -46,17 +46,6 @@ fn faster(time: u64) -> Msg {
 
 fn both() -> CloneSet {
     CloneSet::one(0).with(1)
-}
-
-/// The clones from `first` to the one before `end`.
-fn clones_from(first: u32, end: u32) -> CloneSet
-    requires end { end ≤ MAX_CLONES }
-{
-    let mut all = CloneSet::empty();
-    for c in first..end {
-        all = all.with(c);
-    }
-    all
 }
 
 /// The desk for this number of identical clones.
@@ -167,23 +156,6 @@ fn step_desk(
     step_to(alloc, proc, &model, ends, model.horizon())
 }
 
-/// The ends of clones if only this one has an end.
-fn end_of(alloc: Global, clone: u32, at: u64) -> Option<CloneEnds>
-    requires clone { clone < MAX_CLONES }
-{
-    let mut ends = CloneEnds::none(alloc);
-    ends.end(clone, at).ok()?;
-    Some(ends)
-}
-
-/// The result if no clone has an end.
-fn step_desk_to_end(alloc: Global, clones: u32, msgs: &[(Msg, CloneSet)]) -> Option<Flow>
-    requires clones { clones ≤ MAX_CLONES }
-{
-    let ends = CloneEnds::none(alloc);
-    step_desk(alloc, ONE_DESK, clones, msgs, &ends)
-}
-
 /// A clone, the length of its log, and the number of clones that share it.
 type Share = (u32, u64, u32);
 
@@ -217,101 +189,13 @@ fn jobs() -> [(Msg, CloneSet); 3] {
 
 /// A set for one of the clones separates them: they handle 4 messages and 5, and share the first.
 fn desks_part(alloc: Global) -> Option<bool> {
-    let flow = step_desk_to_end(alloc, 2, &jobs())?;
+    let ends = CloneEnds::none(alloc);
+    let flow = step_desk(alloc, ONE_DESK, 2, &jobs(), &ends)?;
     let parts = comes_to(&flow, 8, 2, (0, 4, 1), (1, 5, 1));
     Some(parts && flow.over.is_empty() && flow.sent.len() == 4)
-}
-
-/// An ended clone takes no messages from its end on.
-fn ended_clone_is_passed_over(alloc: Global) -> Option<bool> {
-    let ends = end_of(alloc, 1, 8)?;
-    let flow = step_desk(alloc, ONE_DESK, 2, &jobs(), &ends)?;
-    Some(comes_to(&flow, 4, 2, (0, 4, 1), (1, 1, 1)))
-}
-
-/// The result if a station may handle three messages, and clone 0 ends at 8.
-fn limited_flow(alloc: Global) -> Option<Flow> {
-    let text = ONE_DESK
-        .replacen(alloc, "horizon = 20", "horizon = 20\nlimit = 3", 1)
-        .ok()?;
-    let ends = end_of(alloc, 0, 8)?;
-    step_desk(alloc, text.as_str(), 2, &jobs(), &ends)
-}
-
-/// Clone 1 exceeds that limit, and clone 0 does not.
-fn one_copy_meets_the_limit(alloc: Global) -> Option<bool> {
-    let flow = limited_flow(alloc)?;
-    Some(flow.over.first() == Some(1) && flow.over.len() == 1 && flow.handled == 3)
-}
-
-/// 256 clones in one copy handle each message once: two arrive, and two are served.
-fn all_clones_handle_once(alloc: Global) -> Option<bool> {
-    let all = clones_from(0, 256);
-    let msgs = [(job(5, 1, 0, 3), all), (job(8, 3, 1, 6), all)];
-    let flow = step_desk_to_end(alloc, 256, &msgs)?;
-    let once = comes_to(&flow, 4, 1, (0, 4, 256), (255, 4, 256));
-    Some(once && flow.sent.len() == 2)
-}
-
-/// Two jobs for three clones; from 8 on the desk of clone 1 serves faster.
-fn three_clones(alloc: Global, model: &Model) -> Option<Proc>
-    ensures proc { IfSome result (λ p. IsProc model.now p) }
-{
-    let all = clones_from(0, 3);
-    let msgs = [
-        (job(5, 1, 0, 3), all),
-        (job(8, 3, 1, 6), all),
-        (faster(8), CloneSet::one(1)),
-    ];
-    open_desk(alloc, model, 3, &msgs)
-}
-
-/// They handle the first job together up to 8.
-fn at_eight(alloc: Global, model: &Model, ends: &CloneEnds) -> Option<Proc>
-    requires time_max { 20 ≤ model.now.horizon }
-    ensures proc { IfSome result (λ p. IsProc model.now p) }
-{
-    let proc = three_clones(alloc, model)?;
-    let flow = step_to(alloc, proc, model, ends, 8)?;
-    if comes_to(&flow, 1, 1, (0, 1, 3), (1, 1, 3)) {
-        Some(flow.done)
-    } else {
-        None
-    }
-}
-
-/// From there to the end one of them is alone in its copy.
-fn split_from_eight(alloc: Global, model: &Model) -> Option<bool>
-    requires time_max { 20 ≤ model.now.horizon }
-{
-    let ends = CloneEnds::none(alloc);
-    let proc = at_eight(alloc, model, &ends)?;
-    let flow = step_to(alloc, proc, model, &ends, 20)?;
-    Some(comes_to(&flow, 7, 2, (0, 4, 2), (1, 5, 1)))
-}
-
-/// A set for one of three clones is pending up to 8, and all share a copy; then that clone gets its own copy.
-fn splits_when_it_is_handled(alloc: Global) -> Option<bool> {
-    let model = read_model(alloc, ONE_DESK.as_bytes()).ok()?;
-    if model.horizon() < 20 {
-        return None;
-    }
-    split_from_eight(alloc, &model)
 }
 
 #[test]
 fn clones_part_at_a_set(rt: HostRuntime) {
     assert!(rt; desks_part(rt.alloc()) == Some(true));
-    assert!(rt; splits_when_it_is_handled(rt.alloc()) == Some(true));
-}
-
-#[test]
-fn ends_and_limits_stop_a_clone(rt: HostRuntime) {
-    assert!(rt; ended_clone_is_passed_over(rt.alloc()) == Some(true));
-    assert!(rt; one_copy_meets_the_limit(rt.alloc()) == Some(true));
-}
-
-#[test]
-fn many_clones_handle_once(rt: HostRuntime) {
-    assert!(rt; all_clones_handle_once(rt.alloc()) == Some(true));
 }
