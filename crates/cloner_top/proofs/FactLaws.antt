@@ -10,11 +10,7 @@ use Rattle.decision_script.specs.Stating.{ScriptView}
 use Rattle.command_words.specs.declared.request.Mode.{Mode}
 use Rattle.command_words.specs.declared.request.Mode.TheVariants.{Links, Save, Solo}
 use Rattle.watch_points.specs.declared.watch.Watch as watch
-use Rattle.watch_points.specs.Checking.{fit}
-use Rattle.watch_points.specs.Reading.{watches}
 use Rattle.watch_points.specs.Triggers.{clones_with_branches}
-use Rattle.checkpoint.specs.Snapshots.{SnapshotView}
-use Rattle.snapshot_text.specs.Reading.{snapshot}
 use Rattle.study_run.specs.Limits.{until}
 use Rattle.command_words.specs.Requests.{AssignmentView, Live, Resume, Study, Watch}
 use Rattle.cloner_top.specs.declared.excess.Excess.{Excess}

@@ -35,14 +35,14 @@ use Rattle.cloner_top.specs.declared.stop.Stop.TheVariants.{BadModel, BadScript,
 use Rattle.cloner_top.specs.declared.stop.Stop.TheVariants.{BadSnapshot, NoClone}
 use Rattle.cloner_top.specs.Answers.{IsLawfulEnding}
 use Rattle.cloner_top.specs.Deciding.{IsDecided, IsRefusal, clones_of, clones_of_book, first_refused}
-use Rattle.cloner_top.specs.Endings.{Ending, MayDecide, MayEnd, MayGoOn, MayLive, MayResume, MayRunWatched}
+use Rattle.cloner_top.specs.Endings.{Ending, MayEnd, MayGoOn, MayLive, MayResume, MayRunWatched}
 use Rattle.cloner_top.specs.Endings.{MaySimulate, MayStudy, MayWatch, early_stop}
 use Rattle.cloner_top.specs.Endings as ends
 use Rattle.cloner_top.specs.Prepared.{IsNotPrepared}
 use Rattle.cloner_top.specs.Reading.{IsBadModel, IsBadScript, IsBadSnapshot, IsBadWatch, IsBadWatches, IsModelOf}
 use Rattle.cloner_top.specs.Reading.{IsNoScriptOf, IsNotFetched, IsScriptOf, IsUnscripted}
 use Rattle.cloner_top.specs.Refusals.{IsMemoryOrStop}
-use Rattle.cloner_top.specs.Texts.{AreTexts, HasPlan, IsDue, IsText, IsTextOf, IsUnread, fetches_of, known_from}
+use Rattle.cloner_top.specs.Texts.{AreTexts, IsDue, IsText, IsTextOf, IsUnread, fetches_of, known_from}
 use Rattle.cloner_top.specs.Texts.{later_fetches}
 use Rattle.cloner_top.specs.Texts.{origin_of, study_origin}
 use Rattle.cloner_top.proofs.Puts.{counted_both}

@@ -1,5 +1,5 @@
 -- The result of a run that is saved.
-use Rattle.std.proofs.Common.{◌≡◌, ◌<◌, ◌≤◌, ℕ, ◌+◌, arith, refl, sym, ap, subst, ◌∙◌, List, [], ◌∷◌, length, Some, Result}
+use Rattle.std.proofs.Common.{◌≡◌, ◌<◌, ◌≤◌, ℕ, arith, sym, ap, subst, ◌∙◌, List, [], ◌∷◌, length, Some, Result}
 use Rattle.std.proofs.Common.{Bool, false, Ok, Err, le-leb}
 use Rattle.std.specs.Prelude.{if◌then◌else◌, nat_le}
 use Rattle.std.proofs.lemmas.Bool.Decides.{nat_tests}

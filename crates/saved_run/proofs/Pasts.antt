@@ -1,6 +1,6 @@
 -- The entries of a run up to a front are counted by the states that its snapshot restores.
 use Rattle.std.proofs.Common.{◌≡◌, ℕ, zero, suc, ◌+◌, ◌<◌, ◌≤◌, ◌⊎◌, inl, inr, List, [], ◌∷◌, ◌++◌, length, refl, sym}
-use Rattle.std.proofs.Common.{ap, ap₂, ◌∙◌, subst, arith, min, Option, Some, slice_get, ◌==◌, false, append-nil, append_assoc}
+use Rattle.std.proofs.Common.{ap, ◌∙◌, subst, arith, min, ◌==◌, false, append-nil, append_assoc}
 use Rattle.std.proofs.Common.{length-append}
 use Rattle.std.specs.List.{AllByRecursion, sum_by}
 use Rattle.std.proofs.lemmas.Bool.{cases_eq, cases_lt, ne_eqb}
@@ -21,7 +21,7 @@ use Rattle.run_laws.proofs.Worlds.{log_here, log_there}
 use Rattle.net_model.specs.Net.{Net}
 use Rattle.net_model.specs.Rules.{IsNet}
 use Rattle.stations.specs.Handling.{StateView}
-use Rattle.stations.specs.Runs.{replay, simulation}
+use Rattle.stations.specs.Runs.{simulation}
 use Rattle.stations.proofs.GoodLaws.{lawful-stations, stations-to_stations}
 use Rattle.stations.proofs.ReplayLaws.{replay-counts}
 use Rattle.solo_run.specs.Limit.{receiver}

@@ -1,5 +1,5 @@
 -- The text of a saved run is read back, and the run from it is unbroken.
-use Rattle.std.proofs.Common.{◌≡◌, ℕ, ◌∙◌, ◌<◌, ◌≤◌, sym, ap, subst, arith, inl, inr, List, [], length, length-append, min}
+use Rattle.std.proofs.Common.{◌≡◌, ℕ, ◌∙◌, ◌<◌, ◌≤◌, sym, ap, subst, arith, inl, inr, [], length, length-append, min}
 use Rattle.std.proofs.Math.Nat.{min-eq_left, min-eq_right, min-le_right}
 use Rattle.std.proofs.lemmas.Bool.{cases_lt}
 use Rattle.sim_base.specs.Clones.{Clone, clone_at}
@@ -8,7 +8,6 @@ use Rattle.run_laws.specs.World.{log_of}
 use Rattle.net_model.specs.Net.{HasStation, Net}
 use Rattle.net_model.specs.Rules.{IsNet}
 use Rattle.stations.specs.Runs.{log_at, simulation, trace_of}
-use Rattle.decision_book.specs.Plans.{ArePlanned}
 use Rattle.study_run.specs.Limits.{IsWithin, last_time, until}
 use Rattle.study_run.proofs.Fulls.{met_alone, within_alone, within_is_not_full}
 use Rattle.study_run.proofs.SoloRuns.{last_time-within}
@@ -20,7 +19,6 @@ use Rattle.checkpoint.specs.Snapshots.{onward}
 use Rattle.checkpoint.proofs.RunSnapshots.{resumed_run_is_unbroken}
 use Rattle.snapshot_text.proofs.RunTexts.{resumed_run}
 use Rattle.saved_run.specs.Laws.{SavedRunsAreResumed}
-use Rattle.saved_run.specs.Sayable.{AreSayable}
 use Rattle.saved_run.proofs.Pasts.{past_is_counted, past_is_short}
 use Rattle.saved_run.proofs.Runs.{is_sayable_clone, last_time-within_end}
 

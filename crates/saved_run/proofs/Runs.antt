@@ -1,7 +1,6 @@
 -- The run of a clone until a time, as a run of which a snapshot can be made.
-use Rattle.std.proofs.Common.{◌≡◌, ℕ, zero, suc, ◌∙◌, ◌<◌, ◌≤◌, refl, sym, ap, subst, arith, List, [], ◌∷◌, length, min}
-use Rattle.std.proofs.Common.{Option, unwrap_or, true}
-use Rattle.std.specs.List.{AllByRecursion, flat_map}
+use Rattle.std.proofs.Common.{◌≡◌, ℕ, zero, suc, ◌∙◌, ◌<◌, ◌≤◌, sym, ap, subst, arith, List, [], ◌∷◌, length, min}
+use Rattle.std.specs.List.{flat_map}
 use Rattle.std.proofs.Math.Nat.{min-le_right}
 use Rattle.sim_base.specs.Clones.{Clone, clone_at}
 use Rattle.sim_base.specs.declared.decision.Planned.{Planned}

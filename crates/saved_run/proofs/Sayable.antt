@@ -1,7 +1,7 @@
 -- Words can say the clones of a script.
-use Rattle.std.proofs.Common.{◌≡◌, ℕ, zero, suc, refl, ap, ap₂, ◌∙◌, List, [], ◌∷◌, length, slice_set, Bool, true, false}
+use Rattle.std.proofs.Common.{◌≡◌, ℕ, zero, suc, refl, ap₂, List, [], ◌∷◌, length, slice_set, Bool, true, false}
 use Rattle.std.proofs.Common.{eq-eqb, le-leb}
-use Rattle.std.specs.Prelude.{◌==◌, ◌≤◌, ◌&&◌, nat_le, if◌then◌else◌, MatchBool}
+use Rattle.std.specs.Prelude.{◌==◌, ◌&&◌, nat_le, if◌then◌else◌, MatchBool}
 use Rattle.std.specs.List.{AllByRecursion}
 use Rattle.std.proofs.lemmas.List.Elements.{recursion_from_All}
 use Rattle.sim_base.specs.Clones.{Clone, clone_at, fork_of, with_end, with_plan}

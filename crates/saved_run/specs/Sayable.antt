@@ -1,5 +1,5 @@
 -- Clones that words can say: what the text of a script gives to its clones.
-use Rattle.std.specs.Prelude.{◌≡◌, ℕ, List, true}
+use Rattle.std.specs.Prelude.{◌≡◌, List, true}
 use Rattle.std.specs.List.{AllByRecursion}
 use Rattle.sim_base.specs.Clones.{Clone}
 use Rattle.sim_base.specs.Names.{is_name}
