@@ -3,10 +3,11 @@
 
     tools/refuse_memory.py [--bin FILE] [--after] [--step N] [-- WORD ..]
 
-The words are those of the command line of `cloner`, by default `run` of the small example. For n = 1,
-2, .. the program runs with its n-th allocation refused (with --after also all later ones), until a run
-asks for fewer than n. Each run must end with status 0 and the whole output, or with status 1, nothing
-on the output and the line that says so. It needs gcc and a C library that is linked dynamically.
+The words are those of the command line of `cloner`. By default they are those of `run`, `save` and
+`resume` of the small example, one after the other. For n = 1, 2, .. the program runs with its n-th
+allocation refused (with --after also all later ones), until a run asks for fewer than n. Each run must
+end with status 0 and the whole output, or with status 1, nothing on the output and the line that says
+so. It needs gcc and a C library that is linked dynamically.
 """
 import argparse
 import collections
@@ -19,7 +20,7 @@ from pathlib import Path
 HERE = Path(__file__).resolve().parent
 TOP = HERE.parent
 BUILT = TOP / "crates" / "cloner_cli" / "out" / "cloner_cli"
-SMALL = ["run", str(TOP / "examples" / "small.toml"), str(TOP / "examples" / "small.txt")]
+MODEL, SCRIPT = str(TOP / "examples" / "small.toml"), str(TOP / "examples" / "small.txt")
 OUT_OF_MEMORY = b"cloner: out of memory\n"
 
 
@@ -29,8 +30,19 @@ def arguments():
     parser.add_argument("--bin", type=Path, metavar="FILE", default=BUILT, help="the program; by default as built")
     parser.add_argument("--after", action="store_true", help="refuse all allocations from the n-th on")
     parser.add_argument("--step", type=int, default=1, metavar="N", help="try every N-th number only; by default 1")
-    parser.add_argument("words", nargs="*", metavar="WORD", help="the words; by default run of the small example")
+    parser.add_argument("words", nargs="*", metavar="WORD", help="the words; by default three modes of the small example")
     return parser.parse_args()
+
+
+def commands(chosen, folder):
+    """The command lines that are tried; the snapshot that is resumed is written into the folder."""
+    program = str(chosen.bin.resolve())
+    if chosen.words:
+        return [[program, *chosen.words]]
+    save = [program, "save", MODEL, SCRIPT, "--clone", "fast", "--until", "10"]
+    snapshot = folder / "snapshot.txt"
+    snapshot.write_bytes(subprocess.run(save, capture_output=True, check=False).stdout)
+    return [[program, "run", MODEL, SCRIPT], save, [program, "resume", MODEL, str(snapshot)]]
 
 
 def library(folder):
@@ -79,17 +91,25 @@ def tried(command, preload, chosen):
         number += chosen.step
 
 
-def main():
-    """Tries all numbers and says what came out; status 1 where a run ended badly."""
-    chosen = arguments()
-    command = [str(chosen.bin.resolve())] + (chosen.words or SMALL)
-    with tempfile.TemporaryDirectory() as folder:
-        statuses, faults, asked = tried(command, library(Path(folder)), chosen)
+def report(command, statuses, faults, asked):
+    """Prints what came out for a command."""
     counts = ", ".join(f"status {status}: {count}" for status, count in sorted(statuses.items()))
-    print(f"{asked} allocations, {sum(statuses.values())} refused in turn; {counts}; {len(faults)} runs ended badly")
+    print(f"{command[1]}: {asked} allocations, {sum(statuses.values())} refused in turn; {counts}; "
+          f"{len(faults)} runs ended badly")
     for number, why in faults[:20]:
         print(f"  allocation {number}: {why}")
-    sys.exit(bool(faults))
+
+
+def main():
+    """Tries all numbers and says what came out; status 1 where a run ended badly."""
+    chosen, bad = arguments(), False
+    with tempfile.TemporaryDirectory() as folder:
+        preload = library(Path(folder))
+        for command in commands(chosen, Path(folder)):
+            statuses, faults, asked = tried(command, preload, chosen)
+            report(command, statuses, faults, asked)
+            bad = bad or bool(faults)
+    sys.exit(bad)
 
 
 if __name__ == "__main__":

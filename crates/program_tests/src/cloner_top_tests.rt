@@ -9,6 +9,8 @@ mod live;
 mod many;
 mod models;
 mod refusals;
+mod snapshot_faults;
+mod snapshots;
 mod statistics;
 mod texts;
 mod watches;
@@ -79,7 +81,7 @@ impl Outcome {
     }
 }
 
-/// A command over a model in the file `m` and a script in the file `s`, with its result. In the model the first `old`
+/// A command over a model in the file `m` and a script or a snapshot in the file `s`, with its result. In the model the first `old`
 /// is replaced by `new`.
 #[derive(Clone, Copy)]
 struct Row<'a> {
@@ -107,12 +109,20 @@ const LIVE: &[&str] = &["live", "m", "s"];
 /// `watch` of these files and the watches in `w`.
 const WATCH: &[&str] = &["watch", "m", "s", "w"];
 
+/// `save` of the base clone of the model in `m` and the script in `s`, until 10.
+const SAVE_10: &[&str] = &["save", "m", "s", "--clone", "base", "--until", "10"];
+
+/// `resume` of the model in `m` and the snapshot in `s`.
+const RESUME: &[&str] = &["resume", "m", "s"];
+
 /// The error lines for a file that is not read, and for output that is cut off.
 const NO_MODEL: &str = "cloner: cannot read the model\n";
 
 const NO_SCRIPT: &str = "cloner: cannot read the script\n";
 
 const NO_WATCHES: &str = "cloner: cannot read the watches\n";
+
+const NO_SNAPSHOT: &str = "cloner: cannot read the snapshot\n";
 
 const CUT: &str = "cloner: cannot write\n";
 

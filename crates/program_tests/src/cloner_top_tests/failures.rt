@@ -1,7 +1,7 @@
 //! Tests of inputs and sinks that fail.
 use super::{
-    CUT, FAST, GOOD, LIVE, NO_MODEL, NO_SCRIPT, Outside, RUN, SOLO_BASE, begins_both, run_program,
-    texts,
+    CUT, FAST, GOOD, LIVE, NO_MODEL, NO_SCRIPT, NO_SNAPSHOT, Outside, RESUME, RUN, SAVE_10,
+    SOLO_BASE, begins_both, run_program, texts,
 };
 use crew_pool::NoGate;
 use sample_models::ONE_DESK;
@@ -59,9 +59,15 @@ fn is_unread<R: Threads + Wait + Sync>(
 /// Each of the two fetches fails, in each mode that makes it.
 #[test]
 fn fetches_fail(rt: HostRuntime) -> Result<(), Fail> {
-    for (mode, words) in [("run", RUN), ("solo", SOLO_BASE), ("live", LIVE)] {
+    for (mode, words, second) in [
+        ("run", RUN, NO_SCRIPT),
+        ("solo", SOLO_BASE, NO_SCRIPT),
+        ("live", LIVE, NO_SCRIPT),
+        ("save", SAVE_10, NO_SCRIPT),
+        ("resume", RESUME, NO_SNAPSHOT),
+    ] {
         assert!(rt; is_unread(&rt, rt.alloc(), words, 1, NO_MODEL), "{}", mode);
-        assert!(rt; is_unread(&rt, rt.alloc(), words, 2, NO_SCRIPT), "{}", mode);
+        assert!(rt; is_unread(&rt, rt.alloc(), words, 2, second), "{}", mode);
     }
     Ok(())
 }

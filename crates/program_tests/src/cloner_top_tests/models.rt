@@ -172,3 +172,56 @@ link = [{ to = "desk", delay = 2 }, { to = "out", delay = 2 }]
 name = "out"
 kind = "sink"
 "#;
+
+/// Stations of each kind, all with random numbers, and a desk from which some jobs go back to the router.
+pub const FIVE_KINDS: &str = r#"lookahead = 2
+horizon = 40
+seed = 56
+[[station]]
+name = "gate"
+kind = "source"
+every = [1, 3]
+jobs = 9
+link = [{ to = "fan", delay = 2 }]
+[[station]]
+name = "fan"
+kind = "router"
+by = "weights"
+link = [{ to = "slow", delay = 2, weight = 2 }, { to = "desk", delay = 3 }]
+[[station]]
+name = "slow"
+kind = "delay"
+hold = [0, 4]
+link = [{ to = "desk", delay = 2 }]
+[[station]]
+name = "desk"
+kind = "server"
+servers = 1
+room = 3
+service = [2, 6]
+link = [{ to = "fan", delay = 2 }, { to = "out", delay = 2, weight = 3 }]
+[[station]]
+name = "out"
+kind = "sink"
+"#;
+
+/// A desk at which something happens at each time.
+pub const STEADY_DESK: &str = r#"lookahead = 1
+horizon = 5000
+[[station]]
+name = "gate"
+kind = "source"
+every = [1, 1]
+jobs = 5000
+link = [{ to = "desk", delay = 1 }]
+[[station]]
+name = "desk"
+kind = "server"
+servers = 1
+room = 5
+service = [1, 1]
+link = [{ to = "out", delay = 2 }]
+[[station]]
+name = "out"
+kind = "sink"
+"#;

@@ -523,6 +523,99 @@ out copies=1 handled=0 alone=0
 total handled=0 alone=0
 "#;
 
+/// The snapshot of `BASE` at 10.
+pub const SAVED: &str = r#"snapshot base front 10 end -
+station 1 next 4 drawn 2 handled 2 source 3 3 2
+station 2 next 3 drawn 2 handled 3 server 1 5 4 4 1 1 0 line 0
+station 3 next 0 drawn 0 handled 0 sink 0 0
+pending 2
+11 2 1 3 job 1.0.3
+13 2 2 2 done 1.1.6
+trace 5
+3 gate gate 0 tick sent=1
+5 desk gate 1 job gate.0 busy=1 wait=0 done=0 lost=0
+6 gate gate 2 tick sent=2
+8 desk gate 3 job gate.1 busy=1 wait=1 done=0 lost=0
+9 desk desk 0 done gate.0 busy=1 wait=0 done=1 lost=0
+"#;
+
+/// The snapshot of `BASE` at 13.
+pub const SAVED_AT_13: &str = r#"snapshot base front 13 end -
+station 1 next 4 drawn 2 handled 2 source 3 3 2
+station 2 next 3 drawn 2 handled 3 server 1 5 4 4 1 1 0 line 0
+station 3 next 0 drawn 0 handled 1 sink 1 8
+pending 1
+13 2 2 2 done 1.1.6
+trace 6
+3 gate gate 0 tick sent=1
+5 desk gate 1 job gate.0 busy=1 wait=0 done=0 lost=0
+6 gate gate 2 tick sent=2
+8 desk gate 3 job gate.1 busy=1 wait=1 done=0 lost=0
+9 desk desk 0 done gate.0 busy=1 wait=0 done=1 lost=0
+11 out desk 1 job gate.0 got=1 stay=8
+"#;
+
+/// The snapshot of the opening stations.
+pub const SAVED_AT_0: &str = r#"snapshot base front 0 end -
+station 1 next 1 drawn 1 handled 0 source 3 3 0
+station 2 next 0 drawn 0 handled 0 server 1 5 4 4 0 0 0 line 0
+station 3 next 0 drawn 0 handled 0 sink 0 0
+pending 1
+3 1 0 1 tick
+trace 0
+"#;
+
+/// The snapshot of `LATE_HIGH` at 9.
+pub const LATE_HIGH_SAVED: &str = r#"snapshot base front 9 end -
+station 1 next 4 drawn 2 handled 2 source 3 3 2
+station 2 next 2 drawn 1 handled 1 source 7 7 1
+station 3 next 1 drawn 1 handled 2 server 1 5 4 4 1 0 0 line 1 1.1.6
+station 4 next 0 drawn 0 handled 0 sink 0 0
+pending 2
+9 2 1 3 job 2.0.7
+9 3 0 3 done 1.0.3
+trace 5
+3 low low 0 tick sent=1
+5 desk low 1 job low.0:2 busy=1 wait=0 done=0 lost=0
+6 low low 2 tick sent=2
+7 high high 0 tick sent=1
+8 desk low 3 job low.1:2 busy=1 wait=1 done=0 lost=0
+"#;
+
+/// A snapshot of stations of each kind, for a clone with an end: two jobs wait, and a weight was changed.
+pub const FIVE_KINDS_SAVED: &str = r#"snapshot night front 10 end 33
+station 1 next 11 drawn 6 handled 5 source 1 3 5
+station 2 next 4 drawn 4 handled 5 router 4 3 1
+station 3 next 1 drawn 1 handled 1 delay 0 4 1
+station 4 next 1 drawn 1 handled 3 server 1 3 2 6 1 0 0 line 2 1.2.3 1.1.2
+station 5 next 0 drawn 0 handled 0 sink 0 0
+pending 9
+10 4 0 4 done 1.0.1
+11 0 2 4 set room 1
+11 1 9 2 job 1.4.9
+11 2 3 4 job 1.3.6
+12 1 10 1 tick
+15 0 3 3 set hold 1 1
+15 0 4 1 set every 1 1
+17 0 1 4 set servers 2
+21 0 5 4 set service 5 5
+trace 14
+1 gate gate 0 tick sent=1
+2 gate gate 2 tick sent=2
+3 fan gate 1 job gate.0 passed=1
+3 gate gate 4 tick sent=3
+4 fan gate 3 job gate.1 passed=2
+5 fan gate 5 job gate.2 passed=3
+6 fan analyst 0 set weight 1 3 passed=3
+6 gate gate 6 tick sent=4
+6 desk fan 0 job gate.0 busy=1 wait=0 done=0 lost=0
+6 slow fan 1 job gate.1 passed=1
+8 fan gate 7 job gate.3 passed=4
+8 desk fan 2 job gate.2 busy=1 wait=1 done=0 lost=0
+9 gate gate 8 tick sent=5
+9 desk slow 0 job gate.1 busy=1 wait=2 done=0 lost=0
+"#;
+
 /// The decisions of three analysts on the clinic.
 pub const CLINIC_SCRIPT: &str = r#"analyst ada
 fork more_staff from base

@@ -1,5 +1,5 @@
 //! Tests of command lines, missing files, and generated studies.
-use super::{GOOD, NO_MODEL, NO_SCRIPT, PLAIN, REFUSED, Row, run_program};
+use super::{GOOD, NO_MODEL, NO_SCRIPT, NO_SNAPSHOT, PLAIN, REFUSED, Row, run_program};
 use command_words::usage_line;
 use crew_pool::NoGate;
 use std::alloc::Global;
@@ -8,7 +8,7 @@ use std::test::Fail;
 use std::thread::Threads;
 
 const USAGE: &str =
-    "usage: cloner run MODEL SCRIPT [--workers N], solo MODEL SCRIPT --clone NAME, live MODEL SCRIPT [--workers N], gen NUMBER [--workers N], watch MODEL SCRIPT WATCHES [--workers N], stats MODEL SCRIPT [--workers N], links MODEL SCRIPT [--workers N]\n";
+    "usage: cloner run MODEL SCRIPT [--workers N], solo MODEL SCRIPT --clone NAME, live MODEL SCRIPT [--workers N], gen NUMBER [--workers N], watch MODEL SCRIPT WATCHES [--workers N], stats MODEL SCRIPT [--workers N], save MODEL SCRIPT --clone NAME --until T, resume MODEL SNAPSHOT, links MODEL SCRIPT [--workers N]\n";
 
 /// What a command line shows, and its words.
 type Words = (&'static str, &'static [&'static str]);
@@ -52,6 +52,52 @@ const NO_FORM: &[Words] = &[
     (
         "a clone where all have statistics",
         &["stats", "m", "s", "--clone", "base"],
+    ),
+    ("no time to save at", &["save", "m", "s", "--clone", "base"]),
+    ("no clone to save", &["save", "m", "s", "--until", "10"]),
+    (
+        "no script of the clone to save",
+        &["save", "m", "--clone", "base", "--until", "10"],
+    ),
+    (
+        "a leading zero of a time",
+        &["save", "m", "s", "--clone", "base", "--until", "010"],
+    ),
+    (
+        "a time too great",
+        &["save", "m", "s", "--clone", "base", "--until", "4294967296"],
+    ),
+    (
+        "an empty time",
+        &["save", "m", "s", "--clone", "base", "--until", ""],
+    ),
+    (
+        "workers for a snapshot",
+        &[
+            "save",
+            "m",
+            "s",
+            "--clone",
+            "base",
+            "--until",
+            "1",
+            "--workers",
+            "2",
+        ],
+    ),
+    (
+        "a time for a whole run",
+        &["solo", "m", "s", "--clone", "base", "--until", "10"],
+    ),
+    ("no snapshot", &["resume", "m"]),
+    ("a file after the snapshot", &["resume", "m", "s", "x"]),
+    (
+        "a clone of a snapshot",
+        &["resume", "m", "s", "--clone", "base"],
+    ),
+    (
+        "a time for a snapshot's run",
+        &["resume", "m", "s", "--until", "10"],
     ),
     ("help", &["--help"]),
 ];
@@ -103,7 +149,14 @@ fn files_that_are_not_there(rt: HostRuntime) -> Result<(), Fail> {
         errors: NO_SCRIPT,
         ..REFUSED
     };
+    let snapshot = Row {
+        words: &["resume", "m", "-"],
+        status: 3,
+        errors: NO_SNAPSHOT,
+        ..REFUSED
+    };
     assert!(rt; model.holds(&rt, rt.alloc()) && script.holds(&rt, rt.alloc()));
+    assert!(rt; snapshot.holds(&rt, rt.alloc()));
     Ok(())
 }
 
