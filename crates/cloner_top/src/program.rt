@@ -141,12 +141,12 @@ fn run_or_report<I: Inputs, O: Sink, E: Sink, G: Gate, L: Ledger, R: Threads + W
 /// - `watch MODEL SCRIPT WATCHES` creates a branch when a watched line gets long. It writes what `run` writes, in
 ///   the order of the watches.
 /// - `stats MODEL SCRIPT` runs as `run` does, and writes the statistics of each clone's servers.
-/// - `links MODEL SCRIPT` runs in rounds with a clock for each link. It writes what `run` writes, and then the number
-///   of rounds.
 /// - `save MODEL SCRIPT --clone NAME --until T` runs one clone alone until T, or to its end or the horizon if they are
 ///   earlier. It writes the text of a snapshot.
 /// - `resume MODEL SNAPSHOT` goes on from a snapshot. It writes the trace of the clone: the lines of the snapshot, and
 ///   those that follow.
+/// - `links MODEL SCRIPT` runs in rounds with a clock for each link. It writes what `run` writes, and then the number
+///   of rounds.
 ///
 /// Each text is put in one call, and all memory is allocated before the first put. The status is 0 if everything is
 /// written. Otherwise one line to the error sink says why. If a live study exceeds the limit, its journal precedes that
