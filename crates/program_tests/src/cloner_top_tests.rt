@@ -81,8 +81,8 @@ impl Outcome {
     }
 }
 
-/// A command over a model in the file `m` and a script or a snapshot in the file `s`, with its result. In the model the first `old`
-/// is replaced by `new`.
+/// A command over a model in the file `m` and a script or a snapshot in the file `s`, with its result. In the model the
+/// first `old` is replaced by `new`.
 #[derive(Clone, Copy)]
 struct Row<'a> {
     shows: &'a str,

@@ -1,5 +1,6 @@
 //! Tests of snapshots that were changed: what is refused at which place, and what goes on.
-use super::{PLAIN, REFUSED, RESUME, Row, models, texts};
+use super::{GOOD, RESUME, models, run_program, texts};
+use crew_pool::NoGate;
 use sample_models::ONE_DESK;
 use sim_base::NoMemory;
 use std::alloc::Global;
@@ -193,15 +194,8 @@ fn is_refused<R: Threads + Wait + Sync>(
     let (old, new, place) = *damage;
     let snapshot = snapshot.replacen(alloc, old, new, 1)?;
     let errors = format!(in alloc; "cloner: snapshot: refusal {place}\n")?;
-    let row = Row {
-        words: RESUME,
-        model,
-        script: snapshot.as_str(),
-        status: 10,
-        errors: errors.as_str(),
-        ..REFUSED
-    };
-    Ok(row.holds(rt, alloc))
+    let ended = run_program(rt, alloc, &NoGate, RESUME, model, snapshot.as_str(), &GOOD)?;
+    Ok(ended.is(10, b"", errors.as_str()))
 }
 
 #[test]
@@ -374,14 +368,16 @@ fn goes_on<R: Threads + Wait + Sync>(
     let (old, new, from, to) = *change;
     let snapshot = texts::SAVED.replacen(alloc, old, new, 1)?;
     let trace = texts::BASE.replacen(alloc, from, to, 1)?;
-    let row = Row {
-        words: RESUME,
-        script: snapshot.as_str(),
-        traces: trace.as_str(),
-        report: "",
-        ..PLAIN
-    };
-    Ok(row.holds(rt, alloc))
+    let ended = run_program(
+        rt,
+        alloc,
+        &NoGate,
+        RESUME,
+        ONE_DESK,
+        snapshot.as_str(),
+        &GOOD,
+    )?;
+    Ok(ended.is(0, trace.as_bytes(), ""))
 }
 
 #[test]
