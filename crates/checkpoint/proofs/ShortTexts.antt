@@ -9,8 +9,7 @@ use Rattle.std.proofs.lemmas.Bool.{and_parts, le-leb, leb-true}
 use Rattle.std.proofs.lemmas.Bool.Decides.{nat_tests}
 use Rattle.std.proofs.lemmas.Fmt.{digits_decimal, length-decimal-le}
 use Rattle.std.proofs.lemmas.List.Folds.{list_all-append}
-use Rattle.std.proofs.lemmas.Str.Parse.{IsDigitsTest, numerals_by_value}
-use Rattle.sim_base.proofs.ListLaws.{take-append}
+use Rattle.sim_base.proofs.ListLaws.{list_all-weaker, take-append}
 use Rattle.sim_base.specs.Names.{is_digit, is_lower, is_name, is_name_byte}
 use Rattle.sim_base.specs.Params.{param_word}
 use Rattle.sim_base.specs.declared.entry.Entry.{Entry}
@@ -22,8 +21,8 @@ use Rattle.sim_base.specs.declared.message.Param.{Param}
 use Rattle.sim_base.specs.declared.message.Param.TheVariants.{Every, Service, Hold, Servers, Room, Weight}
 use Rattle.sim_base.specs.declared.message.Payload.{Payload}
 use Rattle.sim_base.specs.declared.message.Payload.TheVariants.{Tick, Job, Done, Set}
+use Rattle.sim_base.proofs.Digits.{digit_numerals}
 use Rattle.decision_script.specs.declared.number.TheConstants.{MAX_NUMBER}
-use Rattle.decision_script.proofs.JoinedWords.{list_all-weaker}
 use Rattle.net_model.specs.Net.{Net, Site, class_from, class_of_kind, is_source, site_at, site_of}
 use Rattle.net_model.specs.Rules.{IsKind, IsNet}
 use Rattle.net_model.specs.declared.limits.TheConstants.{MAX_JOBS}
@@ -62,21 +61,12 @@ short-weaker a b x le h =
 short-codes : (most : ℕ) (x : List ℕ) → length x ≤ most → list_all is_printed x ≡ true → IsShort most x
 short-codes most x le all = record { length_max = le; printed = all }
 
--- the decimal digits of a number
-digits_printed : IsDigitsTest (λ ds. list_all is_digit ds ≡ true)
-digits_printed = record {
-  empty = refl;
-  parts = λ c cs h. let (digit, rest) = and_parts (is_digit c) (list_all is_digit cs) h in
-      (grind (arith, nat_tests), rest);
-  more = λ c cs range rest. grind (arith, nat_tests);
-}
-
 digit_printed : (b : ℕ) → is_digit b ≡ true → is_printed b ≡ true
 digit_printed b h = grind (arith, nat_tests)
 
 decimal_printed : (n : ℕ) → n < 2 ^ 64 → list_all is_printed (decimal n) ≡ true
 decimal_printed n wide = list_all-weaker is_digit is_printed digit_printed (decimal n)
-    (digits_decimal (numerals_by_value _ digits_printed) n wide)
+    (digits_decimal digit_numerals n wide)
 
 short-decimal : (n : ℕ) → n ≤ MAX_NUMBER → IsShort 10 (decimal n)
 short-decimal n le =

@@ -10,12 +10,12 @@ use Rattle.sim_base.specs.Clones.{Clone}
 use Rattle.sim_base.specs.declared.entry.Entry.{Entry}
 use Rattle.sim_base.specs.declared.entry.Line.{Line}
 use Rattle.sim_base.specs.declared.message.Msg.{Msg}
+use Rattle.sim_base.proofs.ListLaws.{list_all-weaker}
 use Rattle.run_laws.specs.Machine.{Config}
 use Rattle.run_laws.specs.Runs.{end_of, run}
 use Rattle.run_laws.specs.World.{World, log_of}
 use Rattle.net_model.specs.Net.{Net, HasStation}
 use Rattle.decision_script.specs.Lines.{is_newline}
-use Rattle.decision_script.proofs.JoinedWords.{list_all-weaker}
 use Rattle.solo_run.specs.SoloView.{SoloView, state_of}
 use Rattle.stations.specs.Handling.{StateView}
 use Rattle.stations.specs.Opening.{setup}

@@ -8,6 +8,7 @@ use Rattle.std.proofs.lemmas.List.Splits.{slice_split-cons_yes, slice_split-cons
 use Rattle.std.proofs.lemmas.Bool.{and_parts}
 use Rattle.std.proofs.lemmas.Bool.Decides.{nat_tests}
 use Rattle.sim_base.specs.declared.name.TheConstants.{MAX_NAME_LEN}
+use Rattle.sim_base.proofs.ListLaws.{list_all-weaker}
 use Rattle.decision_script.specs.Lines.{is_blank, is_newline, has_bytes, words, lines, is_ascii}
 use Rattle.decision_script.specs.Sentences.{saying, line_saying}
 use Rattle.decision_script.specs.Printing.{line_text}
@@ -77,14 +78,6 @@ words-join (w ∷ v ∷ ws) h =
     ∙ ap (λ rest. w ∷ rest) (words-join (v ∷ ws) h.1)
 
 -- ---- list_all
-
--- if one test is stronger than another, so it is with all elements
-pub list_all-weaker : {X : Type 0} (p q : X → Bool) → ((x : X) → p x ≡ true → q x ≡ true) → (xs : List X)
-    → list_all p xs ≡ true → list_all q xs ≡ true
-list_all-weaker p q passes [] h = refl
-list_all-weaker p q passes (x ∷ xs) h =
-    let (first, rest) = and_parts (p x) (list_all p xs) h in
-    rw (passes x first, list_all-weaker p q passes xs rest) refl
 
 -- a letter is a letter or a space
 letter_is_printed : (b : ℕ) → is_letter b ≡ true → is_printed b ≡ true

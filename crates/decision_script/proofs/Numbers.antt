@@ -3,7 +3,6 @@ use Rattle.std.proofs.Common.{◌≡◌, ℕ, ◌<◌, ◌≤◌, ◌^◌, ◌�
 use Rattle.std.proofs.Common.{◌∷◌, length, get_or, refl, ap, arith, zero, suc, Ok, Some, decimal}
 use Rattle.std.specs.List.{list_all}
 use Rattle.std.specs.Str.Parse.{digits_value}
-use Rattle.std.proofs.lemmas.Str.Parse.{IsNumeralModel, IsDigitsTest, numerals_by_value}
 use Rattle.std.proofs.lemmas.Fmt.{digits_decimal, digits_value-decimal, decimal_digit}
 use Rattle.std.proofs.lemmas.Fmt.{first_decimal, decimal_nonempty, length-decimal-le}
 use Rattle.std.proofs.lemmas.Bool.{and_parts}
@@ -11,25 +10,14 @@ use Rattle.std.proofs.lemmas.Bool.Decides.{nat_tests}
 use Rattle.sim_base.specs.Names.{is_digit}
 use Rattle.decision_script.specs.Lines.{has_number_form, number}
 use Rattle.std.specs.Option.{ok_or}
+use Rattle.sim_base.proofs.Digits.{digit_numerals}
+use Rattle.sim_base.proofs.ListLaws.{list_all-weaker}
 use Rattle.decision_script.specs.declared.fault.LineFault.TheVariants.{BadNumber}
 use Rattle.decision_script.specs.declared.number.TheConstants.{MAX_NUMBER}
 use Rattle.decision_script.specs.Sentences.{word_number}
-use Rattle.decision_script.proofs.JoinedWords.{is_letter, IsWord, list_all-weaker}
+use Rattle.decision_script.proofs.JoinedWords.{is_letter, IsWord}
 
 -- ---- decimal
-
--- the test of all digits is one that numerals pass
-digits_test : IsDigitsTest (λ ds. list_all is_digit ds ≡ true)
-digits_test = record {
-  empty = refl;
-  parts = λ c cs h. let (digit, rest) = and_parts (is_digit c) (list_all is_digit cs) h in
-      (grind (arith, nat_tests), rest);
-  more = λ c cs range rest. grind (arith, nat_tests);
-}
-
--- and by their value they are the numerals of numbers
-digit_numerals : IsNumeralModel (λ ds. list_all is_digit ds ≡ true) (digits_value 10)
-digit_numerals = numerals_by_value _ digits_test
 
 -- digits of which the first is not 0 have the form of a number
 has_number_form-digits : (ds : List ℕ) → list_all is_digit ds ≡ true → 0 < length ds

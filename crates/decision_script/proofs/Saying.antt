@@ -9,6 +9,7 @@ use Rattle.sim_base.specs.declared.name.TheConstants.{MAX_NAME_LEN}
 use Rattle.sim_base.specs.declared.decision.Decision.TheVariants.{Fork, Set, End}
 use Rattle.sim_base.specs.declared.message.Param.{Param}
 use Rattle.sim_base.specs.declared.message.Param.TheVariants.{Every, Service, Hold, Servers, Room, Weight}
+use Rattle.sim_base.proofs.ListLaws.{list_all-weaker}
 use Rattle.decision_script.specs.declared.item.Act.{Act}
 use Rattle.decision_script.specs.declared.item.Act.TheVariants.{Decide, Look}
 use Rattle.decision_script.specs.declared.line.ParsedLine.TheVariants.{Action, Section}
@@ -16,7 +17,7 @@ use Rattle.decision_script.specs.Sentences.{saying, section, look, fork, end, se
 use Rattle.decision_script.specs.Stating.{Fits32, IsName, IsChange, IsAct}
 use Rattle.decision_script.specs.Printing.{words_of_act, words_of_section}
 use Rattle.decision_script.proofs.Numbers.{word_number-decimal, decimal_is_word}
-use Rattle.decision_script.proofs.JoinedWords.{is_letter, IsWord, list_all-weaker}
+use Rattle.decision_script.proofs.JoinedWords.{is_letter, IsWord}
 
 -- ---- saying
 

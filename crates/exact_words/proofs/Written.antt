@@ -7,20 +7,13 @@ use Rattle.std.proofs.lemmas.Bool.{and_parts, and_from, leb-true}
 use Rattle.std.proofs.lemmas.Bool.Decides.{nat_tests}
 use Rattle.std.proofs.lemmas.Fmt.{digits_decimal}
 use Rattle.std.proofs.lemmas.List.Folds.{list_all-append}
-use Rattle.std.proofs.lemmas.Str.Parse.{IsNumeralModel, IsDigitsTest, numerals_by_value}
 use Rattle.sim_base.specs.Names.{is_digit}
+use Rattle.sim_base.proofs.ListLaws.{list_all-weaker}
+use Rattle.sim_base.proofs.Digits.{digit_numerals}
 use Rattle.exact_words.specs.Forms.{Form, WritesOnly, WritesSome, such, number, nothing, and_then, and_what_follows}
 use Rattle.exact_words.specs.Forms.{as_value, many, led, led_or, joined, joined_words, silent, spelled}
 
 -- ---- list_all
-
--- a test that is weaker passes too
-pub list_all-weaker : {X : Type 0} (p q : X → Bool) → ((x : X) → p x ≡ true → q x ≡ true) → (xs : List X)
-    → list_all p xs ≡ true → list_all q xs ≡ true
-list_all-weaker p q weaker [] all = refl
-list_all-weaker p q weaker (x ∷ xs) all =
-    let parts = and_parts (p x) (list_all p xs) all in
-    and_from (q x) (list_all q xs) (weaker x parts.0) (list_all-weaker p q weaker xs parts.1)
 
 pub list_all-both : {X : Type 0} (p : X → Bool) (xs ys : List X) → list_all p xs ≡ true → list_all p ys ≡ true
     → list_all p (xs ++ ys) ≡ true
@@ -28,18 +21,6 @@ list_all-both p xs ys first second =
     list_all-append p xs ys ∙ and_from (list_all p xs) (list_all p ys) first second
 
 -- ---- numbers
-
-digits_test : IsDigitsTest (λ ds. list_all is_digit ds ≡ true)
-digits_test = record {
-  empty = refl;
-  parts = λ c cs h. let (digit, rest) = and_parts (is_digit c) (list_all is_digit cs) h in
-      (grind (arith, nat_tests), rest);
-  more = λ c cs range rest. grind (arith, nat_tests);
-}
-
--- digits write numbers
-pub digit_numerals : IsNumeralModel (λ ds. list_all is_digit ds ≡ true) (digits_value 10)
-digit_numerals = numerals_by_value _ digits_test
 
 pub number-only : (p : ℕ → Bool) (most : ℕ) → most < 2 ^ 64 → ((b : ℕ) → is_digit b ≡ true → p b ≡ true)
     → WritesOnly p (number most)

@@ -5,6 +5,7 @@ use Rattle.std.proofs.lemmas.List.{length-map}
 use Rattle.std.proofs.lemmas.Option.{slice_get_within}
 use Rattle.std.proofs.Math.Numerals.{add-one}
 use Rattle.sim_base.specs.Clones.{Clone}
+use Rattle.sim_base.proofs.ListLaws.{slice_get-map_some}
 use Rattle.clone_sets.specs.Sets.{has}
 use Rattle.net_model.specs.Net.{HasStation, Net}
 use Rattle.net_model.specs.declared.limits.TheConstants.{MAX_HORIZON}
@@ -18,7 +19,6 @@ use Rattle.world_core.specs.Worlds.{WorldStands, WorldView}
 use Rattle.station_steps.specs.Windows.{AllDelivered, AllFlow, NoneOver, done_at, all_sent, after_window, with_mail}
 use Rattle.station_steps.specs.Windows.{sent_to}
 use Rattle.station_steps.proofs.Flows.{done_at-got}
-use Rattle.station_steps.proofs.Places.{map_got}
 use Rattle.link_laws.specs.Clocks as clocks
 use Rattle.link_laws.specs.CutCopies.{StandsAtCut}
 use Rattle.link_laws.proofs.CutStands.{cut_of_front, front_of_cut, same_cut}
@@ -158,7 +158,7 @@ module _ (net : Net) (cs : List Clone) (ended : List (ℕ × ℕ)) (k : ℕ) (no
           let f = flow_of net cs k procs flows round_stepped i l in
           let p = proc_of net cs k procs flows round_stepped i l in
           let done : slice_get (map (λ (f : StationStep). f.done) flows) i ≡ Some f.0.done =
-          map_got (λ (f : StationStep). f.done) flows i f.0 f.1 in
+          slice_get-map_some (λ (f : StationStep). f.done) flows i f.0 f.1 in
           let d = given.each i f.0.done q done got in
           let s = round_stepped.stepped i p.0 f.0 p.1 f.1 in
           let w = world.each i p.0 p.1 in

@@ -8,6 +8,7 @@ use Rattle.std.specs.Str.Parse.{digits_value}
 use Rattle.std.proofs.lemmas.Int.Digits.{digits_value_more}
 use Rattle.std.proofs.lemmas.Bool.{and_parts}
 use Rattle.std.proofs.lemmas.Bool.Decides.{nat_tests}
+use Rattle.std.proofs.lemmas.Str.Parse.{IsDigitsTest, IsNumeralModel, numerals_by_value}
 use Rattle.sim_base.specs.Names.{is_digit}
 
 -- ---- digit_value
@@ -23,6 +24,21 @@ digits_at : (ds : List ℕ) (i : ℕ) → list_all is_digit ds ≡ true → i < 
 digits_at [] i h b = absurd (omega arith)
 digits_at (d ∷ ds) zero h b = (and_parts (is_digit d) (list_all is_digit ds) h).0
 digits_at (d ∷ ds) (suc i) h b = digits_at ds i (and_parts (is_digit d) (list_all is_digit ds) h).1 (omega arith)
+
+-- ---- digit_numerals
+
+-- the test of all digits is one that numerals pass
+digits_test : IsDigitsTest (λ ds. list_all is_digit ds ≡ true)
+digits_test = record {
+  empty = refl;
+  parts = λ c cs h. let (digit, rest) = and_parts (is_digit c) (list_all is_digit cs) h in
+      (grind (arith, nat_tests), rest);
+  more = λ c cs range rest. grind (arith, nat_tests);
+}
+
+-- lists of digits are numerals
+pub digit_numerals : IsNumeralModel (λ ds. list_all is_digit ds ≡ true) (digits_value 10)
+digit_numerals = numerals_by_value _ digits_test
 
 -- ---- digits_value
 

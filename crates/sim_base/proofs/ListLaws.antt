@@ -1,12 +1,14 @@
 -- Lists: properties of all elements, and the first place that passes a test.
 use Rattle.std.proofs.Common.{◌≡◌, ℕ, ◌+◌, ◌<◌, ◌≤◌, zero, suc, List, [], ◌∷◌, ◌++◌, length}
 use Rattle.std.proofs.Common.{map, slice_set, Bool, not, cond, false, position, get_or, None, refl, sym, ap, ◌∙◌}
-use Rattle.std.proofs.Common.{take, arith, append_assoc}
+use Rattle.std.proofs.Common.{take, arith, append_assoc, true, Some, option_map, slice_get}
 use mathlib.Core.List.{IsPrefix}
 use Rattle.std.proofs.lemmas.Grind.{common_steps}
-use Rattle.std.specs.List.{AllByRecursion, prefix_len, position_or_len, range_with_len}
+use Rattle.std.specs.List.{AllByRecursion, list_all, prefix_len, position_or_len, range_with_len}
+use Rattle.std.proofs.lemmas.Bool.{and_parts}
 use Rattle.std.proofs.lemmas.List.{length-map}
 use Rattle.std.proofs.lemmas.List.Sums.{fails_before_first}
+use Rattle.std.proofs.lemmas.Option.{same_Some, slice_get-map}
 use Rattle.std.proofs.Math.Seq.{take-append_seam}
 
 -- ---- AllByRecursion
@@ -111,3 +113,27 @@ none_passes p xs none k d b =
 -- a beginning of a beginning is a beginning of the whole
 pub prefix_trans : {X : Type 0} (xs ys zs : List X) → IsPrefix xs ys → IsPrefix ys zs → IsPrefix xs zs
 prefix_trans xs ys zs p q = (p.0 ++ q.0, sym (append_assoc xs p.0 q.0) ∙ (ap (λ w. w ++ q.0) p.1 ∙ q.1))
+
+-- ---- list_all
+
+-- if one test is stronger than another, so it is with all elements
+pub list_all-weaker : {X : Type 0} (p q : X → Bool) → ((x : X) → p x ≡ true → q x ≡ true) → (xs : List X)
+    → list_all p xs ≡ true → list_all q xs ≡ true
+list_all-weaker p q passes [] h = refl
+list_all-weaker p q passes (x ∷ xs) h =
+    let (first, rest) = and_parts (p x) (list_all p xs) h in
+    rw (passes x first, list_all-weaker p q passes xs rest) refl
+
+-- ---- slice_get
+
+-- the image of an element is at the same place
+pub slice_get-map_some : {X Y : Type 0} (f : X → Y) (xs : List X) (i : ℕ) (x : X) → slice_get xs i ≡ Some x
+    → slice_get (map f xs) i ≡ Some (f x)
+slice_get-map_some f xs i x e = slice_get-map f xs i ∙ ap (option_map f) e
+
+-- an element of a list of images is the image of one
+pub slice_get-map_back : {X Y : Type 0} (f : X → Y) (xs : List X) (i : ℕ) (y : Y) → slice_get (map f xs) i ≡ Some y
+    → (x : X) × (slice_get xs i ≡ Some x) × (f x ≡ y)
+slice_get-map_back f [] i y e = absurd (cc)
+slice_get-map_back f (x ∷ xs) zero y e = (x, refl, same_Some (f x) y e)
+slice_get-map_back f (x ∷ xs) (suc i) y e = slice_get-map_back f xs i y e

@@ -18,6 +18,8 @@ use Rattle.sim_base.specs.declared.message.Job.{Job as JobOf}
 use Rattle.sim_base.specs.declared.message.Change.{Change}
 use Rattle.sim_base.specs.declared.message.Payload.{Payload}
 use Rattle.sim_base.specs.declared.message.Payload.TheVariants.{Tick, Job, Done, Set}
+use Rattle.sim_base.proofs.Digits.{digit_numerals}
+use Rattle.sim_base.proofs.ListLaws.{list_all-weaker}
 use Rattle.stations.specs.declared.saved.Shape.{Shape}
 use Rattle.stations.specs.declared.saved.Shape.TheVariants as shape
 use Rattle.exact_words.specs.Forms.{Form, IsExact, IsReadJoined, WritesOnly, WritesSome, and_then, and_what_follows}
@@ -26,9 +28,9 @@ use Rattle.exact_words.specs.Forms.{as_value, led, led_or, nothing, number, sile
 use Rattle.exact_words.proofs.ExactForms.{and_then-exact, as_value-exact, follows-exact, led-exact, many-exact}
 use Rattle.exact_words.proofs.ExactForms.{nothing-exact, number-exact, silent-exact, spelled-exact, such-exact}
 use Rattle.exact_words.proofs.JoinedWords.{joined-exact, joined_words-exact, led_or-exact}
-use Rattle.exact_words.proofs.Written.{and_then-only, as_value-only, digit_numerals, follows-only, joined-only}
+use Rattle.exact_words.proofs.Written.{and_then-only, as_value-only, follows-only, joined-only}
 use Rattle.exact_words.proofs.Written.{led-only}
-use Rattle.exact_words.proofs.Written.{led_or-only, list_all-weaker, many-only, nothing-only, number-only}
+use Rattle.exact_words.proofs.Written.{led_or-only, many-only, nothing-only, number-only}
 use Rattle.exact_words.proofs.Written.{silent-only, spelled-only, such-only}
 use Rattle.decision_script.specs.declared.number.TheConstants.{MAX_NUMBER}
 use Rattle.snapshot_lines.specs.declared.numbers.TheConstants.{MAX_STAY}

@@ -9,9 +9,9 @@ use Rattle.std.proofs.lemmas.Fmt.{decimal-digits_value, decimal_digit, decimal_n
 use Rattle.std.proofs.lemmas.Fmt.{length-decimal-le}
 use Rattle.std.proofs.lemmas.Slice.Eq.{bytes_eq-Decides}
 use Rattle.sim_base.specs.Names.{is_digit, is_leading}
+use Rattle.sim_base.proofs.Digits.{digit_numerals}
 use Rattle.decision_script.specs.Lines.{has_number_form}
 use Rattle.exact_words.specs.Forms.{is_number}
-use Rattle.exact_words.proofs.Written.{digit_numerals}
 use Rattle.snapshot_lines.specs.declared.numbers.TheConstants.{MAX_NUMBER_LEN}
 
 -- ---- has_number_form

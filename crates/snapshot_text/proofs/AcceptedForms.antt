@@ -13,6 +13,7 @@ use Rattle.sim_base.specs.declared.message.Job.{Job as JobOf}
 use Rattle.sim_base.specs.declared.message.Msg.{Msg}
 use Rattle.sim_base.specs.declared.message.Payload.{Payload}
 use Rattle.sim_base.specs.declared.message.Payload.TheVariants.{Tick, Job, Done, Set}
+use Rattle.sim_base.proofs.ListLaws.{list_all-weaker}
 use Rattle.decision_script.specs.declared.number.TheConstants.{MAX_NUMBER}
 use Rattle.net_model.specs.declared.limits.TheConstants.{MAX_JOBS, MAX_LIMIT, MAX_ROOM, MAX_SERVERS, MAX_TIME}
 use Rattle.net_model.specs.declared.limits.TheConstants.{MAX_WEIGHT}
@@ -28,7 +29,6 @@ use Rattle.stations.specs.declared.sender.TheConstants.{MAX_STAY_SUM, MAX_EVENT_
 use Rattle.stations.proofs.Lawful.{site_valid}
 use Rattle.exact_words.specs.Forms.{line_of}
 use Rattle.exact_words.specs.Texts.{ended}
-use Rattle.exact_words.proofs.Written.{list_all-weaker}
 use Rattle.snapshot_lines.specs.declared.numbers.TheConstants.{MAX_STAY}
 use Rattle.snapshot_lines.specs.Grammar.{end_form, job_word, message_line, number_word, payload_form}
 use Rattle.snapshot_lines.specs.Grammar.{pending_line, shape_form, station_line, trace_line}

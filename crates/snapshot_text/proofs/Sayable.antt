@@ -8,9 +8,9 @@ use Rattle.sim_base.specs.declared.message.Param.{Param}
 use Rattle.sim_base.specs.declared.message.Param.TheVariants.{Every, Service, Hold, Servers, Room, Weight}
 use Rattle.sim_base.specs.declared.message.Payload.{Payload}
 use Rattle.sim_base.specs.declared.message.Payload.TheVariants.{Tick, Job, Done, Set}
+use Rattle.sim_base.proofs.ListLaws.{list_all-weaker}
 use Rattle.decision_script.specs.declared.number.TheConstants.{MAX_NUMBER}
 use Rattle.net_model.specs.Net.{Net}
-use Rattle.exact_words.proofs.Written.{list_all-weaker}
 use Rattle.snapshot_lines.specs.Grammar.{message_line, payload_form, values_form}
 use Rattle.checkpoint.specs.Accepted.{IsAccepted, first_unfit, fits_front}
 use Rattle.checkpoint.specs.Due.{first_bad, is_sayable, is_sayable_payload}

@@ -7,6 +7,7 @@ use Rattle.std.proofs.lemmas.Bool.{and_parts, le-leb, lt-ltb, ltb-false}
 use Rattle.std.proofs.lemmas.Bool.Decides.{nat_tests}
 use Rattle.sim_base.specs.declared.limits.TheConstants.{MAX_FILE_BYTES}
 use Rattle.sim_base.specs.declared.message.Msg.{Msg}
+use Rattle.sim_base.proofs.ListLaws.{list_all-weaker}
 use Rattle.decision_script.specs.declared.number.TheConstants.{MAX_NUMBER}
 use Rattle.net_model.specs.Net.{Net}
 use Rattle.net_model.specs.Rules.{IsNet}
@@ -14,7 +15,7 @@ use Rattle.stations.specs.declared.saved.Saved.{Saved}
 use Rattle.exact_words.specs.Forms.{Form, WritesOnly, line_of}
 use Rattle.exact_words.specs.Texts.{IsOneLine, ended, is_newline, read_text}
 use Rattle.exact_words.proofs.ExactTexts.{lines-are_read, text-of_lines}
-use Rattle.exact_words.proofs.Written.{joined_words-only, list_all-weaker}
+use Rattle.exact_words.proofs.Written.{joined_words-only}
 use Rattle.snapshot_lines.specs.Grammar.{head_line, station_line, pending_line, message_line, trace_line}
 use Rattle.snapshot_lines.proofs.ExactLines.{is_visible, line-head, line-message, line-pending, line-station}
 use Rattle.snapshot_lines.proofs.ExactLines.{line-trace}

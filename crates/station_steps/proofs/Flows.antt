@@ -3,6 +3,7 @@ use Rattle.std.proofs.Common.{◌≡◌, ℕ, ◌+◌, ◌<◌, List, [], Option
 use Rattle.std.proofs.Common.{slice_get, subst, unwrap_or}
 use Rattle.std.proofs.lemmas.List.{length-map}
 use Rattle.std.proofs.lemmas.Option.{slice_get_within}
+use Rattle.sim_base.proofs.ListLaws.{slice_get-map_back}
 use Rattle.net_model.specs.Net.{Net}
 use Rattle.phys_proc.specs.Own.{MarkedMessages}
 use Rattle.phys_proc.specs.Procs.{ProcView}
@@ -10,7 +11,7 @@ use Rattle.station_steps.specs.declared.station_step.StationStep.{StationStep}
 use Rattle.station_steps.specs.Windows.{AllFlow, AreStations, HasAdvanced, IsFlow, IsNumbered, MayGiveAll}
 use Rattle.station_steps.specs.Windows.{copies_at, done_at, sent_at}
 use Rattle.station_steps.specs.Stepping.{AllStepped}
-use Rattle.station_steps.proofs.Places.{got_map, got_within}
+use Rattle.station_steps.proofs.Places.{got_within}
 
 -- ---- copies_at, done_at, sent_at
 
@@ -57,7 +58,7 @@ AreStations-stepped net ends bounds procs news sent over steps0 steps all s = re
   at_most = let n = ap length s.procs in let m = length-map s.flows (λ (f : StationStep). f.done) in let k = s.count in
       let few = all.at_most in omega (arith, n, m, k, few);
   procs_in_order = λ i p got.
-      let f = got_map (λ (f : StationStep). f.done) s.flows i p (ap (λ l. slice_get l i) (sym s.procs) ∙ got) in
+      let f = slice_get-map_back (λ (f : StationStep). f.done) s.flows i p (ap (λ l. slice_get l i) (sym s.procs) ∙ got) in
       let l = slice_get_within s.flows i f.0 f.1 in
       let q = got_within procs i (let n = s.count in omega (arith, l, n)) in
       let flow = s.each i q.0 f.0 q.1 f.1 in

@@ -21,20 +21,6 @@ got_within xs i l = elim (slice_get_cases xs i).1 [
   | inr past ↦ absurd (let p = past.0 in omega (arith, p, l))
 ]
 
--- ---- slice_get of map
-
--- an element of a list of images is the image of one
-pub got_map : {X Y : Type 0} (f : X → Y) (xs : List X) (i : ℕ) (y : Y) → slice_get (map f xs) i ≡ Some y
-    → (x : X) × (slice_get xs i ≡ Some x) × (f x ≡ y)
-got_map f [] i y e = absurd (cc)
-got_map f (x ∷ xs) zero y e = (x, refl, same_Some (f x) y e)
-got_map f (x ∷ xs) (suc i) y e = got_map f xs i y e
-
--- the image of an element is at the same place
-pub map_got : {X Y : Type 0} (f : X → Y) (xs : List X) (i : ℕ) (x : X) → slice_get xs i ≡ Some x
-    → slice_get (map f xs) i ≡ Some (f x)
-map_got f xs i x e = slice_get-map f xs i ∙ ap (option_map f) e
-
 -- ---- by the number of the station
 
 -- a function of places, by the number of the station; there is no station 0

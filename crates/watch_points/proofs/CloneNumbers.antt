@@ -10,6 +10,7 @@ use Rattle.std.proofs.lemmas.Option.{slice_get_within}
 use Rattle.sim_base.specs.Clones.{Clone, clone_at}
 use Rattle.sim_base.specs.declared.entry.Line.{Line}
 use Rattle.sim_base.specs.declared.lists.TheConstants.{MAX_CLONES}
+use Rattle.sim_base.proofs.ListLaws.{slice_get-map_some}
 use Rattle.net_model.specs.Net.{Net}
 use Rattle.run_laws.proofs.Lists.{in_append}
 use Rattle.stations.specs.Runs.{simulation}
@@ -30,7 +31,6 @@ use Rattle.watch_points.specs.declared.watcher.ActiveWatch.{ActiveWatch}
 use Rattle.watch_points.specs.declared.watcher.Progress.{Progress}
 use Rattle.watch_points.specs.declared.watcher.Progress.TheVariants.{Made, PastHorizon, Waiting}
 use Rattle.watch_points.proofs.ClonePlaces.{position-there}
-use Rattle.watch_points.proofs.Elements.{slice_get-map_some}
 use Rattle.watch_points.proofs.FollowedClones.{clone_at-take}
 use Rattle.watch_points.proofs.Passing.{places_of-at}
 use Rattle.watch_points.proofs.StartedWatches.{slice_get-position}

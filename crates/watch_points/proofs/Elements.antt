@@ -7,18 +7,6 @@ use Rattle.std.proofs.lemmas.Option.{slice_get-map, slice_get_read}
 
 -- ---- slice_get
 
--- the image of the element at a place
-pub slice_get-map_some : {X Y : Type 0} (f : X → Y) (xs : List X) (i : ℕ) (x : X) → slice_get xs i ≡ Some x →
-    slice_get (map f xs) i ≡ Some (f x)
-slice_get-map_some f xs i x e = slice_get-map f xs i ∙ ap (option_map f) e
-
--- an element of the images is the image of an element
-pub slice_get-map_back : {X Y : Type 0} (f : X → Y) (xs : List X) (i : ℕ) (y : Y) → slice_get (map f xs) i ≡ Some y →
-    (x : X) × (slice_get xs i ≡ Some x) × (f x ≡ y)
-slice_get-map_back f [] i y e = absurd (cc)
-slice_get-map_back f (x ∷ xs) zero y e = (x, refl, let same : f x ≡ y = cc in same)
-slice_get-map_back f (x ∷ xs) (suc i) y e = slice_get-map_back f xs i y e
-
 -- an element of the first n
 pub slice_get-take : {X : Type 0} (xs : List X) (n i : ℕ) (x : X) → slice_get (take n xs) i ≡ Some x →
     (i < n) × (slice_get xs i ≡ Some x)

@@ -13,6 +13,7 @@ use Rattle.sim_base.specs.declared.entry.Entry.{Entry}
 use Rattle.sim_base.specs.declared.entry.Line.{Line}
 use Rattle.sim_base.specs.declared.lists.TheConstants.{MAX_CLONES}
 use Rattle.sim_base.specs.declared.message.Msg.{Msg}
+use Rattle.sim_base.proofs.ListLaws.{slice_get-map_some}
 use Rattle.sim_base.proofs.SameEntry.{same_entry-Decides}
 use Rattle.net_model.specs.Net.{HasStation, Net}
 use Rattle.net_model.specs.Rules.{IsNet}
@@ -37,7 +38,7 @@ use Rattle.watch_points.specs.declared.watcher.Progress.{Progress}
 use Rattle.watch_points.specs.declared.watcher.Progress.TheVariants.{Made, PastHorizon, Waiting}
 use Rattle.watch_points.specs.declared.watcher.Source.{Source}
 use Rattle.watch_points.specs.declared.watcher.Source.TheVariants.{OfScript, OfWatch}
-use Rattle.watch_points.proofs.Elements.{length-slice_set, map-slice_set_same, slice_get-map_some}
+use Rattle.watch_points.proofs.Elements.{length-slice_set, map-slice_set_same}
 use Rattle.watch_points.proofs.Following.{handled-branch, length-branch, take-branch}
 use Rattle.watch_points.proofs.Passing.{IsPass, due_below, found, makes-not_late, makes-room}
 use Rattle.watch_points.proofs.Passing.{makes-unused}

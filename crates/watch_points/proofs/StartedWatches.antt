@@ -11,6 +11,7 @@ use Rattle.std.proofs.lemmas.Option.{slice_get-get_or, slice_get_within}
 use Rattle.std.proofs.lemmas.Slice.Eq.{bytes_eq-Decides}
 use Rattle.sim_base.specs.Clones.{Clone, clone_at, place_of}
 use Rattle.sim_base.specs.declared.entry.Line.{Line}
+use Rattle.sim_base.proofs.ListLaws.{slice_get-map_back, slice_get-map_some}
 use Rattle.net_model.specs.Net.{HasStation, Net, site_of, station_named}
 use Rattle.net_model.specs.Rules.{IsNet}
 use Rattle.run_laws.specs.Queue.{In}
@@ -32,7 +33,7 @@ use Rattle.watch_points.specs.declared.watcher.Progress.TheVariants.{Waiting}
 use Rattle.watch_points.specs.declared.watcher.Source.{Source}
 use Rattle.watch_points.specs.declared.watcher.Source.TheVariants.{OfScript, OfWatch}
 use Rattle.watch_points.proofs.ClonePlaces.{place_of-some, position-there}
-use Rattle.watch_points.proofs.Elements.{slice_get-map_back, slice_get-map_some, slice_get-take}
+use Rattle.watch_points.proofs.Elements.{slice_get-take}
 use Rattle.watch_points.proofs.Following.{followed_at_start}
 
 -- ---- station_named

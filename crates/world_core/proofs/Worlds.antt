@@ -4,6 +4,7 @@ use Rattle.std.proofs.Common.{subst, arith, length, map, slice_get, Some}
 use Rattle.std.proofs.lemmas.List.{length-map}
 use Rattle.std.proofs.lemmas.Option.{slice_get_within}
 use Rattle.sim_base.specs.Clones.{Clone}
+use Rattle.sim_base.proofs.ListLaws.{slice_get-map_some}
 use Rattle.clone_sets.specs.Sets.{has}
 use Rattle.net_model.specs.Net.{Net}
 use Rattle.stations.specs.Runs.{simulation}
@@ -18,7 +19,6 @@ use Rattle.world_core.specs.Worlds.{AreInNet, StandsAt, WorldStands}
 use Rattle.station_steps.specs.Windows.{AreStations, AllFlow, AllDelivered, NoneOver}
 use Rattle.station_steps.specs.Windows.{done_at, all_sent, after_window, with_mail, sent_to}
 use Rattle.station_steps.proofs.Flows.{done_at-got}
-use Rattle.station_steps.proofs.Places.{map_got}
 use Rattle.world_core.proofs.AfterWindow.{WorldStepped, proc_of, flow_of, grown_at, stand_after}
 
 -- ---- a world at its front
@@ -97,7 +97,7 @@ module _ (net : Net) (cs : List Clone) (ended : List (ℕ × ℕ)) (front bound 
               let f = flow_of net cs front bound procs flows world_stepped i l in
               let p = proc_of net cs front bound procs flows world_stepped i l in
               let done : slice_get (map (λ (f : StationStep). f.done) flows) i ≡ Some f.0.done =
-              map_got (λ (f : StationStep). f.done) flows i f.0 f.1 in
+              slice_get-map_some (λ (f : StationStep). f.done) flows i f.0 f.1 in
               let d = given.each i f.0.done q done got in
               let s = world_stepped.stepped i p.0 f.0 p.1 f.1 in
               let w = world.each i p.0 p.1 in
