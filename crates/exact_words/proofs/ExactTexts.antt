@@ -22,7 +22,7 @@ has-part : (parts : List (List ℕ)) → 1 ≤ length parts → (h : List ℕ) �
 has-part [] some = absurd (omega (arith, some))
 has-part (h ∷ t) some = (h, t, refl)
 
-first-part : (text : List ℕ) → (h : List ℕ) × (t : List (List ℕ)) × (slice_split is_newline text ≡ h ∷ t)
+pub first-part : (text : List ℕ) → (h : List ℕ) × (t : List (List ℕ)) × (slice_split is_newline text ≡ h ∷ t)
 first-part text = has-part (slice_split is_newline text)
     (let n = length-slice_split is_newline text in omega (arith, n))
 

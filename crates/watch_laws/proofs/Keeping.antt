@@ -125,7 +125,7 @@ IsPlaced-last cs b =
 -- ---- trigger_order
 
 -- if these are the places of all clones, there are at least n clones
-clones-at_least : (n : ℕ) (cs : List Clone) (places : List (Option ℕ)) →
+pub clones-at_least : (n : ℕ) (cs : List Clone) (places : List (Option ℕ)) →
     IsPlaceOrder (length cs) (trigger_order n places) → n ≤ length cs
 clones-at_least n cs places order = omega (
   arith,
