@@ -1,19 +1,10 @@
 -- One part of a text more.
-use Rattle.std.proofs.Common.{◌≡◌, ℕ, ◌+◌, ◌≤◌, ◌==◌, Bool, List, [], ◌∷◌, length, refl, sym, ap, ◌∙◌}
-use Rattle.std.proofs.Common.{arith}
+use Rattle.std.proofs.Common.{◌≡◌, ℕ, ◌+◌, ◌==◌, Bool, List, [], ◌∷◌, length, sym, ap, ◌∙◌}
 use Rattle.std.proofs.Common.{Option, Some, None, Ok, Err}
 use Rattle.std.specs.Prelude.{◌&&◌, if◌then◌else◌, option_map}
 use Rattle.std.specs.List.{slice_split}
-use Rattle.std.proofs.lemmas.List.Splits.{length-slice_split}
 use Rattle.exact_words.specs.Texts.{is_newline, or_line, read_parts}
-
--- a text has a first part
-first_part : (text : List ℕ) → (h : List ℕ) × (t : List (List ℕ)) × (slice_split is_newline text ≡ h ∷ t)
-first_part text = by (slice_split is_newline text) (let n = length-slice_split is_newline text in omega (arith, n))
-  where
-    by : (parts : List (List ℕ)) → 1 ≤ length parts → (h : List ℕ) × (t : List (List ℕ)) × (parts ≡ h ∷ t)
-    by [] some = absurd (omega (arith, some))
-    by (h ∷ t) some = (h, t, refl)
+use Rattle.exact_words.proofs.ExactTexts.{first-part}
 
 module _ {S : Type 0} (step : S → List ℕ → Option S) (ends : S → Bool) where
   parts-line : (n : ℕ) (s : S) (rest first more : List ℕ)
@@ -21,7 +12,7 @@ module _ {S : Type 0} (step : S → List ℕ → Option S) (ends : S → Bool) w
       → read_parts step ends n s (slice_split is_newline rest)
       ≡ or_line n (option_map (λ t. read_parts step ends (n + 1) t (slice_split is_newline more)) (step s first))
   parts-line n s rest first more cut =
-      let f = first_part more in
+      let f = first-part more in
       ap (read_parts step ends n s) (cut ∙ ap (λ (t : List (List ℕ)). first ∷ t) f.2)
       ∙ ap (λ (ps : List (List ℕ)). or_line n (option_map (λ t. read_parts step ends (n + 1) t ps) (step s first)))
       (sym f.2)

@@ -1,7 +1,7 @@
 -- A snapshot's text is read back, and only its text is read as it.
 use Rattle.std.proofs.Common.{◌≡◌, ℕ, ◌<◌, ◌≤◌, ◌^◌, Bool, true, false, nat_lt, nat_le, List, [], ◌∷◌, length}
 use Rattle.std.proofs.Common.{refl, ap, ◌∙◌, subst, arith, Option, Some, None, Result, Ok, Err, suc, ◌+◌, ◌++◌}
-use Rattle.std.specs.Prelude.{◌&&◌, if◌then◌else◌, map, not}
+use Rattle.std.specs.Prelude.{◌&&◌, if◌then◌else◌, map}
 use Rattle.std.specs.List.{AllByRecursion, flat_map, list_all}
 use Rattle.std.proofs.lemmas.Bool.{and_parts, le-leb, lt-ltb, ltb-false}
 use Rattle.std.proofs.lemmas.Bool.Decides.{nat_tests}
@@ -23,7 +23,7 @@ use Rattle.checkpoint.specs.Accepted.{IsAccepted, first_unfit, fits_front}
 use Rattle.checkpoint.specs.Due.{first_bad}
 use Rattle.checkpoint.specs.Snapshots.{SnapshotView}
 use Rattle.checkpoint.specs.declared.trace_lines.TheConstants.{MAX_TRACE_LINE}
-use Rattle.checkpoint.specs.TraceLines.{is_one_line, is_printed, is_trace_line}
+use Rattle.checkpoint.specs.TraceLines.{is_printed, is_trace_line}
 use Rattle.snapshot_text.specs.SnapshotTexts.{HaveForm, IsSayable, head_of, links_of, lines_of, station_lines, text_of}
 use Rattle.snapshot_text.specs.Reading.{ReaderView, ends, if_accepted, if_fit, if_good_messages, of_lines, snapshot}
 use Rattle.snapshot_text.specs.Reading.{step}
@@ -67,15 +67,6 @@ line_of-one_line f only a e = one_line (line_of f a) (joined_words-only is_in_li
 trace-one_line : (l : List ℕ) → is_trace_line l ≡ true → IsOneLine l
 trace-one_line l e = one_line l (list_all-weaker is_printed is_in_line printed_in_line l
     (and_parts (nat_le 1 (length l) && nat_le (length l) MAX_TRACE_LINE) (list_all is_printed l) e).1)
-
--- the same as a test
-pub trace_line_is_one : (l : List ℕ) → is_trace_line l ≡ true → is_one_line l ≡ true
-trace_line_is_one l e =
-    list_all-weaker is_printed (λ b. not (is_newline b)) printed_no_newline l
-    (and_parts (nat_le 1 (length l) && nat_le (length l) MAX_TRACE_LINE) (list_all is_printed l) e).1
-  where
-    printed_no_newline : (b : ℕ) → is_printed b ≡ true → not (is_newline b) ≡ true
-    printed_no_newline b h = grind (arith, nat_tests)
 
 all-one_line : (ls : List (List ℕ)) → list_all is_trace_line ls ≡ true → AllByRecursion IsOneLine ls
 all-one_line [] all = tt
