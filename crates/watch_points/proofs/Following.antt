@@ -17,7 +17,7 @@ use Rattle.run_laws.specs.Handlers.{HandlesLawfully}
 use Rattle.run_laws.specs.Sharing.{handled_once}
 use Rattle.run_laws.specs.CountLaws.{TellsEntries}
 use Rattle.run_laws.proofs.Counts.{map_has}
-use Rattle.run_laws.proofs.HandledStays.{handled-added, handled-forked}
+use Rattle.run_laws.proofs.HandledStays.{handled-added, handled-forked, log_at-0}
 use Rattle.watch_laws.specs.Due.{due_in}
 use Rattle.watch_laws.specs.Branches.{Branch, Trigger, branches_at, initial_branch}
 use Rattle.watch_laws.specs.Keeping.{HoldsBranches, trigger_order}
@@ -30,7 +30,6 @@ use Rattle.watch_points.specs.Passes.{AreFollowed, HavePassed}
 use Rattle.watch_points.specs.Progress.{HasProgress, IsWaiting, made_place, places_of}
 use Rattle.watch_points.specs.declared.watcher.Progress.{Progress}
 use Rattle.watch_points.specs.declared.watcher.Progress.TheVariants.{Waiting}
-use Rattle.watch_points.proofs.Seen.{log_at-0}
 
 -- ---- places_of
 

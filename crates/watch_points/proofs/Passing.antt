@@ -6,13 +6,10 @@ use Rattle.std.proofs.Common.{slice_set}
 use Rattle.std.specs.Prelude.{slice_get, option_and_then}
 use Rattle.std.proofs.lemmas.Bool.{cases_lt, cases_eq, lt-ltb, le-ltb}
 use Rattle.std.proofs.lemmas.Option.{slice_get_within}
-use Rattle.std.specs.List.{range_with_len}
 use Rattle.std.specs.Str.{bytes_eq}
-use Rattle.std.proofs.Common.{length-append, unwrap_or}
+use Rattle.std.proofs.Common.{unwrap_or}
 use Rattle.std.proofs.lemmas.List.{length-map}
-use Rattle.std.proofs.lemmas.List.FromFn.{length-range_with_len}
 use Rattle.std.proofs.lemmas.List.Quantifiers.{position-Some}
-use Rattle.std.proofs.lemmas.List.Sorted.{length_permutation}
 use Rattle.sim_base.specs.Clones.{Clone, clone_at, clones_with_fork, clones_with_plan, nobody, place_of}
 use Rattle.run_laws.specs.Queue.{In}
 use Rattle.run_laws.specs.Simulation.{Simulation}
@@ -20,12 +17,12 @@ use Rattle.run_laws.specs.Runs.{log_at}
 use Rattle.run_laws.specs.Handlers.{AllAreForStations, AreForStations, HandlesLawfully, IsStation}
 use Rattle.run_laws.proofs.Lists.{slice_get-set_same, slice_get-set_other}
 use Rattle.watch_laws.specs.Due.{due_in}
-use Rattle.watch_laws.specs.Branches.{Branch, Trigger, initial_branch, branches_at, due_time, present, branch_from}
+use Rattle.watch_laws.specs.Branches.{Branch, Trigger, initial_branch, branches_at, due_time, branch_from}
 use Rattle.watch_laws.specs.Branches.{branch_if_due, branch_of}
-use Rattle.watch_laws.specs.Keeping.{HoldsAfter, IsPlaced, option_at, outcome_after, outcome_at, trigger_order}
-use Rattle.watch_laws.specs.Orders.{IsPlaceOrder}
+use Rattle.watch_laws.specs.Keeping.{HoldsAfter, IsPlaced, option_at, outcome_after, outcome_at}
 use Rattle.watch_laws.specs.Laws.{AreValidTriggers, DueAtFront, DueIsNotLate}
 use Rattle.watch_laws.specs.PassLaws.{Fires, StepHolds, source_at}
+use Rattle.watch_laws.proofs.Keeping.{clones-at_least}
 use Rattle.watch_laws.proofs.Bodies.{pass_goes_on}
 use Rattle.watch_laws.proofs.Steps.{outcome_at-same_or_late, outcome_at-made, outcomes-at}
 use Rattle.watch_laws.proofs.Sources.{branch_by-no_end}
@@ -81,19 +78,6 @@ pub pair_is : (a b c d : ℕ) → some_pair a b ≡ some_pair c d → (a ≡ c) 
 pair_is a b c d e =
     let origin : ℕ × ℕ = (0, 0) in
     (ap (λ (o : Option (ℕ × ℕ)). (unwrap_or o origin).0) e, ap (λ (o : Option (ℕ × ℕ)). (unwrap_or o origin).1) e)
-
--- ---- trigger_order
-
--- if these are the places of all clones, there are at least n clones
-clones-at_least : (n : ℕ) (cs : List Clone) (places : List (Option ℕ)) →
-    IsPlaceOrder (length cs) (trigger_order n places) → n ≤ length cs
-clones-at_least n cs places order = omega (
-  arith,
-  length_permutation (range_with_len 0 (length cs)) (trigger_order n places) order,
-  length-append (range_with_len 0 n) (present places),
-  length-range_with_len 0 (length cs),
-  length-range_with_len 0 n,
-)
 
 -- ---- initial_branch
 

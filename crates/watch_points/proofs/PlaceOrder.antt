@@ -1,9 +1,10 @@
 -- The places of the branches that were made, watch by watch.
-use Rattle.std.proofs.Common.{◌≡◌, ℕ, zero, suc, ◌+◌, List, [], ◌∷◌, ◌++◌, Option, Some, None, refl, ap, ◌∙◌}
+use Rattle.std.proofs.Common.{◌≡◌, ℕ, suc, ◌+◌, List, [], ◌∷◌, ◌++◌, Option, Some, None, refl, ap, ◌∙◌}
 use Rattle.std.proofs.Common.{arith, take}
 use Rattle.std.specs.List.{range_with_len}
 use Rattle.std.specs.Prelude.{slice_get}
 use Rattle.std.proofs.lemmas.List.{map-append}
+use Rattle.sim_base.proofs.ListLaws.{range_with_len-suc}
 use Rattle.stations.proofs.Places.{take-next}
 use Rattle.watch_laws.specs.Branches.{present}
 use Rattle.watch_points.specs.Progress.{made_branch, made_place, places_of}
@@ -15,18 +16,11 @@ use Rattle.watch_points.proofs.Passing.{pair_is}
 
 -- ---- range_with_len
 
--- one number more
-range-more : (a n : ℕ) → range_with_len a (suc n) ≡ range_with_len a n ++ (a + n) ∷ []
-range-more a zero = let e : a ≡ a + 0 = omega arith in ap (λ k. k ∷ []) e
-range-more a (suc n) =
-    let e : a + 1 + n ≡ a + suc n = omega arith in
-    ap (λ l. a ∷ l) (range-more (a + 1) n ∙ ap (λ k. range_with_len (a + 1) n ++ k ∷ []) e)
-
 pub range-next : (n : ℕ) → range_with_len 0 (n + 1) ≡ range_with_len 0 n ++ n ∷ []
 range-next n =
     let one : n + 1 ≡ suc n = omega arith in
     let none : 0 + n ≡ n = omega arith in
-    ap (range_with_len 0) one ∙ range-more 0 n ∙ ap (λ k. range_with_len 0 n ++ k ∷ []) none
+    ap (range_with_len 0) one ∙ range_with_len-suc 0 n ∙ ap (λ k. range_with_len 0 n ++ k ∷ []) none
 
 -- ---- present
 

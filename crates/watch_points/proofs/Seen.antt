@@ -13,7 +13,6 @@ use Rattle.run_laws.specs.World.{World, log_of, world_step}
 use Rattle.run_laws.specs.Runs.{end_of, run_of, log_at}
 use Rattle.run_laws.specs.FrontLaws.{time_before}
 use Rattle.run_laws.specs.Handlers.{HandlesLawfully}
-use Rattle.run_laws.proofs.Beginning.{run_at_0}
 use Rattle.run_laws.proofs.Machine.{reach_keeps}
 use Rattle.run_laws.proofs.Worlds.{run_goes_on, entry_of}
 use Rattle.watch_laws.specs.Due.{due_in}
@@ -39,11 +38,6 @@ module _ {M N : Type 0} (time : M → ℕ) (condition : N → Bool) where
       by false f rest = rest f
 
 -- ---- log_at
-
-module _ {S M N : Type 0} (sim : Simulation S M N) where
-  -- at front 0 each log is empty
-  pub log_at-0 : (c : Clone) (s : ℕ) → log_at sim c s 0 ≡ []
-  log_at-0 c s = ap (λ w. log_of sim.to s w.at.trace) (run_at_0 sim c)
 
 module _ {S M N : Type 0} {sim : Simulation S M N} {Good : ℕ → S → Type 0} (law : HandlesLawfully sim Good) where
   -- a trace only grows
