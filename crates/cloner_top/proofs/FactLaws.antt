@@ -12,6 +12,7 @@ use Rattle.command_words.specs.declared.request.Mode.TheVariants.{Links, Save, S
 use Rattle.watch_points.specs.declared.watch.Watch as watch
 use Rattle.watch_points.specs.Triggers.{clones_with_branches}
 use Rattle.study_run.specs.Limits.{until}
+use Rattle.linked_run.specs.Linking.{IsOverrun}
 use Rattle.command_words.specs.Requests.{AssignmentView, Live, Resume, Study, Watch}
 use Rattle.cloner_top.specs.declared.excess.Excess.{Excess}
 use Rattle.cloner_top.specs.declared.excess.Excess.TheVariants.{LimitMet, LongSnapshot}
@@ -27,7 +28,7 @@ use Rattle.cloner_top.specs.Answers.{InputsFailed, IsAnswer, IsLawfulEnding, Out
 use Rattle.cloner_top.specs.Answers.{stopped, success, unread, usage}
 use Rattle.cloner_top.specs.Deciding.{clones_of}
 use Rattle.cloner_top.specs.Endings.{Ending, IsExcessOf, MayDecide, MayEnd, MayEndByTexts, MayFollow, MayLive, MayRun}
-use Rattle.cloner_top.specs.Endings.{IsOver, MayRunAlone, MayRunLinked, MaySimulate, MayStudy, MayWatch, early_stop}
+use Rattle.cloner_top.specs.Endings.{MayRunAlone, MayRunLinked, MaySimulate, MayStudy, MayWatch, early_stop}
 use Rattle.cloner_top.specs.Endings.{MayGoOn, MayResume, mode_meets}
 use Rattle.cloner_top.specs.Endings.{mode_texts, overrun, run_texts, saved_or_too_long, solo_text, whole, whole_output}
 use Rattle.cloner_top.specs.Endings as ends
@@ -110,7 +111,7 @@ simulation_told mode net clones told e most h =
 watch_told : (text : List ℕ) (net : Net) (clones : List Clone) (told : List (List ℕ)) (e : Excess) (most : ℕ)
     → MayWatch text net clones (overrun told e most) → told ≡ []
 watch_told text net clones told e most (ends.watched ws end is fits may) =
-    run_told net (clones_with_branches net clones ws) (IsOver net (clones_with_branches net clones ws))
+    run_told net (clones_with_branches net clones ws) (IsOverrun net (clones_with_branches net clones ws))
     (run_texts net (clones_with_branches net clones ws)) told e most may
 
 -- nothing in a run from a snapshot
@@ -378,7 +379,7 @@ module _ (before after : Outside) where
       where
         by_run : (put : List (List ℕ)) (work : ℕ) → ArePutFor before after put work
             → MayRun net (clones_with_branches net (clones_of net s) ws)
-            (IsOver net (clones_with_branches net (clones_of net s) ws))
+            (IsOverrun net (clones_with_branches net (clones_of net s) ws))
             (run_texts net (clones_with_branches net (clones_of net s) ws)) (whole_output put work)
             → WritesWatched before after a
         by_run put work p (ends.within within) = record {

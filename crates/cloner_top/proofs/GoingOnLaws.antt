@@ -1,12 +1,11 @@
 -- What `save` writes of a clone, `resume` turns into what `solo` writes of it.
 use Rattle.std.proofs.Common.{◌≡◌, ◌≤◌, ℕ, ◌+◌, arith, refl, sym, subst, ◌∙◌, List, [], ◌∷◌, length, Some}
-use Rattle.std.proofs.Common.{Bool, true, false, cond, suc, Ok, Err, Option, None}
-use Rattle.std.specs.Prelude.{if◌then◌else◌, nat_le, option_map}
-use Rattle.std.specs.Str.{bytes_eq}
+use Rattle.std.proofs.Common.{Bool, true, false, Ok, Err}
+use Rattle.std.specs.Prelude.{if◌then◌else◌, nat_le}
 use Rattle.std.proofs.lemmas.Bool.Decides.{nat_tests}
 use Rattle.sim_base.specs.Clones.{Clone, clone_at, place_of}
 use Rattle.sim_base.specs.declared.limits.TheConstants.{MAX_FILE_BYTES}
-use Rattle.decision_book.proofs.ClonesByName.{place_of-bounds, place_of-cons, same_name}
+use Rattle.decision_book.proofs.ClonesByName.{name_at, place_of-bounds}
 use Rattle.net_model.specs.Net.{Net}
 use Rattle.stations.specs.Runs.{trace_of}
 use Rattle.trace_report.specs.Outputs.{clone_text}
@@ -22,27 +21,6 @@ use Rattle.cloner_top.specs.Endings.{Ending, MayGoOn, MayRunAlone, limit_met_at,
 use Rattle.cloner_top.specs.Endings.{solo_text, whole, whole_output}
 use Rattle.cloner_top.specs.Endings as ends
 use Rattle.cloner_top.specs.GoingOn.{GoesOn, SavedRunsGoOn, after}
-
--- the clone at the place of a name has this name
-named_later : (name : List ℕ) (d : Clone) (ds : List Clone) (k : ℕ) (place : Option ℕ)
-    → ((j : ℕ) → place ≡ Some j → (clone_at ds j).name ≡ name) → option_map (λ i. suc i) place ≡ Some k
-    → (clone_at (d ∷ ds) k).name ≡ name
-named_later name d ds k None found same = absurd (cc)
-named_later name d ds k (Some j) found same =
-    let next : suc j ≡ k = cc in subst (λ i. (clone_at (d ∷ ds) i).name ≡ name) next (found j refl)
-
-named_first : (name : List ℕ) (d : Clone) (ds : List Clone) (k : ℕ) (b : Bool) → bytes_eq d.name name ≡ b
-    → ((j : ℕ) → place_of name ds ≡ Some j → (clone_at ds j).name ≡ name)
-    → cond b (Some 0) (option_map (λ i. suc i) (place_of name ds)) ≡ Some k → (clone_at (d ∷ ds) k).name ≡ name
-named_first name d ds k true here found same =
-    let first : 0 ≡ k = cc in
-    subst (λ i. (clone_at (d ∷ ds) i).name ≡ name) first (same_name d.name name here)
-named_first name d ds k false other found same = named_later name d ds k (place_of name ds) found same
-
-place_of-name : (name : List ℕ) (cs : List Clone) (k : ℕ) → place_of name cs ≡ Some k → (clone_at cs k).name ≡ name
-place_of-name name [] k is = absurd (cc)
-place_of-name name (d ∷ ds) k is = named_first name d ds k (bytes_eq d.name name) refl
-    (λ j. place_of-name name ds j) (sym (place_of-cons name d ds) ∙ is)
 
 -- a text that is written is that of the clone's snapshot, and not too long
 written_text : (net : Net) (time : ℕ) (c : Clone) (text : List ℕ) → saved_or_too_long net time c ≡ Ok text
@@ -78,7 +56,7 @@ module _ (net : Net) (clones : List Clone) (name : List ℕ) (time : ℕ) (k : �
       (ends.fits k (clone_text net c) found (resumed.within stays) refl))
   goes_on _ (ends.limit_met_onward station met) =
       subst (λ (n : List ℕ). MayRunAlone net clones name whole (solo_text net)
-      (overrun [] (limit_met_at net station n) (most_handled net 1))) (sym (place_of-name name clones k found))
+      (overrun [] (limit_met_at net station n) (most_handled net 1))) (sym (name_at name clones k found))
       (ends.limit_met k station found (resumed.meets station met))
 
   -- how a run from the text ends

@@ -49,7 +49,6 @@ linked_exceeds net told cs made station who old_steps new_steps name excess same
     sym (is ∙ (ap (λ (n : Net). limit_met_at n station name) same_net ∙ ap (limit_met_at net station) name_is)) in
     subst (IsExcessOf (MayRunLinked net cs) old_steps new_steps []) excess_is (record {
       most = most_handled net (length cs);
-      may = over_linked station who
-          (record { is_station = stops.0.is_station; clone = stops.0.clone; beyond = stops.0.beyond });
+      may = over_linked station who stops.0;
       steps = stops.1;
     })

@@ -27,7 +27,7 @@ use Rattle.cloner_top.specs.declared.refusal.Refusal.TheVariants.{Stopped, Excee
 use Rattle.cloner_top.specs.Deciding.{clones_of_book}
 use Rattle.cloner_top.specs.Endings.{HasWritten, IsExcessOf, MayLive, finished, limit_met_at, over_live, run_texts}
 use Rattle.cloner_top.specs.Endings.{whole_output}
-use Rattle.cloner_top.specs.LiveRuns.{HaltsFor, IsJournaledRun, IsLiveWorld, IsOverrun, StopsLive}
+use Rattle.cloner_top.specs.LiveRuns.{HaltsFor, HaltsWith, IsJournaledRun, IsLiveWorld, StopsLive}
 use Rattle.cloner_top.specs.Outsides.{AreDone, IsDone, IsHalted}
 use Rattle.cloner_top.proofs.Endings.{put_done}
 use Rattle.cloner_top.proofs.Runs.{short_planned}
@@ -101,7 +101,7 @@ module _ (net : Net) (s : ScriptView) (old_steps new_steps : ℕ) (live : LiveRu
     where
       told_limit : (station who : ℕ) (h : Halt) → StopsEngine net live.book.events (LimitMet station who)
           → new_steps ≡ old_steps
-          → IsOverrun text (limit_met_at net station (clone_at (after net live.book.events).clones who).name) h
+          → HaltsWith text (limit_met_at net station (clone_at (after net live.book.events).clones who).name) h
           → StopsLive net s old_steps new_steps h
       told_limit station who (halt.Refused refusal) stopped idle is = absurd is
       told_limit station who (halt.Overrun journal excess) stopped idle is =

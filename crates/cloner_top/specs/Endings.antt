@@ -1,9 +1,9 @@
 -- The endings that each mode allows, in one table.
-use Rattle.std.specs.Prelude.{◌≡◌, ℕ, ◌+◌, ◌/◌, ◌<◌, ◌≤◌, List, [], ◌∷◌, ◌++◌, map, length, Some, None, Result, Ok, Err}
+use Rattle.std.specs.Prelude.{◌≡◌, ℕ, ◌+◌, ◌/◌, ◌≤◌, List, [], ◌∷◌, ◌++◌, map, length, Some, None, Result, Ok, Err}
 use Rattle.std.specs.Prelude.{codes, decimal, nat_le, if◌then◌else◌}
 use Rattle.sim_base.specs.Clones.{Clone, clone_at, place_of}
 use Rattle.sim_base.specs.declared.limits.TheConstants.{MAX_FILE_BYTES}
-use Rattle.net_model.specs.Net.{HasStation, Net, site_of}
+use Rattle.net_model.specs.Net.{Net, site_of}
 use Rattle.net_model.specs.Text.{model}
 use Rattle.net_model.specs.declared.fault.ModelFault.{ModelFault}
 use Rattle.decision_script.specs.Reading.{script}
@@ -12,7 +12,7 @@ use Rattle.decision_script.specs.declared.fault.ScriptFault.{ScriptFault}
 use Rattle.decision_book.specs.declared.call.Reply.{Reply}
 use Rattle.decision_book.specs.Books.{BookView}
 use Rattle.decision_book.specs.Journal.{after}
-use Rattle.stations.specs.Runs.{IsBeyond, trace_of}
+use Rattle.stations.specs.Runs.{trace_of}
 use Rattle.world_core.specs.Overs.{most_handled}
 use Rattle.world_core.specs.Worlds.{total_handled}
 use Rattle.trace_report.specs.Outputs.{clone_text, report}
@@ -21,6 +21,7 @@ use Rattle.study_stats.specs.Rows.{statistics}
 use Rattle.link_clocks.specs.NetClocks.{AreAllRounds}
 use Rattle.journal_text.specs.declared.looked.Looked.{Looked}
 use Rattle.journal_text.specs.JournalText.{journal_text}
+use Rattle.linked_run.specs.Linking.{IsOverrun}
 use Rattle.live_study.specs.Engines.{MeetsLimitLast}
 use Rattle.live_study.specs.Looks.{AreLooks, AreMadeLooks}
 use Rattle.live_study.specs.Scripts.{IsJournalOf}
@@ -84,12 +85,6 @@ mode_texts mode net clones = run_texts net clones
 abbrev pub mode_meets : Mode → Net → List Clone → ℕ → ℕ → Type 0
 mode_meets mode net clones = MeetsLimit net clones
 
--- the log of this station in this clone is beyond the limit at the horizon
-pub record IsOver (net : Net) (clones : List Clone) (station who : ℕ) : Type 0 where
-  pub is_station : HasStation net station
-  pub clone : who < length clones
-  pub beyond : IsBeyond net station net.horizon (clone_at clones who)
-
 -- ---- all clones, in rounds with a clock for each link
 
 -- the line with the number of rounds
@@ -102,7 +97,7 @@ pub data MayRunLinked (net : Net) (clones : List Clone) : Ending → Type 0 wher
   linked : (k : ℕ) → AreAllRounds net k → k ≤ net.horizon / net.lookahead + 1 → AreWithin net clones
       → MayRunLinked net clones (whole_output (run_texts net clones ++ rounds_line k ∷ [])
       (total_handled net clones net.horizon))
-  over_linked : (station who : ℕ) → IsOver net clones station who
+  over_linked : (station who : ℕ) → IsOverrun net clones station who
       → MayRunLinked net clones (overrun [] (limit_met_at net station (clone_at clones who).name)
       (most_handled net (length clones)))
 
@@ -112,7 +107,7 @@ pub data MayRunLinked (net : Net) (clones : List Clone) : Ending → Type 0 wher
 -- and clone with a log beyond it may be reported
 abbrev pub MayRunWatched : Net → List Clone → List Watch → Ending → Type 0
 MayRunWatched net clones ws end = MayRun net (clones_with_branches net clones ws)
-    (IsOver net (clones_with_branches net clones ws)) (run_texts net (clones_with_branches net clones ws)) end
+    (IsOverrun net (clones_with_branches net clones ws)) (run_texts net (clones_with_branches net clones ws)) end
 
 -- how a study with a text of watches may end: the text is refused, a watch does not fit, or it is run
 pub data MayWatch (text : List ℕ) (net : Net) (clones : List Clone) : Ending → Type 0 where

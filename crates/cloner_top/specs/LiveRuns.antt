@@ -32,15 +32,15 @@ NamesStationAndClone net events (LimitMet station who) =
     HasStation net station × (who < length (after net events).clones)
 
 -- the halt has this text and this excess
-abbrev pub IsOverrun : List ℕ → Excess → Halt → Type 0
-IsOverrun text excess (Refused refusal) = ⊥
-IsOverrun text excess (Overrun journal is) = (journal.items ≡ text) × (is ≡ excess)
+abbrev pub HaltsWith : List ℕ → Excess → Halt → Type 0
+HaltsWith text excess (Refused refusal) = ⊥
+HaltsWith text excess (Overrun journal is) = (journal.items ≡ text) × (is ≡ excess)
 
 -- the halt for an error of the run
 abbrev pub HaltsFor : Net → List Event → List ℕ → StudyFault → Halt → Type 0
 HaltsFor net events text NoMemory halt = halt ≡ Refused OutOfMemory
 HaltsFor net events text (LimitMet station who) halt =
-    IsOverrun text (limit_met_at net station (clone_at (after net events).clones who).name) halt
+    HaltsWith text (limit_met_at net station (clone_at (after net events).clones who).name) halt
 
 -- the world of a live study at the horizon, and the text of its journal
 pub record IsLiveWorld (net : Net) (s : ScriptView) (old_steps new_steps : ℕ) (world : WorldView) (text : List ℕ) :
