@@ -23,7 +23,8 @@ use Rattle.checkpoint.specs.Accepted.{IsAccepted, first_unfit, fits_front}
 use Rattle.checkpoint.specs.Due.{first_bad}
 use Rattle.checkpoint.specs.Snapshots.{SnapshotView}
 use Rattle.checkpoint.specs.declared.trace_lines.TheConstants.{MAX_TRACE_LINE}
-use Rattle.checkpoint.specs.TraceLines.{is_printed, is_trace_line}
+use Rattle.checkpoint.specs.TraceLines.{is_one_line, is_printed, is_trace_line}
+use Rattle.checkpoint.proofs.SoloSnapshots.{trace_line-one_line}
 use Rattle.snapshot_text.specs.SnapshotTexts.{HaveForm, IsSayable, head_of, links_of, lines_of, station_lines, text_of}
 use Rattle.snapshot_text.specs.Reading.{ReaderView, ends, if_accepted, if_fit, if_good_messages, of_lines, snapshot}
 use Rattle.snapshot_text.specs.Reading.{step}
@@ -67,6 +68,10 @@ line_of-one_line f only a e = one_line (line_of f a) (joined_words-only is_in_li
 trace-one_line : (l : List ℕ) → is_trace_line l ≡ true → IsOneLine l
 trace-one_line l e = one_line l (list_all-weaker is_printed is_in_line printed_in_line l
     (and_parts (nat_le 1 (length l) && nat_le (length l) MAX_TRACE_LINE) (list_all is_printed l) e).1)
+
+-- the same as a test
+pub trace_line_is_one : (l : List ℕ) → is_trace_line l ≡ true → is_one_line l ≡ true
+trace_line_is_one l e = trace_line-one_line l e
 
 all-one_line : (ls : List (List ℕ)) → list_all is_trace_line ls ≡ true → AllByRecursion IsOneLine ls
 all-one_line [] all = tt
