@@ -1,0 +1,2 @@
+pub mod Remakes
+pub mod Examples
