@@ -1,0 +1,10 @@
+pub mod Times
+pub mod Merging
+pub mod EntryWords
+pub mod OwnEntries
+pub mod Remaking
+pub mod Gathering
+pub mod Equal
+pub mod Stepping
+pub mod Worlds
+pub mod Stations
