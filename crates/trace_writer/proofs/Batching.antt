@@ -2,12 +2,13 @@
 use Rattle.std.proofs.Common.{◌≡◌, ℕ, zero, suc, ◌+◌, ◌<◌, ◌≤◌, List, [], ◌∷◌, ◌++◌, length, drop, get_or}
 use Rattle.std.proofs.Common.{refl, sym, ap, subst, ◌∙◌, append_assoc, arith}
 use Rattle.std.proofs.lemmas.List.{drop_more}
-use Rattle.std.specs.declared.vec.Vec.{Vec}
 use Rattle.crew_pool.specs.Tasks.{EachAt}
 use Rattle.sim_base.specs.Clones.{clone_at}
-use Rattle.trace_writer.specs.Batches.{AreJoined, AreMade, bytes_of}
+use Rattle.keyed_text.specs.Lines.{KeyedLine}
+use Rattle.keyed_text.specs.Texts.{TextView}
+use Rattle.trace_writer.specs.Batches.{AreJoined, AreMade, LinesView, lines_of_all}
 use Rattle.trace_writer.specs.Orders.{HasSpan, IsMade, span_between}
-use Rattle.trace_writer.specs.Texts.{rest}
+use Rattle.trace_writer.specs.Texts.{own_lines}
 use Rattle.trace_writer.specs.WorldTraces.{WorldTracesView}
 use Rattle.trace_writer.specs.declared.text_span.TextSpan.{TextSpan}
 
@@ -37,36 +38,35 @@ AreJoined-ready traces c from (s ∷ spans) until there h (suc i) d below =
 -- ---- AreMade
 
 -- the lines of all spans are those of each, joined
-pub AreMade-joined : {Z : Type 0} (traces : WorldTracesView) (c from : ℕ) (spans : List TextSpan) (until : ℕ)
-    (buffers : List (Vec ℕ Z)) → AreJoined c from spans until → AreMade traces spans buffers →
-    IsMade (span_between traces c from until) (bytes_of buffers)
-AreMade-joined traces c from [] until [] h made = ap (rest traces.net (clone_at traces.clones c)) (sym h)
-AreMade-joined traces c from [] until (b ∷ bs) h made = let n = made.count in absurd (omega (arith, n))
-AreMade-joined traces c from (s ∷ spans) until [] h made = let n = made.count in absurd (omega (arith, n))
-AreMade-joined traces c from (s ∷ spans) until (b ∷ bs) h made =
-    let others = AreMade-joined traces c s.until spans until bs h.3
+pub AreMade-joined : (work : LinesView) (c from : ℕ) (spans : List TextSpan) (until : ℕ) (texts : List TextView)
+    → AreJoined c from spans until → AreMade work spans texts
+    → IsMade (span_between work.traces work.changes.parts c from until) (lines_of_all texts)
+AreMade-joined work c from [] until [] h made =
+    ap (own_lines work.traces.net (clone_at work.traces.clones c) work.changes.parts) (sym h)
+AreMade-joined work c from [] until (t ∷ ts) h made = let n = made.count in absurd (omega (arith, n))
+AreMade-joined work c from (s ∷ spans) until [] h made = let n = made.count in absurd (omega (arith, n))
+AreMade-joined work c from (s ∷ spans) until (t ∷ ts) h made =
+    let own : ℕ → ℕ → List KeyedLine = λ k u.
+    own_lines work.traces.net (clone_at work.traces.clones k) work.changes.parts u in
+    let others = AreMade-joined work c s.until spans until ts h.3
     (record {
       count = let n = made.count in omega (arith, n);
       each = λ i d below e. made.each (suc i) d (omega (arith, below)) e;
     }) in
-    let first : b.items ++ rest traces.net (clone_at traces.clones s.c) s.until
-    ≡ rest traces.net (clone_at traces.clones s.c) s.from = made.each 0 b (omega arith) s in
-    let here : b.items ++ rest traces.net (clone_at traces.clones c) s.until
-    ≡ rest traces.net (clone_at traces.clones c) from =
-    subst (λ t. b.items ++ rest traces.net (clone_at traces.clones c) s.until
-    ≡ rest traces.net (clone_at traces.clones c) t) h.1
-    (subst (λ k. b.items ++ rest traces.net (clone_at traces.clones k) s.until
-    ≡ rest traces.net (clone_at traces.clones k) s.from) h.0 first) in
-    append_assoc b.items (bytes_of bs) (rest traces.net (clone_at traces.clones c) until)
-    ∙ ap (λ l. b.items ++ l) others ∙ here
+    let first : t.lines ++ own s.c s.until ≡ own s.c s.from = made.each 0 t (omega arith) s in
+    let here : t.lines ++ own c s.until ≡ own c from =
+    subst (λ u. t.lines ++ own c s.until ≡ own c u) h.1
+    (subst (λ k. t.lines ++ own k s.until ≡ own k s.from) h.0 first) in
+    append_assoc t.lines (lines_of_all ts) (own c until)
+    ∙ ap (λ l. t.lines ++ l) others ∙ here
 
--- ---- bytes_of
+-- ---- lines_of_all
 
--- the next buffer, followed by the others
-pub bytes_of-next : {Z : Type 0} (buffers : List (Vec ℕ Z)) (i : ℕ) (b : Vec ℕ Z) (bytes after : List ℕ) →
-    i < length buffers → b ≡ get_or buffers i b → bytes ≡ b.items →
-    bytes ++ (bytes_of (drop (i + 1) buffers) ++ after) ≡ bytes_of (drop i buffers) ++ after
-bytes_of-next {Z} buffers i b bytes after below is value =
-    ap (λ l. l ++ (bytes_of (drop (i + 1) buffers) ++ after)) (value ∙ ap (λ (v : Vec ℕ Z). v.items) is)
-    ∙ sym (ap (λ l. bytes_of l ++ after) (drop_more buffers i b below)
-    ∙ append_assoc (get_or buffers i b).items (bytes_of (drop (i + 1) buffers)) after)
+-- the next text, followed by the others
+pub lines_of_all-next : (texts : List TextView) (i : ℕ) (t : TextView) (lines after : List KeyedLine) →
+    i < length texts → t ≡ get_or texts i t → lines ≡ t.lines →
+    lines ++ (lines_of_all (drop (i + 1) texts) ++ after) ≡ lines_of_all (drop i texts) ++ after
+lines_of_all-next texts i t lines after below is value =
+    ap (λ l. l ++ (lines_of_all (drop (i + 1) texts) ++ after)) (value ∙ ap (λ (v : TextView). v.lines) is)
+    ∙ sym (ap (λ l. lines_of_all l ++ after) (drop_more texts i t below)
+    ∙ append_assoc (get_or texts i t).lines (lines_of_all (drop (i + 1) texts)) after)

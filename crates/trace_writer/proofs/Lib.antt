@@ -1,12 +1,14 @@
 pub mod TextOrders
 pub mod SamePlans
 pub mod Joined
-pub mod Heads
+pub mod Remakings
 pub mod Pieces
 pub mod Puts
 pub mod Partings
 pub mod LogLaws
 pub mod Spans
+pub mod Beginning
+pub mod TextLines
 pub mod SpanPuts
 pub mod Batching
 pub mod ShortLists

@@ -1,7 +1,8 @@
 -- An upper bound of the bytes in the lines of clones.
-use Rattle.std.proofs.Common.{◌≡◌, inl, inr, ℕ, zero, suc, ◌+◌, ◌-◌, ◌*◌, ◌<◌, ◌≤◌, refl, sym, ap, subst, ◌∙◌}
-use Rattle.std.proofs.Common.{arith, List, [], ◌∷◌, not, nat_lt, length, sum_by, Bool, true, ◌==◌}
+use Rattle.std.proofs.Common.{◌≡◌, inl, inr, replicate, ℕ, zero, suc, ◌+◌, ◌-◌, ◌*◌, ◌<◌, ◌≤◌, refl, sym, ap, subst, ◌∙◌}
+use Rattle.std.proofs.Common.{arith, List, [], ◌∷◌, not, nat_lt, length, sum_by, Bool, true}
 use Rattle.std.proofs.lemmas.Bool.{cases_lt, le-ltb}
+use Rattle.std.proofs.lemmas.List.Concat.{length-flat_map}
 use Rattle.std.proofs.lemmas.List.Sums.{sum_by-cons}
 use Rattle.std.specs.declared.cmp.Ordering.{Ordering}
 use Rattle.sim_base.specs.Clones.{Clone, clone_at}
@@ -23,17 +24,17 @@ use Rattle.run_laws.proofs.SharedTextsWeighing.{trace_split}
 use Rattle.stations.specs.Good.{sender_of, number_of}
 use Rattle.stations.specs.Runs.{simulation, trace_of, log_at}
 use Rattle.stations.proofs.GoodLaws.{lawful-stations, stations-to_stations, fresh-stations}
-use Rattle.log_chain.specs.Times.{from_time}
 use Rattle.trace_report.specs.declared.line.TheConstants.{MAX_LINE}
 use Rattle.trace_report.specs.TraceText.{entry_line}
 use Rattle.log_merge.specs.Rests.{merge_of_rests}
 use Rattle.log_merge.specs.Words.{by_key}
 use Rattle.world_core.specs.Worlds.{AreInNet, WorldView}
-use Rattle.trace_writer.specs.Lengths.{log_length, first_lengths}
+use Rattle.sim_base.specs.declared.message.TheConstants.{WORD_PLACES}
+use Rattle.trace_changes.specs.Changes.{ChangesView, own_entries}
+use Rattle.trace_changes.proofs.OwnEntries.{own_entries-zeros}
+use Rattle.trace_changes.proofs.Worlds.{counted}
 use Rattle.trace_writer.specs.Texts.{HaveShortLines, body, parting_at, parting_with_last}
 use Rattle.trace_writer.specs.WorldTraces.{IsOver}
-use Rattle.trace_writer.proofs.Keeping.{rest_from_0}
-use Rattle.trace_writer.proofs.LogLaws.{all_measured, length-from_time, log_measured, lengths_more}
 use Rattle.trace_writer.proofs.SamePlans.{tells_plans}
 
 -- ---- HaveShortLines
@@ -80,48 +81,38 @@ met_more net c i t h k =
     (entries_from (simulation net) t (log_at net c (suc i) net.horizon)) h
     (subst (λ n. HaveShortLines net (entries_from (simulation net) t (log_at net c n net.horizon))) up k))
 
--- ---- the bound of a clone's lines, by its logs
+-- ---- entries_from
 
-module _ (world : WorldView) (over : IsOver world) (c : ℕ) (there : c < length world.clones) where
-  -- its network
-  abbrev net : Net
-  net = world.net
+-- all entries come at 0 or later
+from_0 : (net : Net) (es : List (Entry Msg Line)) → entries_from (simulation net) 0 es ≡ es
+from_0 net es =
+    let late : Entry Msg Line → Bool = λ e. not (nat_lt e.msg.key.time 0) in
+    filter_all late es (all_from (λ (e : Entry Msg Line). late e ≡ true) es
+    (λ e i. ap not (le-ltb e.msg.key.time 0 (omega arith))))
 
-  -- the clone
-  abbrev clone : Clone
-  clone = clone_at world.clones c
+-- if all entries are its own, a clone has as many own ones as entries
+pub length-all_own : (world : WorldView) (over : IsOver world) (c : ℕ) (there : c < length world.clones) (count : ℕ)
+    (all : ChangesView)
+    → all ≡ record { parts = replicate WORD_PLACES 0; cuts = replicate WORD_PLACES 0 }
+    → count ≡ length (own_entries world.net (clone_at world.clones c) all.parts 0)
+    → count ≡ length (trace_of world.net (clone_at world.clones c))
+length-all_own world over c there count all is value =
+    let net = world.net in
+    let clone = clone_at world.clones c in
+    value ∙ ap (λ (k : ChangesView). length (own_entries net clone k.parts 0)) is
+    ∙ ap length (own_entries-zeros net over.valid clone (counted world over c there) 0)
+    ∙ ap length (from_0 net (trace_of net clone))
 
-  -- the lines of a log are within `MAX_LINE` bytes each
-  log_bounded : (s : ℕ) (log : List (Entry Msg Line)) → log ≡ log_at net clone s world.front
-      → HaveShortLines net (trace_of net clone) → log_length net clone 0 s ≤ MAX_LINE * length log
-  log_bounded s log e h =
-      let a = log_measured world over c there 0 s log e in
-      let in_trace : (x : Entry Msg Line) → In x (from_time 0 log) → In x (trace_of net clone) =
-      λ x i.
-      let j : In x log = (in_filter (λ y. not (nat_lt y.msg.key.time 0)) log x i).0 in
-      let k : In x (log_at net clone s net.horizon) =
-      subst (λ l. In x l) (e ∙ ap (log_at net clone s) over.done) j in
-      (in_filter (λ y. y.msg.to == s) (trace_of net clone) x k).0 in
-      let b = sum_short net (from_time 0 log) (record { each = λ x i. h.each x (in_trace x i) }) in
-      let d = length-from_time 0 log in
-      omega (arith, a, b, d)
+-- ---- body
 
-  -- with one more log the bound grows by `MAX_LINE` for each entry
-  pub bound_more : (i bound new : ℕ) (log : List (Entry Msg Line)) → log ≡ log_at net clone (i + 1) world.front
-      → HaveShortLines net (trace_of net clone) → first_lengths net clone 0 i ≤ bound
-      → new ≡ bound + MAX_LINE * length log → first_lengths net clone 0 (i + 1) ≤ new
-  bound_more i bound new log e h l n =
-      let a = log_bounded (i + 1) log e h in
-      let b = lengths_more net clone 0 i in
-      omega (arith, a, b, l, n)
-
-  -- with all logs the bound is that of all lines
-  pub bound_all : (n bound : ℕ) → n ≡ length net.sites → first_lengths net clone 0 n ≤ bound
-      → length (body net clone) ≤ bound
-  bound_all n bound many l =
-      let a = all_measured world over c there n 0 many in
-      let b = ap length (rest_from_0 net clone) in
-      omega (arith, a, b, l)
+-- the lines of a clone are within `MAX_LINE` bytes each
+pub body-le : (net : Net) (c : Clone) → HaveShortLines net (trace_of net c)
+    → length (body net c) ≤ MAX_LINE * length (trace_of net c)
+unfolding body
+body-le net c h =
+    let a = sum_short net (trace_of net c) h in
+    let b = length-flat_map (entry_line net) (trace_of net c) in
+    omega (arith, a, b)
 
 -- ---- a clone's lines are short if those of the previous clone are, and its own after it parts from that
 
@@ -166,15 +157,14 @@ module _ (net : Net) (valid : IsNet net) (cs : List Clone) (in_net : AreInNet ne
   short_at (suc c) time there t h k = short_next (suc c) (omega arith) there (h (omega arith))
       (subst (λ u. HaveShortLines net (entries_from (simulation net) u (trace_of net (clone_at cs (suc c))))) t k)
 
--- ---- body
+-- ---- a bound for all clones
 
--- a bound for the lines of one more clone
-pub fits_more : (net : Net) (cs : List Clone) (n most here new : ℕ)
-    → ((c : ℕ) → c < n → length (body net (clone_at cs c)) ≤ most) → length (body net (clone_at cs n)) ≤ here
-    → most ≤ new → here ≤ new → (c : ℕ) → c < n + 1 → length (body net (clone_at cs c)) ≤ new
-fits_more net cs n most here new h l a b c k = elim (cases_lt c n) [
+-- a bound for one more clone
+pub fits_more : (f : ℕ → ℕ) (n most here new : ℕ) → ((c : ℕ) → c < n → f c ≤ most) → f n ≤ here
+    → most ≤ new → here ≤ new → (c : ℕ) → c < n + 1 → f c ≤ new
+fits_more f n most here new h l a b c k = elim (cases_lt c n) [
   | inl less ↦ let m = h c less in omega (arith, m, a)
   | inr not_less ↦
       let e : n ≡ c = omega (arith, k, not_less) in
-      let m = subst (λ j. length (body net (clone_at cs j)) ≤ here) e l in omega (arith, m, b)
+      let m = subst (λ j. f j ≤ here) e l in omega (arith, m, b)
 ]

@@ -7,7 +7,8 @@ use Rattle.trace_writer.specs.Texts.{CanPut}
 use Rattle.trace_writer.specs.WorldTraces.{WorldTracesView}
 use Rattle.trace_writer.specs.declared.text_span.TextSpan.{TextSpan}
 use Rattle.trace_writer.specs.declared.texts.Texts.{Texts}
-use Rattle.trace_writer.proofs.Puts.{left_fits, put_cut, put_on}
+use Rattle.trace_writer.proofs.Puts.{put_cut, put_on, room_left}
+use Rattle.trace_writer.proofs.Remakings.{HasSameSource-trans}
 
 -- ---- MayPut
 
@@ -17,32 +18,38 @@ pub MayPut-begin : (traces : WorldTracesView) (span : TextSpan) (texts : Texts) 
 MayPut-begin traces span texts t order may = record {
   has_span = record { in_range = may.has_span.in_range; order = order };
   can = may.can;
-  fits = may.fits;
+  within = may.within;
+  room = may.room;
 }
 
 module _ (traces : WorldTracesView) (span : TextSpan) (t : ℕ) (old mid : Texts) (v w : SinkView)
-    (put : IsSpanPut traces (record span { until = t }) old.page mid.page v w) where
+    (put : IsSpanPut traces (record span { until = t }) old.making mid.making v w) where
   -- once it is put, the rest of the span may be put
   pub MayPut-rest : t ≤ span.until → CanPut traces.net mid → MayPut traces span old →
       MayPut traces (record span { from = t }) mid
   MayPut-rest order can may = record {
     has_span = record { in_range = may.has_span.in_range; order = order };
     can = can;
-    fits = left_fits span.keeps _ _ _ _ _ _ put may.fits;
+    within = put.within;
+    room = room_left span.keeps _ _ _ _ _ _ put.put may.room;
   }
 
   -- ---- IsSpanPut, IsSpanCutOff
 
   -- if the rest is put, the span is
   pub IsSpanPut-then : (new : Texts) (x : SinkView) →
-      IsSpanPut traces (record span { from = t }) mid.page new.page w x →
-      IsSpanPut traces span old.page new.page v x
-  IsSpanPut-then new x rest = put_on span.keeps _ _ _ _ _ _ _ _ _ put rest
+      IsSpanPut traces (record span { from = t }) mid.making new.making w x →
+      IsSpanPut traces span old.making new.making v x
+  IsSpanPut-then new x rest = record {
+    put = put_on span.keeps _ _ _ _ _ _ _ _ _ put.put rest.put;
+    source = HasSameSource-trans old.making mid.making new.making put.source rest.source;
+    within = rest.within;
+  }
 
   -- if the rest is cut off, the span is
-  pub IsSpanCutOff-then : (x : SinkView) → IsSpanCutOff traces (record span { from = t }) w x →
-      IsSpanCutOff traces span v x
-  IsSpanCutOff-then x cut = put_cut span.keeps _ _ _ _ _ _ _ put cut
+  pub IsSpanCutOff-then : (x : SinkView) → IsSpanCutOff traces (record span { from = t }) mid.making w x →
+      IsSpanCutOff traces span old.making v x
+  IsSpanCutOff-then x cut = put_cut span.keeps _ _ _ _ _ _ _ put.put cut
 
   -- ---- PutsSpan
 
@@ -68,7 +75,7 @@ module _ (traces : WorldTracesView) (span left ready : TextSpan) (left_is : left
   ready_is = up.same ∙ ap (λ (s : TextSpan). record s { from = ready.from; until = left.from }) left_is
 
   module _ (old mid : Texts) (v w : SinkView)
-      (put : IsSpanPut traces (record span { until = ready.from }) old.page mid.page v w) where
+      (put : IsSpanPut traces (record span { until = ready.from }) old.making mid.making v w) where
     module _ (within : left.from ≤ span.until) (can : CanPut traces.net mid) (may : MayPut traces span old) where
       -- both together may be put next
       pub both_may : MayPut traces (record left { from = ready.from }) mid
@@ -89,15 +96,16 @@ module _ (traces : WorldTracesView) (span left ready : TextSpan) (left_is : left
         (subst (λ s. PutsSpan traces s mid new w x result) both_left h)
 
     -- if the ready part is cut off, the span is
-    pub ready_cut : (x : SinkView) → IsSpanCutOff traces ready w x → IsSpanCutOff traces span v x
+    pub ready_cut : (x : SinkView) → IsSpanCutOff traces ready mid.making w x
+        → IsSpanCutOff traces span old.making v x
     ready_cut x h = IsSpanCutOff-then traces span ready.from old mid v w put x
-        (subst (λ s. IsSpanCutOff traces s w x) ready_is h)
+        (subst (λ s. IsSpanCutOff traces s mid.making w x) ready_is h)
 
-    module _ (new : Texts) (x : SinkView) (done : IsSpanPut traces ready mid.page new.page w x) where
+    module _ (new : Texts) (x : SinkView) (done : IsSpanPut traces ready mid.making new.making w x) where
       -- if it is put, the span is put up to the rest
-      pub put_so_far : IsSpanPut traces (record span { until = left.from }) old.page new.page v x
+      pub put_so_far : IsSpanPut traces (record span { until = left.from }) old.making new.making v x
       put_so_far = IsSpanPut-then traces (record span { until = left.from }) ready.from old mid v w put new x
-          (subst (λ s. IsSpanPut traces s mid.page new.page w x) ready_is done)
+          (subst (λ s. IsSpanPut traces s mid.making new.making w x) ready_is done)
 
       -- the rest may then be put
       pub left_may : left.from ≤ span.until → CanPut traces.net new → MayPut traces span old → MayPut traces left new

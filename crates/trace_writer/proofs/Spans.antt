@@ -1,96 +1,150 @@
--- The lines of a span of time.
-use Rattle.std.proofs.Common.{◌≡◌, ℕ, ◌-◌, ◌<◌, ◌≤◌, refl, sym, subst, ap, ◌∙◌, arith, Bool, List, [], ◌++◌}
-use Rattle.std.proofs.Common.{length, drop, Result, Ok, Err, OnOk}
-use Rattle.std.proofs.lemmas.List.{nil_from_length}
-use Rattle.std.specs.List.{flat_map}
+-- The own lines of a span of time.
+use Rattle.std.proofs.Common.{◌≡◌, ℕ, ◌-◌, ◌<◌, ◌≤◌, refl, sym, subst, ap, ◌∙◌, arith, List, [], ◌∷◌}
+use Rattle.std.proofs.Common.{length, drop, not, nat_lt, true, inl, Result, Ok, Err, OnOk}
+use Rattle.std.proofs.lemmas.Bool.{lt-ltb}
 use Rattle.sim_base.specs.Clones.{Clone, clone_at}
 use Rattle.sim_base.specs.declared.entry.Entry.{Entry}
 use Rattle.sim_base.specs.declared.entry.Line.{Line}
 use Rattle.sim_base.specs.declared.message.Msg.{Msg}
-use Rattle.sim_outer.specs.Views.{SinkView}
 use Rattle.net_model.specs.Net.{Net}
-use Rattle.run_laws.specs.SharedTexts.{entries_from}
-use Rattle.stations.specs.Runs.{simulation, trace_of}
-use Rattle.trace_report.specs.TraceText.{entry_line}
+use Rattle.net_model.specs.Rules.{IsNet}
+use Rattle.run_laws.specs.Queue.{In}
+use Rattle.run_laws.proofs.Lists.{in_filter}
+use Rattle.stations.specs.Laws.{HasFewNumbers}
+use Rattle.stations.specs.Runs.{trace_of}
+use Rattle.stations.proofs.GoodLaws.{lawful-stations, stations-to_stations, fresh-stations}
+use Rattle.text_laws.proofs.Remakes.{own_entries_of_trace}
 use Rattle.world_core.specs.Worlds.{WorldView}
-use Rattle.trace_writer.specs.Pages.{PageView}
-use Rattle.trace_writer.specs.Puts.{IsPutTo}
-use Rattle.trace_writer.specs.Texts.{rest}
+use Rattle.trace_changes.specs.Changes.{ChangesView, own_entries, part_at}
+use Rattle.trace_changes.specs.KeyedEntries.{keyed_lines}
+use Rattle.trace_changes.proofs.OwnEntries.{in_own_log, of_log, own_fewer, own_later}
+use Rattle.sim_outer.specs.Views.{SinkView}
+use Rattle.trace_writer.specs.Puts.{ArePutTo}
+use Rattle.trace_writer.specs.Remakings.{HasSameSource, to_come}
+use Rattle.trace_writer.specs.TextSpans.{IsSpanPut, to_come_from}
+use Rattle.trace_writer.specs.Texts.{own_lines}
+use Rattle.trace_writer.specs.declared.remaking.Remaking.{Remaking}
+use Rattle.trace_writer.specs.declared.text_span.TextSpan.{TextSpan}
 use Rattle.trace_writer.specs.WorldTraces.{IsOver, WorldTracesView}
-use Rattle.trace_writer.proofs.LogLaws.{as_seen, fewer_later, left_later, lines_are, none_over, no_rest_seen}
+use Rattle.trace_writer.proofs.Joined.{keyed_lines-nil}
+use Rattle.trace_writer.proofs.LogLaws.{as_seen, counted_seen}
 
 -- ---- OnOk
 
--- two facts about a success together imply a third
-pub both_ok : {X E : Type 0} (r : Result X E) (A B P : Type 0) → OnOk r A → OnOk r B → (A → B → P) → OnOk r P
-both_ok (Ok x) A B P a b f = f a b
-both_ok (Err e) A B P a b f = tt
+-- four facts about a success together imply another
+pub all_ok : {X E : Type 0} (r : Result X E) (A B C D P : Type 0) → OnOk r A → OnOk r B → OnOk r C → OnOk r D
+    → (A → B → C → D → P) → OnOk r P
+all_ok (Ok x) A B C D P a b c d f = f a b c d
+all_ok (Err e) A B C D P a b c d f = tt
 
--- ---- the lines of the entries in a cursor, from one time on at first, and from another afterwards
+-- ---- own_entries
 
-module _ (net model : Net) (c : Clone) (from until count : ℕ) (left others : List (Entry Msg Line)) (is : model ≡ net)
-    (given : left ≡ entries_from (simulation net) from (trace_of net c))
-    (behind : drop count left ≡ entries_from (simulation net) until (trace_of net c))
-    (taken : others ≡ drop count left) where
-  -- the lines at first
-  lines_from : flat_map (entry_line model) left ≡ rest net c from
-  lines_from = lines_are net model c from left is given
+-- a list without elements is empty
+none_in : (es : List (Entry Msg Line)) → ((e : Entry Msg Line) → In e es → ⊥) → es ≡ []
+none_in [] h = refl
+none_in (e ∷ es) h = absurd (h e (inl refl))
 
-  -- the lines afterwards
-  lines_until : flat_map (entry_line model) others ≡ rest net c until
-  lines_until = lines_are net model c until others is (taken ∙ behind)
+module _ (net : Net) (valid : IsNet net) (c : Clone) (counted : HasFewNumbers net c net.horizon) where
+  -- there are no own entries from the horizon on
+  pub own_over : (parts : List ℕ) (t : ℕ) → net.horizon ≤ t → own_entries net c parts t ≡ []
+  unfolding own_entries
+  own_over parts t late = none_in (own_entries net c parts t) (λ e i.
+      let k = in_filter (λ (f : Entry Msg Line). not (nat_lt f.msg.key.time t)) (trace_of net c) e
+      (own_entries_of_trace (lawful-stations net valid) (stations-to_stations net valid) (fresh-stations net valid) c
+      (part_at parts) t counted.in_range e i) in
+      let early = (of_log net valid c counted e.msg.to e (in_own_log net valid c counted e k.0)).early in
+      let is = lt-ltb e.msg.key.time t (omega (arith, early, late)) in
+      let no : not (nat_lt e.msg.key.time t) ≡ true = k.1 in
+      let a : ⊥ = cc in a)
 
-  -- the lines in between, in bytes
-  pub span_made : (bytes : List ℕ) → bytes ++ flat_map (entry_line model) others ≡ flat_map (entry_line model) left
-      → bytes ++ rest net c until ≡ rest net c from
-  span_made bytes text = ap (λ l. bytes ++ l) (sym lines_until) ∙ text ∙ lines_from
-
-  -- the lines in between, put
-  pub span_put : (keeps : Bool) (p q : PageView) (old new : SinkView)
-      → IsPutTo keeps (flat_map (entry_line model) left) (flat_map (entry_line model) others) p q old new
-      → IsPutTo keeps (rest net c from) (rest net c until) p q old new
-  span_put keeps p q old new h = subst (λ l. IsPutTo keeps (rest net c from) l p q old new) lines_until
-      (subst (λ l. IsPutTo keeps l (flat_map (entry_line model) others) p q old new) lines_from h)
+-- the own lines from a time on are those of the own entries
+pub own_lines-is : (net model : Net) (c : Clone) (parts : List ℕ) (t : ℕ) (left : List (Entry Msg Line)) → model ≡ net
+    → left ≡ own_entries net c parts t → keyed_lines model left ≡ own_lines net c parts t
+unfolding own_lines
+own_lines-is net model c parts t left is e = ap (λ n. keyed_lines n left) is ∙ ap (keyed_lines net) e
 
 -- ---- a span from a world's logs
 
 module _ (world : WorldView) (over : IsOver world) (view : WorldTracesView) (cs : List Clone)
     (seen : record { net = world.net; clones = cs } ≡ view) (c k : ℕ) (there : k < length world.clones)
-    (same : clone_at cs c ≡ clone_at world.clones k) where
-  -- the entries of the clone from a time on
-  abbrev trace_from : ℕ → List (Entry Msg Line)
-  trace_from t = entries_from (simulation world.net) t (trace_of world.net (clone_at world.clones k))
+    (same : clone_at cs c ≡ clone_at world.clones k) (parts : List ℕ) where
+  -- the own entries in the world
+  abbrev own_there : ℕ → List (Entry Msg Line)
+  own_there t = own_entries world.net (clone_at world.clones k) parts t
 
   -- those that contracts see
-  abbrev seen_from : ℕ → List (Entry Msg Line)
-  seen_from t = entries_from (simulation view.net) t (trace_of view.net (clone_at view.clones c))
+  abbrev own_seen : ℕ → List (Entry Msg Line)
+  own_seen t = own_entries view.net (clone_at view.clones c) parts t
 
   -- they are the same
-  from_seen : (t : ℕ) → trace_from t ≡ seen_from t
-  from_seen t = as_seen world over view cs seen c k there same
-      (λ n d. trace_from t ≡ entries_from (simulation n) t (trace_of n d)) refl
+  from_seen : (t : ℕ) → own_there t ≡ own_seen t
+  from_seen t = as_seen world over view cs seen c k there same (λ n d. own_there t ≡ own_entries n d parts t) refl
 
-  -- the entries up to another time, and then those from there on
-  pub span_seen : (from until all some : ℕ) (left : List (Entry Msg Line)) → from ≤ until → left ≡ trace_from from
-      → all ≡ length left → some ≡ length (trace_from until)
-      → (some ≤ all) × (left ≡ seen_from from) × (drop (all - some) left ≡ seen_from until)
-  span_seen from until all some left order given count few =
-      let entries = count ∙ ap length given in (
-        fewer_later world over k there from until all some order entries few,
-        given ∙ from_seen from,
-        ap (drop (all - some)) given ∙ left_later world over k there from until all some order entries few
-            ∙ from_seen until,
+  -- the network is valid
+  valid_seen : IsNet view.net
+  valid_seen = subst (λ (v : WorldTracesView). IsNet v.net) seen over.valid
+
+  -- the clone's logs have few entries
+  few : HasFewNumbers view.net (clone_at view.clones c) view.net.horizon
+  few = counted_seen world over view cs seen c k there same
+
+  -- the own entries up to another time, and then those from there on
+  pub span_seen : (from until all some : ℕ) (left : List (Entry Msg Line)) → from ≤ until → left ≡ own_there from
+      → all ≡ length left → some ≡ length (own_there until)
+      → (some ≤ all) × (left ≡ own_seen from) × (drop (all - some) left ≡ own_seen until)
+  span_seen from until all some left order given count few_left =
+      let first = given ∙ from_seen from in
+      let all_is = count ∙ ap length first in
+      let some_is = few_left ∙ ap length (from_seen until) in
+      let fewer = own_fewer view.net valid_seen (clone_at view.clones c) few parts from until order in (
+        omega (arith, all_is, some_is, fewer),
+        first,
+        ap (drop (all - some)) first
+            ∙ own_later view.net valid_seen (clone_at view.clones c) few parts from until all some order all_is some_is,
       )
+
+  -- there is nothing from the horizon on
+  over_seen : (t : ℕ) → world.net.horizon ≤ t → own_seen t ≡ []
+  over_seen t late = own_over view.net valid_seen (clone_at view.clones c) few parts t
+      (subst (λ (v : WorldTracesView). v.net.horizon ≤ t) seen late)
 
   -- at the horizon the first part is everything
   pub span_over : (from until all : ℕ) (left : List (Entry Msg Line)) → from ≤ until → world.net.horizon ≤ until
-      → left ≡ trace_from from → all ≡ length left
-      → (left ≡ seen_from from) × (drop all left ≡ seen_from until)
+      → left ≡ own_there from → all ≡ length left
+      → (left ≡ own_seen from) × (drop all left ≡ own_seen until)
   span_over from until all left order beyond given count =
-      let span = span_seen from until all 0 left order given count (sym (none_over world over k there until beyond)) in
+      let none = ap length (over_seen until beyond) in
+      let span = span_seen from until all 0 left order given count
+      (sym (ap length (from_seen until) ∙ none)) in
       let whole : all ≡ all - 0 = omega arith in (span.1, ap (λ n. drop n left) whole ∙ span.2)
 
-  -- from there on there are no lines
-  pub no_rest : (end : ℕ) → world.net.horizon ≤ end → rest view.net (clone_at view.clones c) end ≡ []
-  no_rest end beyond = nil_from_length (rest view.net (clone_at view.clones c) end)
-      (no_rest_seen world over view cs seen c k there same end beyond)
+  -- from there on there are no own lines
+  pub no_own_lines : (end : ℕ) → world.net.horizon ≤ end
+      → own_lines view.net (clone_at view.clones c) parts end ≡ []
+  unfolding own_lines
+  no_own_lines end beyond = ap (keyed_lines view.net) (over_seen end beyond) ∙ keyed_lines-nil view.net
+
+-- ---- IsSpanPut
+
+-- if the lines of the entries in a cursor are put, from one time on at first and from another afterwards, the span is
+pub span_put : (view : WorldTracesView) (model : Net) (span : TextSpan) (making now : Remaking)
+    (left others : List (Entry Msg Line)) → model ≡ view.net
+    → left ≡ own_entries view.net (clone_at view.clones span.c) making.changes.parts span.from
+    → others ≡ own_entries view.net (clone_at view.clones span.c) making.changes.parts span.until
+    → (old new : SinkView)
+    → ArePutTo span.keeps (to_come making (keyed_lines model left)) (to_come now (keyed_lines model others)) making.text
+    now.text old new → HasSameSource making now → now.done ≤ length now.before.lines
+    → IsSpanPut view span making now old new
+span_put view model span making now left others is first rest old new put source within =
+    let clone = clone_at view.clones span.c in
+    let from = own_lines-is view.net model clone making.changes.parts span.from left is first in
+    let until = own_lines-is view.net model clone making.changes.parts span.until others is rest
+    ∙ ap (λ (k : ChangesView). own_lines view.net clone k.parts span.until) (sym source.changes) in
+    record {
+      put = subst (λ l. ArePutTo span.keeps (to_come_from view making span.c span.from) (to_come now l) making.text
+          now.text old new) until
+          (subst (λ l. ArePutTo span.keeps (to_come making l) (to_come now (keyed_lines model others)) making.text
+          now.text old new) from put);
+      source = source;
+      within = within;
+    }

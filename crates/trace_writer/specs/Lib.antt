@@ -1,5 +1,5 @@
-pub mod Pages
-pub mod Lengths
+pub mod Remakings
+pub mod Pieces
 pub mod WorldTraces
 pub mod Texts
 pub mod Puts

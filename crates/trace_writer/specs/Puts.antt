@@ -4,7 +4,8 @@ use Rattle.std.specs.List.{concat}
 use Rattle.sim_outer.specs.Bytes.{IsAppended, IsPrefixAppended}
 use Rattle.sim_outer.specs.Counts.{AreCounted, IsCounted, HasRisen}
 use Rattle.sim_outer.specs.Views.{SinkView}
-use Rattle.trace_writer.specs.Pages.{PageView}
+use Rattle.keyed_text.specs.Lines.{KeyedLine, text_of}
+use Rattle.keyed_text.specs.Texts.{KeepsReserved, TextView}
 
 -- a part of a text was taken, and the call continues
 pub record IsPartPut (part : List ℕ) (old new : SinkView) : Type 0 where
@@ -37,10 +38,11 @@ pub record AreCut (texts : List (List ℕ)) (old new : SinkView) : Type 0 where
   pub failed : HasRisen old.faults new.faults
   pub calls : AreCounted (length whole + 1) old.calls new.calls
 
--- a first part of the lines is put, and these are left; the page has that part if it is kept
-pub record IsPutTo (keeps : Bool) (all left : List ℕ) (page page_now : PageView) (old new : SinkView) : Type 0 where
-  pub done : List ℕ
+-- the first of some lines are put, and these are left; the text has the first ones if they are kept
+pub record ArePutTo (keeps : Bool) (all left : List KeyedLine) (text text_now : TextView) (old new : SinkView) :
+    Type 0 where
+  pub done : List KeyedLine
   pub parts : done ++ left ≡ all
-  pub taken : IsPartPut done old new
-  pub page_is : page_now.text ≡ page.text ++ (if keeps then done else [])
-  pub reserved : page.reserved ≤ page_now.reserved
+  pub taken : IsPartPut (text_of done) old new
+  pub lines : text_now.lines ≡ text.lines ++ (if keeps then done else [])
+  pub reserved : KeepsReserved text text_now

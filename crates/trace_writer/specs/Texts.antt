@@ -1,5 +1,5 @@
 -- The texts of clones, each made from the previous one.
-use Rattle.std.specs.Prelude.{◌≡◌, ℕ, zero, suc, ◌+◌, ◌-◌, ◌<◌, ◌≤◌, List, [], ◌++◌, length, codes}
+use Rattle.std.specs.Prelude.{◌≡◌, ℕ, zero, suc, ◌-◌, ◌<◌, ◌≤◌, List, [], ◌++◌, length, codes}
 use Rattle.std.specs.Prelude.{map, Result, OnOk, OnErr}
 use Rattle.std.specs.List.{flat_map}
 use Rattle.sim_base.specs.Clones.{Clone, clone_at}
@@ -17,9 +17,16 @@ use Rattle.trace_report.specs.Outputs.{clone_text, clone_texts}
 use Rattle.sim_outer.specs.Bytes.{IsAppended}
 use Rattle.sim_outer.specs.Counts.{AreCounted}
 use Rattle.sim_outer.specs.Views.{SinkView}
+use Rattle.keyed_text.specs.Lines.{KeyedLine}
+use Rattle.keyed_text.specs.Texts.{TextView}
+use Rattle.run_laws.specs.Laws.{entries_before}
+use Rattle.trace_changes.specs.Changes.{own_entries}
+use Rattle.trace_changes.specs.KeyedEntries.{keyed_lines}
+use Rattle.trace_writer.specs.Pieces.{IsPiece}
 use Rattle.trace_writer.specs.Puts.{AreCut}
+use Rattle.trace_writer.specs.Remakings.{to_come}
 use Rattle.trace_writer.specs.WorldTraces.{IsWalk, WorldTracesView}
-use Rattle.trace_writer.specs.declared.texts.TheConstants.{MARGIN}
+use Rattle.trace_writer.specs.declared.remaking.Remaking.{Remaking}
 use Rattle.trace_writer.specs.declared.texts.Texts.{Texts}
 
 -- the text of a clone of this name: its name line, these bytes, and the lines of these entries
@@ -35,10 +42,14 @@ body net c = flat_map (entry_line net) (trace_of net c)
 unfoldable pub rest : Net → Clone → ℕ → List ℕ
 rest net c t = flat_map (entry_line net) (entries_from (simulation net) t (trace_of net c))
 
--- the lines of the clone before this one
-abbrev pub body_before : Net → List Clone → ℕ → List ℕ
-body_before net cs zero = []
-body_before net cs (suc c) = body net (clone_at cs c)
+-- the own lines of a clone from a time on: those of the entries from these places in its logs on
+unfoldable pub own_lines : Net → Clone → List ℕ → ℕ → List KeyedLine
+own_lines net c parts t = keyed_lines net (own_entries net c parts t)
+
+-- the trace of the clone before this one, if there is one
+abbrev pub trace_before : Net → List Clone → ℕ → List (Entry Msg Line)
+trace_before net cs zero = []
+trace_before net cs (suc c) = trace_of net (clone_at cs c)
 
 -- the time before which a clone and the previous one have the same trace
 abbrev pub parting_with_last : Net → List Clone → ℕ → ℕ
@@ -49,35 +60,43 @@ abbrev pub parting_at : Net → List Clone → ℕ → ℕ
 parting_at net cs zero = 0
 parting_at net cs (suc c) = parting_with_last net cs (suc c)
 
--- the length of the previous clone's lines from that time on
-abbrev pub dropped_at : Net → List Clone → ℕ → ℕ
-dropped_at net cs zero = 0
-dropped_at net cs (suc c) = length (rest net (clone_at cs (suc c - 1)) (parting_with_last net cs (suc c)))
-
--- these are first lines of the previous clone; their last `dropped` bytes are not shared with this clone
-pub record AreLeft (net : Net) (cs : List Clone) (c dropped : ℕ) (lines : List ℕ) : Type 0 where
-  pub others : List ℕ
-  pub before : lines ++ others ≡ body_before net cs c
-  pub drops : dropped + length others ≡ dropped_at net cs c
-
 -- each line of these entries is at most `MAX_LINE` bytes
 pub record HaveShortLines (net : Net) (es : List (Entry Msg Line)) : Type 0 where
   pub each : (e : Entry Msg Line) → In e es → length (entry_line net e) ≤ MAX_LINE
 
--- the lines of each clone, and a margin, fit into the reserved bytes
-abbrev pub AllFit : Net → List Clone → ℕ → Type 0
-AllFit net cs reserved = (c : ℕ) → c < length cs → MARGIN + length (body net (clone_at cs c)) ≤ reserved
+-- the lines of each clone fit into the reserved memory
+pub record FitsEach (net : Net) (cs : List Clone) (text : TextView) : Type 0 where
+  pub bytes : (c : ℕ) → c < length cs → length (body net (clone_at cs c)) ≤ text.bytes_reserved
+  pub lines : (c : ℕ) → c < length cs → length (trace_of net (clone_at cs c)) ≤ text.lines_reserved
 
--- the cursor has room for all logs, and the piece for a line
+-- both texts have room for the lines of each clone
+pub record FitsTexts (net : Net) (cs : List Clone) (making : Remaking) : Type 0 where
+  pub text : FitsEach net cs making.text
+  pub before : FitsEach net cs making.before
+
+-- the cursor has room for all logs, and the piece for lines
 pub record CanPut (net : Net) (texts : Texts) : Type 0 where
   pub walk : IsWalk net texts.walk
-  pub line : MAX_LINE ≤ length texts.piece.items
+  pub piece : IsPiece texts.piece
 
--- all memory for the texts of these clones is allocated, with a buffer that fits the longest
+-- all memory for the texts of these clones is allocated
 pub record AreTextsReady (net : Net) (cs : List Clone) (texts : Texts) : Type 0 where
-  pub fits : AllFit net cs texts.page.reserved
-  pub margin : length texts.page.text ≡ MARGIN
+  pub fits : FitsTexts net cs texts.making
+  pub empty : texts.making.text.lines ≡ []
   pub can : CanPut net texts
+
+-- the text has the lines of the clone before this one
+abbrev pub HasTraceBefore : Net → List Clone → ℕ → Remaking → Type 0
+HasTraceBefore net cs c making = making.text.lines ≡ keyed_lines net (trace_before net cs c)
+
+-- the text of a clone has begun: it has the lines before a time, those from the time on are still to come, and no own
+-- line comes at the horizon or later
+pub record IsBegun (net : Net) (c : Clone) (time : ℕ) (making : Remaking) : Type 0 where
+  pub before : making.text.lines ≡ keyed_lines net (entries_before (simulation net) time (trace_of net c))
+  pub later : to_come making (own_lines net c making.changes.parts time)
+      ≡ keyed_lines net (entries_from (simulation net) time (trace_of net c))
+  pub within : making.done ≤ length making.before.lines
+  pub over : (t : ℕ) → net.horizon ≤ t → own_lines net c making.changes.parts t ≡ []
 
 -- the result of putting all texts: each text was put in one call, or a prefix of one in the last call, after all texts
 -- before it

@@ -1,16 +1,13 @@
 -- The traces of the clones of a world.
-use Rattle.std.specs.Prelude.{◌≡◌, ℕ, ◌<◌, ◌≤◌, List, length}
-use Rattle.sim_base.specs.Clones.{Clone, clone_at}
-use Rattle.sim_base.specs.declared.message.TheConstants.{WORD_NUMBERS}
-use Rattle.sim_base.specs.declared.lists.TheConstants.{MAX_CLONES}
+use Rattle.std.specs.Prelude.{◌≡◌, List, length}
+use Rattle.sim_base.specs.Clones.{Clone}
 use Rattle.net_model.specs.Net.{Net}
-use Rattle.net_model.specs.Rules.{IsNet}
 use Rattle.log_merge.specs.Cursors.{CursorView}
 use Rattle.trace_report.specs.Slots.{AreNames}
 use Rattle.trace_report.specs.declared.names.Slot.{Slot}
 use Rattle.watch_laws.specs.Orders.{IsPlaceOrder, in_order}
-use Rattle.world_core.specs.Overs.{NoneBeyond}
-use Rattle.world_core.specs.Worlds.{AreInNet, WorldView}
+pub use Rattle.trace_changes.specs.Over.{AreShort, IsOver, IsOverWith}
+use Rattle.world_core.specs.Worlds.{WorldView}
 use Rattle.trace_writer.specs.declared.text_order.TextOrder.{TextOrder}
 use Rattle.trace_writer.specs.declared.text_order.TextOrder.TheVariants.{AsMade, By}
 
@@ -28,24 +25,6 @@ IsOrderOf (By places) cs = IsPlaceOrder (length cs) places.items
 pub record WorldTracesView : Type 0 where
   pub net : Net
   pub clones : List Clone
-
--- each clone has few enough decisions for their numbers to fit 64 bits
-abbrev pub AreShort : List Clone → Type 0
-AreShort cs = (k : ℕ) → k < length cs → length (clone_at cs k).plans ≤ WORD_NUMBERS
-
--- a world at the horizon
-pub record IsOver (world : WorldView) : Type 0 where
-  pub valid : IsNet world.net
-  pub in_net : AreInNet world.net world.clones
-  pub at_most : length world.clones ≤ MAX_CLONES
-  pub done : world.front ≡ world.net.horizon
-  pub within : NoneBeyond world.net world.clones world.front
-  pub length_max : AreShort world.clones
-
--- a world at the horizon that has this clone
-pub record IsOverWith (world : WorldView) (c : ℕ) : Type 0 where
-  pub over : IsOver world
-  pub in_range : c < length world.clones
 
 -- a world at the horizon, and the stations' names for its lines
 pub record MayTrace (world : WorldView) (names : List Slot) : Type 0 where

@@ -1,23 +1,24 @@
 //! Batches of spans: a crew makes the lines of one batch while its caller puts those of the previous batch.
 ghost use Rattle.std.specs.Prelude.{◌≡◌, ◌<◌, ◌≤◌, length, IfOk, IfSome};
 ghost use Rattle.crew_pool.specs.declared.crew.TheConstants.{MAX_TASKS};
-ghost use Rattle.trace_writer.specs.Batches.{AreJoined, AreMade, IsBatchOf, batch_span, bytes_of};
+ghost use Rattle.trace_writer.specs.Batches.{AreJoined, AreMade, IsBatchOf, batch_span, lines_of_all};
 ghost use Rattle.trace_writer.specs.Orders.{HasSpan, IsMade};
 
 use crate::bounds::parting_at;
 use crate::cuts::Cuts;
-use crate::logs::count_from;
-use crate::making::Lines;
+use crate::making::OwnLines;
 use crate::text_order::place_in;
 use crate::text_span::TextSpan;
 use crate::world_traces::WorldTraces;
 use crew_pool::{Bell, Crew, MAX_TASKS, Member, NoGate, Started, Workers, serve_all};
+use keyed_text::KeyedText;
 use sim_base::{NoMemory, Steps};
 use std::alloc::Global;
 use std::marker::Brand;
 use std::sync::ledger::{Blank, Ledger};
 use std::sync::{Arc, Wait};
 use std::thread::Threads;
+use trace_changes::{Changes, count_own};
 
 // Spans of a batch for each worker. With several, the spans that finish last are a small part of the batch.
 const SPANS_OF_A_WORKER: usize = 8;
@@ -28,8 +29,8 @@ const LONG_TEXT: u64 = 32_768;
 /// The caller of a crew that makes lines, between two batches. Contracts see the traces whose lines it makes.
 #[derive(Drop)]
 pub(crate) struct Makers<'t> {
-    lines: Arc<Lines<'t>>,
-    crew: Crew<'static, Lines<'t>, NoGate>,
+    traces: &'t WorldTraces<'t>,
+    crew: Crew<'static, OwnLines<'t>, NoGate>,
     // the number of spans of a batch
     spans: usize,
 }
@@ -41,13 +42,13 @@ impl<'t> std::marker::Model for Makers<'t> {
 
     ghost Value = { WorldTracesView };
 
-    ghost view = { λ m. m.lines.value };
+    ghost view = { λ m. m.traces.now };
 
     ghost invariant = { λ m. (1 ≤ m.spans) × (m.spans ≤ MAX_TASKS) };
 }
 
 /// The members of a crew that makes lines, except its caller.
-pub(crate) type LineMembers<'g, 't> = Vec<Member<'g, Lines<'t>, NoGate>>;
+pub(crate) type LineMembers<'g, 't> = Vec<Member<'g, OwnLines<'t>, NoGate>>;
 
 /// The members, and the bell that dismisses them.
 #[derive(Drop)]
@@ -58,13 +59,14 @@ pub(crate) struct Others<'t> {
     pub bell: Arc<Bell>,
 }
 
-/// A batch that the crew is making: consecutive spans of a clone. Contracts see the traces, the clone, the time at
-/// which the first span begins, and the time at which the last one ends.
+/// A batch that the crew is making: consecutive spans of a clone. Contracts see the traces, the changes, the clone, the
+/// time at which the first span begins, and the time at which the last one ends.
 #[derive(Drop)]
 pub(crate) struct Batch<'t> {
-    lines: Arc<Lines<'t>>,
+    traces: &'t WorldTraces<'t>,
+    changes: Changes,
     spans: usize,
-    started: Started<'static, Lines<'t>, NoGate>,
+    started: Started<'static, OwnLines<'t>, NoGate>,
     c: u32,
     from: u64,
     until: u64,
@@ -75,9 +77,16 @@ impl<'t> std::marker::Model for Batch<'t> {
 
     ghost Value = { BatchView };
 
-    ghost view = { λ b. record { traces = b.lines.value; c = b.c; from = b.from; until = b.until } };
+    ghost view = { λ b. record {
+      traces = b.traces.now;
+      changes = b.changes;
+      c = b.c;
+      from = b.from;
+      until = b.until;
+    } };
 
-    ghost invariant = { λ b. IsUnderWay b.lines.value b.started b.c b.from b.until b.spans };
+    ghost invariant = { λ b. IsUnderWay (record { traces = b.traces.now; changes = b.changes }) b.started b.c b.from
+        b.until b.spans };
 }
 
 // Begins a crew of this number of workers. The caller is one of them.
@@ -88,19 +97,26 @@ fn begin<'t>(
 ) -> Result<(Makers<'t>, Others<'t>), NoMemory>
     ensures makers { IfOk result (λ r. r.0 ≡ traces.now) }
 {
-    let lines = Arc::new(alloc, Lines::of(traces))?;
     let (crew, members) = Crew::begin(alloc, &NoGate, workers)?;
     let bell = crew.bell()?;
     let spans = (workers.count as usize * SPANS_OF_A_WORKER).min(MAX_TASKS);
-    Ok((Makers { lines, crew, spans }, Others { members, bell }))
+    Ok((
+        Makers {
+            traces,
+            crew,
+            spans,
+        },
+        Others { members, bell },
+    ))
 }
 
-// Whether some text has many lines that it does not share: a hint.
+// Whether some text has many lines after it parts from the previous one: a hint.
 fn is_any_long(traces: &WorldTraces<'_>) -> bool {
+    let all = Changes::all_own();
     for c in 0..traces.len() {
         let from = parting_at(traces, c);
         let place = place_in(traces.world, &traces.order, c);
-        if count_from(traces.world, place, from) >= LONG_TEXT {
+        if count_own(traces.world, place, &all, from) >= LONG_TEXT {
             return true;
         }
     }
@@ -169,9 +185,9 @@ fn cut_spans<'t>(
 fn finish_counted<'t, L: Ledger, R: Wait>(
     rt: &R,
     alloc: Global,
-    started: Started<'static, Lines<'t>, NoGate>,
+    started: Started<'static, OwnLines<'t>, NoGate>,
     blank: Blank,
-) -> Result<(Crew<'static, Lines<'t>, NoGate>, Vec<Vec<u8>>), NoMemory>
+) -> Result<(Crew<'static, OwnLines<'t>, NoGate>, Vec<KeyedText>), NoMemory>
     requires name { blank.name ≡ L.name }
     requires parts { blank.parts ≡ L.parts }
     requires nonempty { 0 < L.parts }
@@ -188,19 +204,25 @@ impl<'t> Makers<'t> {
     pub(crate) fn start(
         self,
         alloc: Global,
+        changes: Changes,
         cuts: &mut Cuts<'t>,
         span: TextSpan,
     ) -> Result<Batch<'t>, NoMemory>
         requires span { HasSpan self span.c span.from span.until }
         requires nonempty { span.from < span.until }
-        ensures batch { IfOk result (λ b. IsBatchOf self.entry span b) }
+        ensures batch { IfOk result (λ b. IsBatchOf self.entry changes span b) }
     {
-        let Makers { lines, crew, spans } = self;
-        let (items, until) = cut_spans(alloc, lines.traces(), cuts, span, spans)?;
-        let work = lines.clone()?;
+        let Makers {
+            traces,
+            crew,
+            spans,
+        } = self;
+        let (items, until) = cut_spans(alloc, traces, cuts, span, spans)?;
+        let work = Arc::new(alloc, OwnLines::of(traces, changes))?;
         let started = crew.start(alloc, work, items)?;
         Ok(Batch {
-            lines,
+            traces,
+            changes,
             spans,
             started,
             c: span.c,
@@ -225,12 +247,13 @@ impl<'t> Batch<'t> {
         self,
         rt: &R,
         alloc: Global,
-    ) -> Result<(Makers<'t>, Vec<Vec<u8>>), NoMemory>
+    ) -> Result<(Makers<'t>, Vec<KeyedText>), NoMemory>
         ensures makers { IfOk result (λ r. r.0 ≡ self.entry.traces) }
-        ensures made { IfOk result (λ r. IsMade (batch_span self.entry) (bytes_of r.1.items)) }
+        ensures made { IfOk result (λ r. IsMade (batch_span self.entry) (lines_of_all r.1.items)) }
     {
         let Batch {
-            lines,
+            traces,
+            changes: _,
             spans,
             started,
             c: _,
@@ -238,6 +261,13 @@ impl<'t> Batch<'t> {
             until: _,
         } = self;
         let (crew, made) = finish_counted::<Brand, R>(rt, alloc, started, Blank::new(1))?;
-        Ok((Makers { lines, crew, spans }, made))
+        Ok((
+            Makers {
+                traces,
+                crew,
+                spans,
+            },
+            made,
+        ))
     }
 }

@@ -1,22 +1,23 @@
 //! Puts the lines of a clone in a span of time, by the caller alone or together with the members of a crew.
 ghost use Rattle.std.specs.Prelude.{◌<◌, ◌≤◌, length, IfSome};
-ghost use Rattle.trace_writer.specs.Batches.{IsBatchOf, MakeFor, bytes_of};
+ghost use Rattle.trace_writer.specs.Batches.{IsBatchOf, MakeFor, lines_of_all};
 ghost use Rattle.trace_writer.specs.Orders.{HasSpan, IsMade};
 ghost use Rattle.trace_writer.specs.ReadyLines.{IsReady};
 ghost use Rattle.trace_writer.specs.TextSpans.{IsUpTo, MayPut, PutsSpan, span_of};
 
 use crate::batches::{Batch, Makers};
 use crate::cuts::Cuts;
-use crate::logs::count_from;
 use crate::span_putter::SpanPutter;
 use crate::text_order::place_in;
 use crate::text_span::TextSpan;
 use crate::texts::Texts;
 use crate::world_traces::WorldTraces;
 use crate::writing::put_span;
+use keyed_text::KeyedText;
 use sim_outer::{PutFailed, Sink};
 use std::alloc::Global;
 use std::sync::Wait;
+use trace_changes::{Changes, count_own};
 
 // The caller alone puts a span with fewer lines than this; members would not make it faster.
 const LONG_SPAN: u64 = 8_192;
@@ -35,8 +36,8 @@ pub(crate) struct Help<'t> {
 pub(crate) struct ReadyLines {
     /// The span.
     pub span: TextSpan,
-    /// Its lines, in consecutive buffers.
-    pub lines: Vec<Vec<u8>>,
+    /// Its own lines, in consecutive texts.
+    pub lines: Vec<KeyedText>,
 }
 
 // Puts ready lines. Only the contract reads the traces.
@@ -46,12 +47,13 @@ fn put_ready<O: Sink>(
     ready: &ReadyLines,
     out: &mut O,
 ) -> Result<(), PutFailed>
-    requires made { IsMade (span_of _traces.now ready.now.span) (bytes_of ready.now.lines.items) }
+    requires made { IsMade (span_of _traces.now texts.old.making.changes.parts ready.now.span)
+        (lines_of_all ready.now.lines.items) }
     requires may { MayPut _traces.now ready.now.span texts.old }
     ensures put { PutsSpan _traces.now ready.now.span texts.old texts.new (O.view out.old) (O.view out.new) result }
 {
-    for buffer in &ready.lines {
-        match texts.page.put_part(buffer, ready.span.keeps, out) {
+    for text in &ready.lines {
+        match texts.making.put_made(text.lines(), ready.span.keeps, out) {
             Ok(()) => {}
             Err(failed) => return Err(failed),
         }
@@ -64,17 +66,18 @@ fn put_ready<O: Sink>(
 fn start_batch<'t>(
     traces: &WorldTraces<'t>,
     help: &mut Help<'t>,
+    changes: Changes,
     cuts: &mut Cuts<'t>,
     span: TextSpan,
 ) -> Option<Batch<'t>>
     requires makers { MakeFor traces.now help.old.makers }
     requires span { HasSpan traces.now span.c span.from span.until }
     requires nonempty { span.from < span.until }
-    ensures batch { IfSome result (λ batch. IsBatchOf traces.now span batch) }
+    ensures batch { IfSome result (λ batch. IsBatchOf traces.now changes span batch) }
     ensures makers { MakeFor traces.now help.new.makers }
 {
     let makers = help.makers.take()?;
-    makers.start(help.alloc, cuts, span).ok()
+    makers.start(help.alloc, changes, cuts, span).ok()
 }
 
 // Finishes a batch and returns its lines. `None` if an allocation fails; then there is no crew any more.
@@ -86,8 +89,8 @@ fn finish_batch<'t, R: Wait>(
     span: TextSpan,
 ) -> Option<ReadyLines>
     requires makers { MakeFor traces.now help.old.makers }
-    requires batch { IsBatchOf traces.now span batch }
-    ensures ready { IfSome result (λ ready. IsReady traces.now span ready) }
+    requires batch { IsBatchOf traces.now batch.changes span batch }
+    ensures ready { IfSome result (λ ready. IsReady traces.now batch.entry.changes.parts span ready) }
     ensures makers { MakeFor traces.now help.new.makers }
 {
     let span = TextSpan {
@@ -107,7 +110,8 @@ fn put_last<'t, O: Sink>(
     left: TextSpan,
     out: &mut O,
 ) -> Result<(), PutFailed>
-    requires made { IsMade (span_of traces.now ready.now.span) (bytes_of ready.now.lines.items) }
+    requires made { IsMade (span_of traces.now texts.old.making.changes.parts ready.now.span)
+        (lines_of_all ready.now.lines.items) }
     requires joined { IsUpTo left ready.now.span }
     requires order { left.from ≤ left.until }
     requires may { MayPut traces.now (record left { from = ready.now.span.from }) texts.old }
@@ -135,7 +139,7 @@ fn put_by_makers<'t, O: Sink, R: Wait>(
     ensures put { PutsSpan traces.now span texts.old texts.new (O.view out.old) (O.view out.new) result }
     ensures makers { MakeFor traces.now help.new.makers }
 {
-    let mut cuts = Cuts::new(traces, span.c, span.from, span.until);
+    let mut cuts = Cuts::new(traces, &texts.making.changes, span.c, span.from, span.until);
     let mut ready = ReadyLines {
         span: TextSpan {
             until: span.from,
@@ -145,7 +149,7 @@ fn put_by_makers<'t, O: Sink, R: Wait>(
     };
     let mut left = span;
     'batch: while left.from < span.until {
-        let Some(batch) = start_batch(traces, help, &mut cuts, left) else {
+        let Some(batch) = start_batch(traces, help, texts.making.changes, &mut cuts, left) else {
             return put_last(traces, texts, &ready, left, out);
         };
         match put_ready(traces, texts, &ready, out) {
@@ -164,13 +168,13 @@ fn put_by_makers<'t, O: Sink, R: Wait>(
     put_last(traces, texts, &ready, left, out)
 }
 
-// Whether a span has few lines.
-fn is_short(traces: &WorldTraces<'_>, span: TextSpan) -> bool
+// Whether a span has few own lines.
+fn is_short(traces: &WorldTraces<'_>, changes: &Changes, span: TextSpan) -> bool
     requires in_range { span.c < length traces.now.clones }
 {
     let place = place_in(traces.world, &traces.order, span.c);
-    let all = count_from(traces.world, place, span.from);
-    all.saturating_sub(count_from(traces.world, place, span.until)) < LONG_SPAN
+    let all = count_own(traces.world, place, changes, span.from);
+    all.saturating_sub(count_own(traces.world, place, changes, span.until)) < LONG_SPAN
 }
 
 /// Puts spans together with the members of a crew that run in threads.
@@ -195,7 +199,7 @@ impl<'r, 't, R: Wait> SpanPutter<'t> for WithCrew<'r, 't, R> {
         span: TextSpan,
         out: &mut O,
     ) -> Result<(), PutFailed> {
-        if self.help.makers.is_none() || is_short(traces, span) {
+        if self.help.makers.is_none() || is_short(traces, &texts.making.changes, span) {
             return put_span(traces, texts, span, out);
         }
         put_by_makers(self.rt, traces, &mut self.help, texts, span, out)

@@ -1,14 +1,14 @@
 //! The texts of all clones, put one after the other, each in parts.
 //!
 //! A clone's text is a name line and a line for each message that the clone handled. Clones that branch from one
-//! another share most lines. So each text reuses the bytes of the lines that it shares with the previous text. Only the
-//! lines after the time at which the two decision lists part are made.
+//! another share most lines. So each text is made of the previous one, station by station: lines of entries that both
+//! clones have are copied in runs, and only the lines of the clone's own entries are made.
 //!
 //! ```text
-//!                      a margin    lines
-//!   text of `base`     clone base\n|3 gate ..\n5 desk ..\n|8 desk ..\n13 desk ..\n
-//!   text of `fast`     clone fast\n| kept                |8 desk analyst 0 set service 2 2 ..\n11 desk ..\n
-//!                                                        ^ the two lists part at 8
+//!   text of `base`     clone base\n 3 gate ..\n 5 desk ..\n 8 desk ..\n 9 gate ..\n 13 desk ..\n
+//!   text of `fast`     clone fast\n 3 gate ..\n 5 desk ..\n 8 desk analyst 0 set ..\n 9 gate ..\n 11 desk ..\n
+//!                                 | in place         | own: made             | copied    | own
+//!                                                    ^ the two decision lists part at 8
 //! ```
 //!
 //! ```text
@@ -17,16 +17,20 @@
 //! put_texts(rt, alloc, &traces, workers, texts, out)?;    // one call for each clone
 //! ```
 //!
-//! A text is put in one call, in parts as they are made. First come the name line and the lines kept from the previous
-//! text, and then its own lines, 16 KiB at a time. The lines that the next text shares are kept in a buffer, for which
-//! `prepare` reserves 256 bytes a line; no line is longer. Pages of the buffer that hold no kept line are never
-//! touched, so a text without a successor needs almost no memory. A line that is not kept costs the merge of its entry
-//! from the stations' logs, and its bytes. `put_alone` puts the text of one log in the same way.
+//! A text is put in one call, in parts as it is made. First come the name line and the lines before the time at which
+//! the decision lists part. They stay where the previous text has them. The previous text's later lines move aside, and
+//! are merged with the clone's own lines by key. [`trace_changes`] finds at each station the entries that both clones
+//! have in common, and [`keyed_text`] has the texts with their keys. The last text is not kept.
 //!
-//! If a run has a long text, a crew of workers makes the lines of long texts. It is begun once for all texts. A text is
-//! cut into spans of about 2,048 lines, and each span is a task of the crew: it merges the entries of the span, and
-//! writes their lines into a buffer. Eight spans for each worker are a batch, at most 64. The members make one batch
-//! while the caller puts the lines of the previous batch. Then the caller makes what no member has begun:
+//! `prepare` reserves 256 bytes for each line, for two texts; no line is longer. Pages that hold no line are never
+//! touched, so a text without a successor needs almost no memory. A made line costs the merge of its entry from the
+//! stations' logs, and its bytes; a copied one costs a tenth of that. `put_alone` puts the text of one log.
+//!
+//! If a run has a long text, a crew of workers makes the own lines of long texts. It is begun once for all texts. A
+//! text is cut into spans of about 2,048 own lines, and each span is a task of the crew: it merges the entries of the
+//! span, and writes their lines into a buffer. Eight spans for each worker are a batch, at most 64. The members make one
+//! batch while the caller puts the lines of the previous batch, and the lines that stay. Then the caller makes what no
+//! member has begun:
 //!
 //! ```text
 //!   caller     start 2 | put the lines of batch 1 | make spans of 2 | start 3 | put the lines of batch 2 | ..
@@ -51,9 +55,10 @@ pub mod laws;
 mod lines;
 mod logs;
 mod making;
-mod page;
 mod parting;
+mod piece;
 mod putting;
+mod remaking;
 mod span_putter;
 mod text_order;
 mod text_span;

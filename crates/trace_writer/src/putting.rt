@@ -1,180 +1,140 @@
 //! Puts the texts of all clones into a sink, one after the other.
-ghost use Rattle.std.specs.Prelude.{◌≡◌, ◌+◌, ◌<◌, ◌≤◌, ◌++◌, true, length, drop, map, codes};
+ghost use Rattle.std.specs.Prelude.{◌≡◌, ◌+◌, ◌<◌, ◌≤◌, true, length, map, max};
 ghost use Rattle.std.specs.Prelude.{IfOk, IfSome, OnOk, OnErr};
 ghost use Rattle.trace_writer.specs.Batches.{MakeFor};
 ghost use Rattle.sim_base.specs.Clones.{clone_at};
 ghost use Rattle.sim_outer.specs.Bytes.{IsAppended};
 ghost use Rattle.sim_outer.specs.Counts.{AreCounted};
-ghost use Rattle.trace_writer.specs.declared.texts.TheConstants.{MARGIN};
+ghost use Rattle.stations.specs.Runs.{trace_of};
+ghost use Rattle.trace_changes.specs.KeyedEntries.{keyed_lines};
 ghost use Rattle.trace_writer.specs.Puts.{AreCut, IsPartPut, IsPut, IsCutOff};
-ghost use Rattle.trace_writer.specs.Texts.{AllFit, AreLeft, AreTextsReady, CanPut, PutsAll, body, rest};
+ghost use Rattle.trace_writer.specs.Texts.{AreTextsReady, CanPut, FitsTexts, HasTraceBefore, IsBegun, PutsAll, body};
 ghost use Rattle.trace_writer.specs.Texts.{parting_at as parting_at'};
-ghost use Rattle.trace_writer.specs.TextSpans.{MayPut};
 ghost use Rattle.trace_report.specs.Outputs.{clone_text, clone_texts};
 
+use crate::alone::put_name_line;
 use crate::batches::{LineMembers, Makers, Others, begin_if_long, serve_once};
 use crate::beside::{Help, WithCrew};
 use crate::bounds::parting_at;
-use crate::logs::len_between;
-use crate::page::Page;
+use crate::remaking::Remaking;
 use crate::span_putter::{Alone, SpanPutter};
 use crate::text_order::place_in;
 use crate::text_span::TextSpan;
-use crate::texts::{FEED, Texts};
+use crate::texts::Texts;
 use crate::world_traces::WorldTraces;
 use crew_pool::Bell;
-use sim_base::Name;
 use sim_outer::{PutFailed, Sink};
 use std::alloc::Global;
 use std::sync::Wait;
 use std::thread::{Threads, join_mut};
+use trace_changes::{Changes, changes_between, first_word};
 
-// Writes a clone's name line at the end of the margin, just before its lines. Returns where it begins.
-fn put_head(page: &mut Page, name: &Name) -> usize
-    requires margin { MARGIN ≤ length page.old.text }
-    ensures text { drop result page.new.text
-        ≡ codes "clone " ++ (name.now ++ (codes "\n" ++ drop MARGIN page.old.text)) }
-    ensures lines { drop MARGIN page.new.text ≡ drop MARGIN page.old.text }
-    ensures size { length page.new.text ≡ length page.old.text }
-    ensures start { result ≤ MARGIN }
-    ensures reserved { page.new.reserved ≡ page.old.reserved }
-{
-    let bytes = name.as_bytes();
-    let at = FEED - bytes.len();
-    page.put_at(FEED, b"\n");
-    page.put_at(at, bytes);
-    page.put_at(at - 6, b"clone ");
-    at - 6
-}
-
-// Begins the text of a clone: drops the last `dropped` bytes of the page, which keeps the lines before the time at
-// which it parts from the previous clone. Then writes its name line before them. Returns where that begins.
-fn begin_text(traces: &WorldTraces<'_>, c: u32, time: u64, dropped: usize, page: &mut Page) -> usize
+// Begins the text of a clone: it has the lines of the text before up to the time at which the two clones part.
+fn begin_text(traces: &WorldTraces<'_>, c: u32, time: u64, making: &mut Remaking)
     requires in_range { c < length traces.now.clones }
     requires time { time ≡ parting_at' traces.now.net traces.now.clones c }
-    requires margin { MARGIN ≤ length page.old.text }
-    requires left { AreLeft traces.now.net traces.now.clones c dropped (drop MARGIN page.old.text) }
-    // from the returned place on, the page has the text of the clone up to the time
-    ensures text { drop result page.new.text ++ rest traces.now.net (clone_at traces.now.clones c) time
-        ≡ clone_text traces.now.net (clone_at traces.now.clones c) }
-    // after the margin, the page has its lines up to the time
-    ensures lines { drop MARGIN page.new.text ++ rest traces.now.net (clone_at traces.now.clones c) time
-        ≡ body traces.now.net (clone_at traces.now.clones c) }
-    // the margin and the reserved memory are unchanged
-    ensures margin { MARGIN ≤ length page.new.text }
-    ensures start { result ≤ MARGIN }
-    ensures reserved { page.new.reserved ≡ page.old.reserved }
+    requires before { HasTraceBefore traces.now.net traces.now.clones c making.old }
+    requires fits { FitsTexts traces.now.net traces.now.clones making.old }
+    ensures begun { IsBegun traces.now.net (clone_at traces.now.clones c) time making.new }
+    ensures fits { FitsTexts traces.now.net traces.now.clones making.new }
 {
     let _clones = traces.len();
-    let keep = page.len() - dropped;
-    page.cut(keep);
-    put_head(page, &traces.name(c))
+    let place = place_in(traces.world, &traces.order, c);
+    if c == 0 {
+        making.begin(0, Changes::all_own());
+        return;
+    }
+    let before = place_in(traces.world, &traces.order, c - 1);
+    let changes = changes_between(traces.world, before, place, time);
+    let keep = making.text.lines_below(first_word(time));
+    making.begin(keep, changes);
 }
 
-// Puts the lines of a clone after it parts from the previous one. First comes the span up to the time at which the next
-// clone parts from it, which the page keeps, and then the rest.
-fn put_rest<'t, O: Sink, P: SpanPutter<'t>>(
+// Puts the text of a clone, which has begun, after its name line: first the lines before a time, which it has.
+fn put_text_lines<'t, O: Sink, P: SpanPutter<'t>>(
     traces: &WorldTraces<'t>,
     putter: &mut P,
     texts: &mut Texts<'t>,
-    kept: TextSpan,
+    rest: TextSpan,
     out: &mut O,
 ) -> Result<(), PutFailed>
     requires puts_for { P.puts_for putter.old traces.now }
-    requires keeps { kept.keeps ≡ true }
-    requires may { MayPut traces.now kept texts.old }
-    // all of these lines are put
-    ensures ok { OnOk result (IsPartPut (rest traces.now.net (clone_at traces.now.clones kept.c) kept.from)
+    requires in_range { rest.c < length traces.now.clones }
+    requires until { rest.until ≡ max rest.from traces.now.net.horizon }
+    requires begun { IsBegun traces.now.net (clone_at traces.now.clones rest.c) rest.from texts.old.making }
+    requires fits { FitsTexts traces.now.net traces.now.clones texts.old.making }
+    requires can { CanPut traces.now.net texts.old }
+    // the lines are put, or cut off
+    ensures ok { OnOk result (IsPartPut (body traces.now.net (clone_at traces.now.clones rest.c))
         (O.view out.old) (O.view out.new)) }
-    // the page keeps those before the next clone parts
-    ensures page { OnOk result (texts.new.page.text ++ rest traces.now.net (clone_at traces.now.clones kept.c) kept.until
-        ≡ texts.old.page.text ++ rest traces.now.net (clone_at traces.now.clones kept.c) kept.from) }
-    ensures longer { OnOk result (length texts.old.page.text ≤ length texts.new.page.text) }
-    ensures reserved { OnOk result (texts.old.page.reserved ≤ texts.new.page.reserved) }
-    // or they are cut off
-    ensures err { OnErr result (IsCutOff (rest traces.now.net (clone_at traces.now.clones kept.c) kept.from)
+    ensures err { OnErr result (IsCutOff (body traces.now.net (clone_at traces.now.clones rest.c))
         (O.view out.old) (O.view out.new)) }
+    // if they are kept, the text has them
+    ensures kept { OnOk result (rest.keeps ≡ true → texts.new.making.text.lines
+        ≡ keyed_lines traces.now.net (trace_of traces.now.net (clone_at traces.now.clones rest.c))) }
+    ensures fits { OnOk result (FitsTexts traces.now.net traces.now.clones texts.new.making) }
     ensures can { CanPut traces.now.net texts.new }
     ensures puts_for { P.puts_for putter.new traces.now }
 {
-    match putter.put_lines(traces, texts, kept, out) {
+    let _clones = traces.len();
+    match out.put_part(texts.making.text.text_from(0)) {
         Ok(()) => {}
         Err(failed) => return Err(failed),
     }
-    let others = TextSpan {
-        from: kept.until,
-        until: kept.until.max(traces.world.model().horizon()),
-        keeps: false,
-        ..kept
-    };
-    match putter.put_lines(traces, texts, others, out) {
+    match putter.put_lines(traces, texts, rest, out) {
+        Ok(()) => {}
+        Err(failed) => return Err(failed),
+    }
+    match texts.making.put_staying(rest.keeps, out) {
         Ok(()) => Ok(()),
         Err(failed) => Err(failed),
     }
 }
 
-// The length of the lines of a clone from one time up to another.
-fn bytes_between(traces: &WorldTraces<'_>, c: u32, from: u64, until: u64) -> usize
-    requires in_range { c < length traces.now.clones }
-    requires order { from ≤ until }
-    ensures value { result + length (rest traces.now.net (clone_at traces.now.clones c) until)
-        ≡ length (rest traces.now.net (clone_at traces.now.clones c) from) }
-{
-    let place = place_in(traces.world, &traces.order, c);
-    len_between(traces.world, &traces.names, place, from, until)
-}
-
-// Puts the text of a clone. The page has lines of the previous clone; their last `dropped` bytes do not belong to this
-// clone. Returns the number of kept bytes that the next clone drops.
+// Puts the text of a clone. Between two texts, the memory has the lines of the last one.
 fn put_clone_text<'t, O: Sink, P: SpanPutter<'t>>(
     traces: &WorldTraces<'t>,
     putter: &mut P,
     texts: &mut Texts<'t>,
     c: u32,
-    dropped: usize,
     out: &mut O,
-) -> Result<usize, PutFailed>
+) -> Result<(), PutFailed>
     requires puts_for { P.puts_for putter.old traces.now }
     requires in_range { c < length traces.now.clones }
     requires can { CanPut traces.now.net texts.old }
-    requires fits { AllFit traces.now.net traces.now.clones texts.old.page.reserved }
-    requires margin { MARGIN ≤ length texts.old.page.text }
-    requires left { AreLeft traces.now.net traces.now.clones c dropped (drop MARGIN texts.old.page.text) }
+    requires fits { FitsTexts traces.now.net traces.now.clones texts.old.making }
+    requires before { HasTraceBefore traces.now.net traces.now.clones c texts.old.making }
     // the text is put, or cut off
     ensures ok { OnOk result (IsPut (clone_text traces.now.net (clone_at traces.now.clones c))
         (O.view out.old) (O.view out.new)) }
     ensures err { OnErr result (IsCutOff (clone_text traces.now.net (clone_at traces.now.clones c))
         (O.view out.old) (O.view out.new)) }
-    // what the page holds for the next clone, if there is one
-    ensures left { IfOk result (λ n. c + 1 < length traces.now.clones →
-        AreLeft traces.now.net traces.now.clones (c + 1) n (drop MARGIN texts.new.page.text)) }
-    ensures margin { OnOk result (MARGIN ≤ length texts.new.page.text) }
-    ensures reserved { OnOk result (texts.old.page.reserved ≤ texts.new.page.reserved) }
+    // what the next clone finds, if there is one
+    ensures before { OnOk result (c + 1 < length traces.now.clones →
+        HasTraceBefore traces.now.net traces.now.clones (c + 1) texts.new.making) }
+    ensures fits { OnOk result (FitsTexts traces.now.net traces.now.clones texts.new.making) }
     ensures can { CanPut traces.now.net texts.new }
     ensures puts_for { P.puts_for putter.new traces.now }
 {
     let clones = traces.len();
     let time = parting_at(traces, c);
-    // the result for the last clone is not used
-    let next = parting_at(traces, (c + 1).min(clones - 1));
-    let late = time.max(next);
-    let start = begin_text(traces, c, time, dropped, &mut texts.page);
-    match texts.page.put_from(start, out) {
+    begin_text(traces, c, time, &mut texts.making);
+    match put_name_line(&traces.name(c), out) {
         Ok(()) => {}
         Err(failed) => return Err(failed),
     }
-    let kept = TextSpan {
+    let rest = TextSpan {
         c,
         from: time,
-        until: late,
-        keeps: true,
+        until: time.max(traces.world.model().horizon()),
+        keeps: c + 1 < clones,
     };
-    match put_rest(traces, putter, texts, kept, out) {
+    match put_text_lines(traces, putter, texts, rest, out) {
         Ok(()) => {}
         Err(failed) => return Err(failed),
     }
     match out.put(b"") {
-        Ok(()) => Ok(bytes_between(traces, c, next, late)),
+        Ok(()) => Ok(()),
         Err(failed) => Err(failed),
     }
 }
@@ -190,11 +150,9 @@ fn put_all<'t, O: Sink, P: SpanPutter<'t>>(
     requires ready { AreTextsReady traces.now.net traces.now.clones texts.old }
     ensures put { PutsAll traces.now (O.view out.old) (O.view out.new) result }
 {
-    let clones = traces.len();
-    let mut dropped = 0;
-    for c in 0..clones {
-        match put_clone_text(traces, putter, texts, c, dropped, out) {
-            Ok(drops) => dropped = drops,
+    for c in 0..traces.len() {
+        match put_clone_text(traces, putter, texts, c, out) {
+            Ok(()) => {}
             Err(failed) => return Err(failed),
         }
     }

@@ -1,6 +1,8 @@
-use Rattle.std.proofs.Common.{ap, arith, refl, subst, sym}
-use Rattle.trace_writer.specs.Orders.{HasSpan}
-use Rattle.trace_writer.specs.TextSpans.{IsSpanPut}
+use Rattle.std.proofs.Common.{◌∙◌, ap, arith, refl, subst, sym}
+use Rattle.trace_changes.specs.Changes.{ChangesView}
+use Rattle.trace_writer.specs.Batches.{lines_of_all}
+use Rattle.trace_writer.specs.Orders.{HasSpan, IsMade}
+use Rattle.trace_writer.specs.TextSpans.{IsSpanPut, span_of}
 use Rattle.trace_writer.specs.declared.text_span.TextSpan.{TextSpan}
 use Rattle.trace_writer.proofs.Puts.{put_none}
 use Rattle.trace_writer.proofs.SpanPuts.{
@@ -24,7 +26,11 @@ batch-init g c = record {
   within = c.requires.may.has_span.order;
   ready = record { same = refl; order = omega arith };
   made = rw c.new.ensures.items;
-  put = put_none c.args.span.keeps _ _ _;
+  put = record {
+    put = put_none c.args.span.keeps _ _ _;
+    source = record { before = refl; changes = refl };
+    within = c.requires.may.within;
+  };
   can = c.requires.may.can;
   makers = c.requires.makers;
 }
@@ -103,9 +109,11 @@ batch-preserved g c =
       within = omega (arith, next.within, until);
       ready = next_up c.args.span c.batch.left c.in-Some-finish_batch.next.span h.left next.begin
           (omega (arith, from, next.further));
-      made = next.made;
-      put = subst (λ t. IsSpanPut c.args.traces.now (record c.args.span { until = t }) c.args.texts.now.page
-          c.put_ready.new.texts.page (g.O.Sink.view c.args.out.now) (g.O.Sink.view c.put_ready.new.out)) (sym from)
+      made = subst (λ (k : ChangesView). IsMade (span_of c.args.traces.now k.parts c.in-Some-finish_batch.next.span)
+          (lines_of_all c.in-Some-finish_batch.next.lines.items))
+          (c.in-Some.ensures.batch.changes_are ∙ sym put.ok.source.changes) next.made;
+      put = subst (λ t. IsSpanPut c.args.traces.now (record c.args.span { until = t }) c.args.texts.now.making
+          c.put_ready.new.texts.making (g.O.Sink.view c.args.out.now) (g.O.Sink.view c.put_ready.new.out)) (sym from)
           (put_so_far _ _ _ _ h.left h.ready c.args.texts.now c.batch.texts _ _ h.put c.put_ready.new.texts _ put.ok);
       can = put.can;
       makers = c.finish_batch.ensures.makers;

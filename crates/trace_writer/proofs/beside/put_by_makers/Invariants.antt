@@ -1,5 +1,5 @@
 use Rattle.std.proofs.Common.{◌≡◌, ◌-◌, ◌≤◌}
-use Rattle.trace_writer.specs.Batches.{MakeFor, bytes_of}
+use Rattle.trace_writer.specs.Batches.{MakeFor, lines_of_all}
 use Rattle.trace_writer.specs.Orders.{IsMade}
 use Rattle.trace_writer.specs.TextSpans.{IsSpanPut, IsUpTo, span_of}
 use Rattle.trace_writer.specs.Texts.{CanPut}
@@ -10,8 +10,8 @@ invariant-batch g l = record {
   left : l.left ≡ record l.span { from = l.left.from };
   within : l.left.from ≤ l.span.until;
   ready : IsUpTo l.left l.ready.span;
-  made : IsMade (span_of l.traces l.ready.span) (bytes_of l.ready.lines.items);
-  put : IsSpanPut l.traces (record l.span { until = l.ready.span.from }) l.fn.texts.page l.texts.page
+  made : IsMade (span_of l.traces l.texts.making.changes.parts l.ready.span) (lines_of_all l.ready.lines.items);
+  put : IsSpanPut l.traces (record l.span { until = l.ready.span.from }) l.fn.texts.making l.texts.making
       (g.O.Sink.view l.fn.out) (g.O.Sink.view l.out);
   can : CanPut l.traces.net l.texts;
   makers : MakeFor l.traces l.help.makers;

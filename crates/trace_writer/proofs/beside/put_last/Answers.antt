@@ -15,7 +15,7 @@ pub put_span-requires : goal.put_span-requires
 put_span-requires g c =
     let whole : TextSpan = record c.args.left { from = c.args.ready.now.span.from } in
     let traces = c.args.traces.now in
-    let put = subst (λ (s : TextSpan). IsSpanPut traces s c.args.texts.now.page c.put_ready.new.texts.page
+    let put = subst (λ (s : TextSpan). IsSpanPut traces s c.args.texts.now.making c.put_ready.new.texts.making
     (g.O.Sink.view c.args.out.now) (g.O.Sink.view c.put_ready.new.out)) c.requires.joined.same c.in-Ok.ensures.put.ok in
     record {
       may = MayPut-rest traces whole c.args.left.from _ _ _ _ put c.requires.order c.in-Ok.ensures.put.can
@@ -26,7 +26,7 @@ pub returns-in-Ok : goal.returns-in-Ok
 returns-in-Ok g c =
     let whole : TextSpan = record c.args.left { from = c.args.ready.now.span.from } in
     let traces = c.args.traces.now in
-    let put = subst (λ (s : TextSpan). IsSpanPut traces s c.args.texts.now.page c.put_ready.new.texts.page
+    let put = subst (λ (s : TextSpan). IsSpanPut traces s c.args.texts.now.making c.put_ready.new.texts.making
     (g.O.Sink.view c.args.out.now) (g.O.Sink.view c.put_ready.new.out)) c.requires.joined.same c.in-Ok.ensures.put.ok in
     record { put = PutsSpan-then traces whole c.args.left.from _ _ _ _ put _ _ _ c.put_span.ensures.put }
 
@@ -36,7 +36,7 @@ returns-in-Err g c =
     record {
       put = record {
         ok = tt;
-        err = subst (λ (s : TextSpan). IsSpanCutOff c.args.traces.now s (g.O.Sink.view c.args.out.now)
+        err = subst (λ (s : TextSpan). IsSpanCutOff c.args.traces.now s c.args.texts.now.making (g.O.Sink.view c.args.out.now)
             (g.O.Sink.view c.put_ready.new.out)) c.requires.joined.same cut.err;
         can = cut.can;
       };

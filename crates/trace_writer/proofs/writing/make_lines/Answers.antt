@@ -1,21 +1,24 @@
-use Rattle.std.proofs.Common.{◌++◌, ◌∙◌, ap}
-use Rattle.std.specs.List.{flat_map}
+use Rattle.std.proofs.Common.{◌++◌, ◌∙◌, ap, sym}
 use Rattle.sim_base.specs.Clones.{clone_at}
-use Rattle.trace_report.specs.TraceText.{entry_line}
+use Rattle.trace_changes.specs.KeyedEntries.{keyed_lines}
 use Rattle.trace_writer.specs.WorldTraces.{WorldTracesView}
-use Rattle.trace_writer.proofs.Spans.{span_made}
+use Rattle.trace_writer.proofs.Spans.{own_lines-is}
 use Rattle.trace_writer.proofs.writing.make_lines.Goals as goal
 
 pub returns : goal.returns
 returns c =
-    let span = c.gather_span-count in
+    let own = c.gather_own-count in
     let view = c.args.traces.now in
+    let clone = clone_at view.clones c.args.c in
+    let parts = c.args.changes.now.parts in
     let model = c.model-model.result.now in
+    let is = c.model-model.ensures.value ∙ ap (λ (v : WorldTracesView). v.net) c.traces.view_is in
     let added = c.in_ok-add_entries.ensures in
+    let text = c.add_entries.new.text.lines in
+    let until = own_lines-is view.net model clone parts c.args.until c.add_entries.new.cursor.left is
+    (added.left ∙ own.ensures.behind) in
+    let from = own_lines-is view.net model clone parts c.args.from own.new.walk.left is own.ensures.left in
     record {
-      made = span_made view.net model (clone_at view.clones c.args.c) c.args.from c.args.until span.result
-          span.new.walk.left c.add_entries.new.cursor.left
-          (c.model-model.ensures.value ∙ ap (λ (v : WorldTracesView). v.net) c.traces.view_is) span.ensures.left
-          span.ensures.behind added.left c.add_entries.new.bytes.items
-          (added.text ∙ ap (λ l. l ++ flat_map (entry_line model) span.new.walk.left) c.in_ok-bytes.ensures.items);
+      made = ap (λ l. text ++ l) (sym until) ∙ added.lines
+          ∙ ap (λ l. l ++ keyed_lines model own.new.walk.left) c.in_ok-text.ensures.empty ∙ from;
     }
