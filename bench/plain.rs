@@ -8,11 +8,14 @@
 //! valid, and knows of TOML what plain_toml.rs says. Build it with `rustc -O plain.rs`; it needs no crates.
 
 use std::cmp::Reverse;
-use std::collections::{BinaryHeap, HashMap, VecDeque};
+use std::collections::binary_heap::{BinaryHeap, PeekMut};
+use std::collections::{HashMap, VecDeque};
 use std::io::Write;
 use std::rc::Rc;
 
+mod plain_text;
 mod plain_toml;
+use plain_text::{Line, Text, Word, word};
 use plain_toml::{Reader, Value};
 
 // ---- random numbers ----
@@ -40,6 +43,27 @@ impl Random {
     }
 }
 
+/// The remainder by a fixed divisor, from two multiplications: the division would be the slowest step of a message.
+///
+/// This is exact for numbers of 32 bits (Lemire, Kaser and Kurz 2019).
+#[derive(Clone, Copy)]
+struct Remainder {
+    divisor: u32,
+    inverse: u64,
+}
+
+impl Remainder {
+    fn by(divisor: u32) -> Remainder {
+        Remainder { divisor, inverse: (u64::MAX / divisor as u64).wrapping_add(1) }
+    }
+
+    #[inline(always)]
+    fn of(self, number: u32) -> u32 {
+        let fraction = self.inverse.wrapping_mul(number as u64);
+        (fraction as u128 * self.divisor as u128 >> 64) as u32
+    }
+}
+
 // ---- messages ----
 
 const TICK: u64 = 0;
@@ -47,29 +71,56 @@ const JOB: u64 = 1;
 const DONE: u64 = 2;
 
 /// A message's place in the order of handling: time, sender (0 is the analyst), number.
-fn key(time: u64, sender: usize, number: u64) -> u64 {
-    time << 33 | (sender as u64) << 26 | number
+fn key(time: u64, sender: u64, number: u64) -> u64 {
+    time << 33 | sender << 26 | number
 }
 
 /// A job in one word: its source, its count there, its time of birth.
-fn job_word(source: usize, count: u64, born: u64) -> u64 {
-    (source as u64) << 50 | count << 30 | born
+fn job_word(source: u64, count: u64, born: u64) -> u64 {
+    source << 50 | count << 30 | born
 }
 
-/// The messages that wait, least key first. One is two words: its key, then kind, receiver and job.
-#[derive(Clone)]
+/// A message in one word: its key, then kind, receiver and job. The order of these words is that of handling.
+type Message = u128;
+
+/// What a station sends when it handles a message, with `NO_MESSAGE` for what it does not send.
+type Sent = [Message; 2];
+
+/// No message: it comes after all others.
+const NO_MESSAGE: Message = Message::MAX;
+
+/// The messages that wait, the least at the top.
+#[derive(Clone, Default)]
 struct Pending {
-    heap: BinaryHeap<Reverse<u128>>,
-    horizon: u64,
+    heap: BinaryHeap<Reverse<Message>>,
 }
 
 impl Pending {
-    /// Adds a message, unless it is for the horizon or later.
-    fn add(&mut self, time: u64, key: u64, kind: u64, receiver: usize, job: u64) {
-        if time < self.horizon {
-            let content = kind << 62 | (receiver as u64) << 56 | job;
-            self.heap.push(Reverse((key as u128) << 64 | content as u128));
+    /// The least message.
+    #[inline(always)]
+    fn least(&self) -> Message {
+        self.heap.peek().map_or(NO_MESSAGE, |least| least.0)
+    }
+
+    /// Adds a message, if it is one.
+    #[inline(always)]
+    fn add(&mut self, message: Message) {
+        if message != NO_MESSAGE {
+            self.heap.push(Reverse(message));
         }
+    }
+
+    /// Removes the least message, and adds these. The first one takes its place, so the heap is put in order once.
+    #[inline(always)]
+    fn replace_least(&mut self, [first, second]: Sent) {
+        if let Some(mut least) = self.heap.peek_mut() {
+            if first == NO_MESSAGE {
+                PeekMut::pop(least);
+            } else {
+                *least = Reverse(first);
+            }
+        }
+        self.add(second);
     }
 }
 
@@ -87,8 +138,8 @@ enum Kind {
 
 #[derive(Clone, Copy)]
 struct Link {
-    to: usize,
-    delay: u64,
+    to: u32,
+    delay: u32,
     weight: u32,
 }
 
@@ -96,15 +147,17 @@ struct Link {
 #[derive(Clone)]
 struct Station {
     kind: Kind,
-    me: usize,
+    me: u64,
+    horizon: u64,
     random: Random,
-    range: (u32, u32),
+    least: u32,
+    spread: Remainder,
     servers: u32,
     room: usize,
     jobs: u64,
     by_class: bool,
     links: Vec<Link>,
-    weights: u32,
+    weights: Remainder,
     next_number: u64,
     handled: u64,
     busy: u32,
@@ -115,9 +168,15 @@ struct Station {
 }
 
 impl Station {
+    /// A number of the station's range.
+    #[inline(always)]
     fn draw(&mut self) -> u64 {
-        let (low, high) = self.range;
-        (low + self.random.word() % (high - low + 1)) as u64
+        (self.least + self.spread.of(self.random.word())) as u64
+    }
+
+    fn set_range(&mut self, least: u32, most: u32) {
+        self.least = least;
+        self.spread = Remainder::by(most - least + 1);
     }
 
     /// The link that the next job takes.
@@ -125,7 +184,7 @@ impl Station {
         if self.links.len() == 1 {
             return self.links[0];
         }
-        let drawn = self.random.word() % self.weights;
+        let drawn = self.weights.of(self.random.word());
         let mut sum = 0;
         let exceeds = |link: &&Link| {
             sum += link.weight;
@@ -135,84 +194,104 @@ impl Station {
     }
 
     fn sum_weights(&mut self) {
-        self.weights = self.links.iter().map(|link| link.weight).sum();
+        self.weights = Remainder::by(self.links.iter().map(|link| link.weight).sum::<u32>().max(1));
     }
 
-    /// Sends a message, which takes the next number.
-    fn send(&mut self, pending: &mut Pending, time: u64, kind: u64, receiver: usize, job: u64) {
-        pending.add(time, key(time, self.me + 1, self.next_number), kind, receiver, job);
+    /// The message that the station sends next. It is no message if its time is the horizon or later.
+    #[inline(always)]
+    fn send(&mut self, time: u64, kind: u64, receiver: u64, job: u64) -> Message {
+        let number = self.next_number;
         self.next_number += 1;
+        if time < self.horizon {
+            (key(time, self.me + 1, number) as u128) << 64 | (kind << 62 | receiver << 56 | job) as u128
+        } else {
+            NO_MESSAGE
+        }
     }
 
-    fn tick(&mut self, now: u64, pending: &mut Pending) {
+    #[inline(always)]
+    fn send_on(&mut self, link: Link, time: u64, job: u64) -> Message {
+        self.send(time + link.delay as u64, JOB, link.to as u64, job)
+    }
+
+    #[inline(always)]
+    fn tick(&mut self, now: u64) -> Sent {
         let job = job_word(self.me, self.count, now);
         self.count += 1;
         let link = self.pick();
-        self.send(pending, now + link.delay, JOB, link.to, job);
-        if self.count < self.jobs {
-            let time = now + self.draw();
-            self.send(pending, time, TICK, self.me, 0);
+        let first = self.send_on(link, now, job);
+        if self.count == self.jobs {
+            return [first, NO_MESSAGE];
         }
+        let time = now + self.draw();
+        [first, self.send(time, TICK, self.me, 0)]
     }
 
     /// Starts the service of a job.
-    fn start(&mut self, now: u64, job: u64, pending: &mut Pending) {
+    #[inline(always)]
+    fn start(&mut self, now: u64, job: u64) -> Message {
         self.busy += 1;
         let time = now + self.draw();
-        self.send(pending, time, DONE, self.me, job);
+        self.send(time, DONE, self.me, job)
     }
 
-    /// Starts jobs of the line while a server is free, at most `most` of them.
-    fn serve(&mut self, now: u64, most: usize, pending: &mut Pending) {
-        for _ in 0..most {
-            if self.waiting == 0 || self.busy >= self.servers {
-                return;
-            }
-            let job = self.lines.iter_mut().find_map(VecDeque::pop_front).expect("a job waits");
-            self.waiting -= 1;
-            self.start(now, job, pending);
+    /// Starts the next job that waits, if a server is free.
+    #[inline(always)]
+    fn serve(&mut self, now: u64) -> Option<Message> {
+        if self.waiting == 0 || self.busy >= self.servers {
+            return None;
         }
+        let job = self.lines.iter_mut().find_map(VecDeque::pop_front).expect("a job waits");
+        self.waiting -= 1;
+        Some(self.start(now, job))
     }
 
-    fn done(&mut self, now: u64, job: u64, pending: &mut Pending) {
+    #[inline(always)]
+    fn done(&mut self, now: u64, job: u64) -> Sent {
         self.busy -= 1;
         self.count += 1;
         let link = self.pick();
-        self.send(pending, now + link.delay, JOB, link.to, job);
-        self.serve(now, 1, pending);
+        let first = self.send_on(link, now, job);
+        [first, self.serve(now).unwrap_or(NO_MESSAGE)]
     }
 
-    fn arrive_at_server(&mut self, now: u64, job: u64, class: u8, pending: &mut Pending) {
+    #[inline(always)]
+    fn arrive_at_server(&mut self, now: u64, job: u64, classes: &[u8]) -> Message {
         if self.busy < self.servers {
-            self.start(now, job, pending);
-        } else if self.waiting < self.room {
-            let line = if self.by_class { class as usize - 1 } else { 0 };
+            return self.start(now, job);
+        }
+        if self.waiting < self.room {
+            let line = if self.by_class { classes[(job >> 50) as usize] as usize - 1 } else { 0 };
             self.lines[line].push_back(job);
             self.waiting += 1;
         } else {
             self.second += 1;
         }
+        NO_MESSAGE
     }
 
-    fn pass(&mut self, now: u64, job: u64, pending: &mut Pending) {
+    #[inline(always)]
+    fn pass(&mut self, now: u64, job: u64) -> Message {
         let link = match self.kind {
             Kind::Turn => self.links[self.count as usize % self.links.len()],
             _ => self.pick(),
         };
         let held = if self.kind == Kind::Delay { self.draw() } else { 0 };
         self.count += 1;
-        self.send(pending, now + held + link.delay, JOB, link.to, job);
+        self.send_on(link, now + held, job)
     }
 
-    fn arrive(&mut self, now: u64, job: u64, class: u8, pending: &mut Pending) {
+    #[inline(always)]
+    fn arrive(&mut self, now: u64, job: u64, classes: &[u8]) -> Message {
         match self.kind {
-            Kind::Server => self.arrive_at_server(now, job, class, pending),
+            Kind::Server => self.arrive_at_server(now, job, classes),
             Kind::Sink => {
                 self.count += 1;
                 self.second += now - (job & ((1 << 30) - 1));
+                NO_MESSAGE
             }
-            Kind::Source => {}
-            Kind::Delay | Kind::Weights | Kind::Turn => self.pass(now, job, pending),
+            Kind::Source => NO_MESSAGE,
+            Kind::Delay | Kind::Weights | Kind::Turn => self.pass(now, job),
         }
     }
 
@@ -222,14 +301,16 @@ impl Station {
         match set.parameter.as_str() {
             "servers" => {
                 self.servers = first;
-                self.serve(now, usize::MAX, pending);
+                while let Some(message) = self.serve(now) {
+                    pending.add(message);
+                }
             }
             "room" => self.room = first as usize,
             "weight" => {
                 self.links[first as usize - 1].weight = second;
                 self.sum_weights();
             }
-            _ => self.range = (first, second),
+            _ => self.set_range(first, second),
         }
     }
 }
@@ -240,8 +321,7 @@ impl Station {
 struct Network {
     names: Vec<String>,
     classes: Vec<u8>,
-    shows_class: bool,
-    words: Vec<Words>,
+    words: Words,
     horizon: u64,
     limit: u64,
     stations: Vec<Station>,
@@ -266,25 +346,31 @@ fn links_of(table: &HashMap<String, Value>, names: &[String]) -> Vec<Link> {
     let link = |value: &Value| {
         let keys = value.table();
         let to = names.iter().position(|name| name == keys["to"].text()).expect("the link leads to a station");
-        Link { to, delay: keys["delay"].number(), weight: number_or(keys, "weight", 1) as u32 }
+        Link {
+            to: to as u32,
+            delay: keys["delay"].number() as u32,
+            weight: number_or(keys, "weight", 1) as u32,
+        }
     };
     table.get("link").map_or(Vec::new(), |links| links.list().iter().map(link).collect())
 }
 
-fn station_of(table: &HashMap<String, Value>, names: &[String], me: usize, seed: u64) -> Station {
+fn station_of(table: &HashMap<String, Value>, names: &[String], me: usize, seed: u64, horizon: u64) -> Station {
     let range = ["every", "service", "hold"].iter().find_map(|name| table.get(*name));
-    let range = range.map_or((0, 0), |pair| (pair.list()[0].number() as u32, pair.list()[1].number() as u32));
+    let (least, most) = range.map_or((0, 0), |pair| (pair.list()[0].number() as u32, pair.list()[1].number() as u32));
     let mut station = Station {
         kind: kind_of(table),
-        me,
+        me: me as u64,
+        horizon,
         random: Random::new(seed, number_or(table, "stream", me as u64 + 1)),
-        range,
+        least: 0,
+        spread: Remainder::by(1),
         servers: number_or(table, "servers", 0) as u32,
         room: number_or(table, "room", 0) as usize,
         jobs: number_or(table, "jobs", 0),
         by_class: table.get("order").map_or(false, |order| order.text() == "class"),
         links: links_of(table, names),
-        weights: 0,
+        weights: Remainder::by(1),
         next_number: 0,
         handled: 0,
         busy: 0,
@@ -293,6 +379,7 @@ fn station_of(table: &HashMap<String, Value>, names: &[String], me: usize, seed:
         waiting: 0,
         lines: Default::default(),
     };
+    station.set_range(least, most);
     station.sum_weights();
     station
 }
@@ -307,18 +394,16 @@ impl Network {
         }
         let names: Vec<String> = tables.iter().map(|table| table["name"].text().to_string()).collect();
         let seed = number_or(&top, "seed", 0);
+        let horizon = top["horizon"].number();
         let shows_class = number_or(&top, "format", 1) == 2;
-        let words = |(table, name): (&HashMap<String, Value>, &String)| {
-            Words::new(name, number_or(table, "class", 1), shows_class)
-        };
-        let stations = tables.iter().enumerate().map(|(me, table)| station_of(table, &names, me, seed));
+        let classes: Vec<u8> = tables.iter().map(|table| number_or(table, "class", 1) as u8).collect();
+        let stations = tables.iter().enumerate().map(|(me, table)| station_of(table, &names, me, seed, horizon));
         Network {
             stations: stations.collect(),
-            words: tables.iter().zip(&names).map(words).collect(),
+            words: Words::new(&names, shows_class.then_some(&classes)),
             names,
-            classes: tables.iter().map(|table| number_or(table, "class", 1) as u8).collect(),
-            shows_class,
-            horizon: top["horizon"].number(),
+            classes,
+            horizon,
             limit: number_or(&top, "limit", 16384),
         }
     }
@@ -380,160 +465,75 @@ fn read_script(text: &str, network: &Network) -> Vec<Branch> {
     branches
 }
 
-// ---- the traces' texts ----
+// ---- the traces' lines ----
 
-/// The four digits of each number below 10,000, the first one in the lowest byte.
-static DIGITS: [u32; 10000] = digits();
-
-const fn digits() -> [u32; 10000] {
-    let mut table = [0; 10000];
-    let mut number = 0;
-    while number < 10000 {
-        let [a, b, c, d] = [number / 1000, number / 100 % 10, number / 10 % 10, number % 10];
-        table[number] = u32::from_le_bytes([b'0' + a as u8, b'0' + b as u8, b'0' + c as u8, b'0' + d as u8]);
-        number += 1;
-    }
-    table
-}
-
-/// A short text in a field of fixed size, which is copied whole.
-#[derive(Clone, Copy)]
-struct Word {
-    bytes: [u8; 24],
-    length: usize,
-}
-
-const fn word(text: &str) -> Word {
-    let (from, mut bytes, mut place) = (text.as_bytes(), [0; 24], 0);
-    while place < from.len() {
-        bytes[place] = from[place];
-        place += 1;
-    }
-    Word { bytes, length: from.len() }
-}
-
-const SENT: Word = word(" sent=");
-const BUSY: Word = word(" busy=");
-const WAIT: Word = word(" wait=");
-const WORKED: Word = word(" done=");
-const LOST: Word = word(" lost=");
-const PASSED: Word = word(" passed=");
-const GOT: Word = word(" got=");
-const STAY: Word = word(" stay=");
-const TICKED: Word = word(" tick");
-const ANALYST: Word = word("analyst ");
-
-/// The words of one station in the lines of a trace.
+/// The words of a trace's lines that depend on the network.
 struct Words {
-    receiver: Word,
-    sender: Word,
-    job: Word,
-    done: Word,
-    class: Word,
+    /// Names of receivers between blanks, by station.
+    receivers: [Word; 64],
+    /// Names of senders with a blank, by number: 0 is the analyst, and station `s` has the number `s + 1`.
+    senders: [Word; 128],
+    /// Kinds with the names of sources, by source.
+    jobs: [Word; 64],
+    dones: [Word; 64],
+    /// Classes with a colon, by source.
+    classes: Option<[Word; 64]>,
 }
 
 impl Words {
-    fn new(name: &str, class: u64, shows_class: bool) -> Words {
-        Words {
-            receiver: word(&format!(" {name} ")),
-            sender: word(&format!("{name} ")),
-            job: word(&format!(" job {name}.")),
-            done: word(&format!(" done {name}.")),
-            class: if shows_class { word(&format!(":{class}")) } else { word("") },
+    fn new(names: &[String], classes: Option<&[u8]>) -> Words {
+        let by_station = |make: &dyn Fn(usize) -> String| {
+            std::array::from_fn(|station| if station < names.len() { word(&make(station)) } else { word("") })
+        };
+        let mut words = Words {
+            receivers: by_station(&|station| format!(" {} ", names[station])),
+            senders: [word("analyst "); 128],
+            jobs: by_station(&|station| format!(" job {}.", names[station])),
+            dones: by_station(&|station| format!(" done {}.", names[station])),
+            classes: classes.map(|classes| by_station(&|station| format!(":{}", classes[station]))),
+        };
+        for (place, name) in words.senders[1..].iter_mut().zip(names) {
+            *place = word(&format!("{name} "));
         }
-    }
-}
-
-/// How long a line can be at most, with room for the fields behind it.
-const LONGEST: usize = 256;
-
-/// Room for the last lines of a trace, before they are added to its text.
-type Room = [u8; ROOM];
-const ROOM: usize = 16384;
-
-/// Adds the digits of a number of more than four digits; gives the place behind them.
-fn put_long_number(room: &mut Room, place: usize, number: u64) -> usize {
-    let mut line = Line { room, place };
-    line.put_number(number / 10000);
-    line.put_digits(DIGITS[(number % 10000) as usize], 4);
-    line.place
-}
-
-/// A line of a trace while it is made: where it is made, and the place of what comes next.
-struct Line<'a> {
-    room: &'a mut Room,
-    place: usize,
-}
-
-impl Line<'_> {
-    #[inline(always)]
-    fn put(&mut self, word: &Word) {
-        self.room[self.place..self.place + 24].copy_from_slice(&word.bytes);
-        self.place += word.length;
-    }
-
-    #[inline(always)]
-    fn put_digits(&mut self, digits: u32, length: usize) {
-        self.room[self.place..self.place + 4].copy_from_slice(&digits.to_le_bytes());
-        self.place += length;
-    }
-
-    #[inline(always)]
-    fn put_number(&mut self, number: u64) {
-        if number >= 10000 {
-            self.place = put_long_number(self.room, self.place, number);
-            return;
-        }
-        let length = 1 + (number >= 10) as usize + (number >= 100) as usize + (number >= 1000) as usize;
-        self.put_digits(DIGITS[number as usize] >> (8 * (4 - length)), length);
-    }
-
-    /// A word and a number.
-    #[inline(always)]
-    fn put_count(&mut self, word: &Word, number: u64) {
-        self.put(word);
-        self.put_number(number);
+        words
     }
 
     /// The beginning of a line: time, receiver, sender and number.
     #[inline(always)]
-    fn begin(&mut self, time: u64, receiver: &Word, sender: &Word, number: u64) {
-        self.put_number(time);
-        self.put(receiver);
-        self.put_count(sender, number);
+    fn add_key<'a>(&self, line: Line<'a>, key: u64, receiver: usize) -> Line<'a> {
+        let sender = (key >> 26 & 127) as usize;
+        let line = line.number(key >> 33).word(&self.receivers[receiver]).word(&self.senders[sender]);
+        line.number(key & ((1 << 26) - 1))
     }
 
     #[inline(always)]
-    fn put_payload(&mut self, network: &Network, kind: u64, job: u64) {
+    fn add_payload<'a>(&self, line: Line<'a>, kind: u64, job: u64) -> Line<'a> {
         if kind == TICK {
-            return self.put(&TICKED);
+            return line.text(b" tick");
         }
-        let words = &network.words[(job >> 50 & 63) as usize];
-        self.put_count(if kind == JOB { &words.job } else { &words.done }, job >> 30 & ((1 << 20) - 1));
-        if network.shows_class {
-            self.put(&words.class);
+        let source = (job >> 50 & 63) as usize;
+        let names = if kind == JOB { &self.jobs } else { &self.dones };
+        let line = line.word(&names[source]).number(job >> 30 & ((1 << 20) - 1));
+        match &self.classes {
+            Some(classes) => line.word(&classes[source]),
+            None => line,
         }
     }
+}
 
-    /// The end of a line: the station's counts. Gives the place behind it.
+impl Station {
+    /// The end of a line: the station's counts.
     #[inline(always)]
-    fn end(mut self, station: &Station) -> usize {
-        match station.kind {
-            Kind::Source => self.put_count(&SENT, station.count),
+    fn add_counts<'a>(&self, line: Line<'a>) -> Line<'a> {
+        match self.kind {
+            Kind::Source => line.text(b" sent=").number(self.count),
             Kind::Server => {
-                self.put_count(&BUSY, station.busy as u64);
-                self.put_count(&WAIT, station.waiting as u64);
-                self.put_count(&WORKED, station.count);
-                self.put_count(&LOST, station.second);
+                let line = line.text(b" busy=").number(self.busy as u64).text(b" wait=").number(self.waiting as u64);
+                line.text(b" done=").number(self.count).text(b" lost=").number(self.second)
             }
-            Kind::Sink => {
-                self.put_count(&GOT, station.count);
-                self.put_count(&STAY, station.second);
-            }
-            Kind::Delay | Kind::Weights | Kind::Turn => self.put_count(&PASSED, station.count),
+            Kind::Sink => line.text(b" got=").number(self.count).text(b" stay=").number(self.second),
+            Kind::Delay | Kind::Weights | Kind::Turn => line.text(b" passed=").number(self.count),
         }
-        self.room[self.place] = b'\n';
-        self.place + 1
     }
 }
 
@@ -544,55 +544,50 @@ impl Line<'_> {
 struct World {
     stations: Vec<Station>,
     pending: Pending,
-    text: Vec<u8>,
+    text: Text,
 }
 
 impl World {
     /// The state before the first message: each source has drawn its first tick.
-    fn begin(network: &Network) -> World {
-        let pending = Pending { heap: BinaryHeap::new(), horizon: network.horizon };
-        let mut world = World { stations: network.stations.clone(), pending, text: Vec::new() };
-        for station in world.stations.iter_mut().filter(|station| station.kind == Kind::Source && station.jobs > 0) {
+    fn begin(network: &Network, text: Text) -> World {
+        let mut stations = network.stations.clone();
+        let mut pending = Pending::default();
+        for station in stations.iter_mut().filter(|station| station.kind == Kind::Source && station.jobs > 0) {
             let time = station.draw();
-            let me = station.me;
-            station.send(&mut world.pending, time, TICK, me, 0);
+            pending.add(station.send(time, TICK, station.me, 0));
         }
-        world
+        World { stations, pending, text }
     }
 
     /// Handles all messages with keys below `stop`.
     fn advance(&mut self, network: &Network, stop: u64) {
-        let (mut room, mut place) = ([0; ROOM], 0);
-        while let Some(&Reverse(next)) = self.pending.heap.peek() {
-            let key = (next >> 64) as u64;
+        loop {
+            let least = self.pending.least();
+            let key = (least >> 64) as u64;
             if key >= stop {
-                break;
+                return;
             }
-            self.pending.heap.pop();
-            place = self.handle(network, key, next as u64, &mut room, place);
-            if place > ROOM - LONGEST {
-                self.text.extend_from_slice(&room[..place]);
-                place = 0;
-            }
+            self.handle(network, key, least as u64);
         }
-        self.text.extend_from_slice(&room[..place]);
     }
 
-    /// Handles a message, and makes its line at a place of the room. Gives the place behind it.
-    fn handle(&mut self, network: &Network, key: u64, content: u64, room: &mut Room, place: usize) -> usize {
-        let (time, sender, number) = (key >> 33, (key >> 26 & 127) as usize, key & ((1 << 26) - 1));
+    /// Handles the least message, and adds its line.
+    #[inline(always)]
+    fn handle(&mut self, network: &Network, key: u64, content: u64) {
+        let now = key >> 33;
         let (kind, receiver, job) = (content >> 62, (content >> 56 & 63) as usize, content & ((1 << 56) - 1));
         let station = &mut self.stations[receiver];
         count_handled(station, network);
-        match kind {
-            TICK => station.tick(time, &mut self.pending),
-            DONE => station.done(time, job, &mut self.pending),
-            _ => station.arrive(time, job, network.classes[(job >> 50) as usize], &mut self.pending),
-        }
-        let mut line = Line { room, place };
-        line.begin(time, &network.words[receiver].receiver, &network.words[sender - 1].sender, number);
-        line.put_payload(network, kind, job);
-        line.end(station)
+        let sent = match kind {
+            TICK => station.tick(now),
+            DONE => station.done(now, job),
+            _ => [station.arrive(now, job, &network.classes), NO_MESSAGE],
+        };
+        self.pending.replace_least(sent);
+        self.text.add_line(|line| {
+            let line = network.words.add_key(line, key, receiver);
+            station.add_counts(network.words.add_payload(line, kind, job))
+        });
     }
 
     /// Handles all that comes before a change, and the change.
@@ -601,31 +596,26 @@ impl World {
         let station = &mut self.stations[set.station];
         count_handled(station, network);
         station.change(set.time, set, &mut self.pending);
-        let mut room = [0; ROOM];
-        let mut line = Line { room: &mut room, place: 0 };
-        line.begin(set.time, &network.words[set.station].receiver, &ANALYST, key & ((1 << 26) - 1));
-        line.put(&word(&format!(" set {}", set.parameter)));
-        for value in &set.values {
-            line.put_count(&word(" "), *value as u64);
-        }
-        let end = line.end(station);
-        self.text.extend_from_slice(&room[..end]);
+        self.text.add_line(|line| {
+            let line = network.words.add_key(line, key, set.station);
+            let line = line.word(&word(&format!(" set {}", set.parameter)));
+            station.add_counts(set.values.iter().fold(line, |line, value| line.text(b" ").number(*value as u64)))
+        });
     }
 }
 
 fn count_handled(station: &mut Station, network: &Network) {
     if station.handled == network.limit {
-        eprintln!("plain: limit {} met at station {}", network.limit, network.names[station.me]);
+        eprintln!("plain: limit {} met at station {}", network.limit, network.names[station.me as usize]);
         std::process::exit(7);
     }
     station.handled += 1;
 }
 
 /// Runs one clone by itself, and adds its trace to the text.
-fn run_alone(network: &Network, branch: &Branch, text: Vec<u8>) -> Vec<u8> {
-    let mut world = World::begin(network);
-    world.text = text;
-    world.text.extend_from_slice(format!("clone {}\n", branch.name).as_bytes());
+fn run_alone(network: &Network, branch: &Branch, mut text: Text) -> Text {
+    text.bytes.extend_from_slice(format!("clone {}\n", branch.name).as_bytes());
+    let mut world = World::begin(network, text);
     for (key, set) in &branch.sets {
         world.change(network, *key, set);
     }
@@ -670,7 +660,7 @@ impl Sharing<'_> {
                     same
                 }
                 (set, _) => {
-                    before = Some(Rc::new(Piece { before, text: std::mem::take(&mut world.text) }));
+                    before = Some(Rc::new(Piece { before, text: std::mem::take(&mut world.text.bytes) }));
                     self.depart(same, taken, &world, before.clone(), set.map(|set| (stop, set)));
                     rest
                 }
@@ -701,7 +691,7 @@ impl Sharing<'_> {
 /// Runs all clones with sharing, and writes their traces.
 fn run_shared(network: &Network, branches: &[Branch], out: &mut impl Write) -> std::io::Result<()> {
     let mut sharing = Sharing { network, branches, last_pieces: vec![None; branches.len()] };
-    sharing.run((0..branches.len()).collect(), 0, World::begin(network), None);
+    sharing.run((0..branches.len()).collect(), 0, World::begin(network, Text::default()), None);
     for (branch, last) in branches.iter().zip(&sharing.last_pieces) {
         let mut pieces: Vec<&Piece> = std::iter::successors(last.as_deref(), |piece| piece.before.as_deref()).collect();
         pieces.reverse();
@@ -715,15 +705,15 @@ fn run_shared(network: &Network, branches: &[Branch], out: &mut impl Write) -> s
 
 /// Runs each clone alone; `stream` writes each trace at once.
 fn run_each(network: &Network, branches: &[Branch], stream: bool, out: &mut impl Write) -> std::io::Result<()> {
-    let mut text = Vec::new();
+    let mut text = Text::default();
     for branch in branches {
         text = run_alone(network, branch, text);
         if stream {
-            out.write_all(&text)?;
-            text.clear();
+            out.write_all(&text.bytes)?;
+            text.bytes.clear();
         }
     }
-    out.write_all(&text)
+    out.write_all(&text.bytes)
 }
 
 fn main() -> std::io::Result<()> {
