@@ -8,8 +8,9 @@ use Rattle.sim_base.specs.declared.message.Msg.{Msg}
 use Rattle.sim_base.proofs.ListLaws.{all_weaker}
 use Rattle.clone_sets.specs.Sets.{union}
 use Rattle.clone_sets.specs.declared.set.CloneSet.{CloneSet}
-use Rattle.phys_proc.specs.Own.{StationCopy, MarkedMessages, IsLowerBound, copy_after_fork}
+use Rattle.phys_proc.specs.Own.{StationCopy, MarkedMessages, IsLowerBound, IsLowerBoundOfAll, copy_after_fork}
 use Rattle.phys_proc.proofs.Forks.{IsLowerBoundOfAll-forked}
+use Rattle.phys_proc.proofs.LowerBounds.{IsLowerBound-before}
 use Rattle.phys_proc.proofs.Sends.{all_inserted}
 
 -- ---- AllZip IsLowerBound
@@ -55,6 +56,18 @@ bounds_joined (t ∷ ts) us (x ∷ xs) ys f g = (f.0, bounds_joined ts us xs ys 
 pub bounds_put : (ts us : List ℕ) (xs ys : List StationCopy) (t : ℕ) (x : StationCopy) → us ≡ ts ++ t ∷ []
     → ys ≡ xs ++ x ∷ [] → AllZip IsLowerBound ts xs → IsLowerBound t x → AllZip IsLowerBound us ys
 bounds_put ts us xs ys t x d e f g = rw (d, e) (bounds_joined ts (t ∷ []) xs (x ∷ []) f (g, tt))
+
+-- a time that is not after any of the times is one for all copies
+pub bounds_of_all : (least : ℕ) (ts : List ℕ) (xs : List StationCopy) → AllZip IsLowerBound ts xs
+    → ((i : ℕ) → i < length ts → least ≤ get_or ts i 0)
+    → IsLowerBoundOfAll least xs
+bounds_of_all least [] [] f l = tt
+bounds_of_all least [] (x ∷ xs) f l = absurd f
+bounds_of_all least (t ∷ ts) [] f l = absurd f
+bounds_of_all least (t ∷ ts) (x ∷ xs) f l = (
+  IsLowerBound-before least t x (l 0 (omega arith)) f.0,
+  bounds_of_all least ts xs f.1 (λ i h. l (suc i) (omega (arith, h))),
+)
 
 -- the times stay if a clone is added next to another
 pub bounds_forked : (old new : ℕ) (ts : List ℕ) (xs : List StationCopy) → AllZip IsLowerBound ts xs

@@ -14,7 +14,6 @@ use Rattle.run_laws.proofs.Running.{all_from_zero}
 use Rattle.sim_base.proofs.ListLaws.{all_weaker}
 use Rattle.phys_proc.specs.Own.{StationCopy, MarkedMessages, IsLowerBound, IsLowerBoundOfAll, with_message}
 use Rattle.phys_proc.proofs.Sends.{all_inserted}
-use Rattle.sim_base.proofs.ListLaws.{all_append}
 
 -- ---- IsLowerBound
 
@@ -48,30 +47,11 @@ IsLowerBound-before t u a l f = all_weaker (λ y. u ≤ y.0.key.time) (λ y. t �
 
 -- ---- IsLowerBoundOfAll
 
--- and so for a list of copies
-IsLowerBoundOfAll-before : (t u : ℕ) (xs : List StationCopy) → t ≤ u → IsLowerBoundOfAll u xs → IsLowerBoundOfAll t xs
-IsLowerBoundOfAll-before t u xs l f = all_weaker (IsLowerBound u) (IsLowerBound t) xs
-    (λ a h. IsLowerBound-before t u a l h) f
-
 -- nothing is pending before time 0
 pub IsLowerBoundOfAll-zero : (xs : List StationCopy) → IsLowerBoundOfAll 0 xs
 IsLowerBoundOfAll-zero [] = tt
 IsLowerBoundOfAll-zero (x ∷ xs) =
     (all_from_zero (λ (y : Msg × CloneSet). y.0.key.time) x.pending, IsLowerBoundOfAll-zero xs)
-
--- a copy more
-pub IsLowerBoundOfAll-put : (t u w : ℕ) (xs : List StationCopy) (x : StationCopy) → w ≡ min t u
-    → IsLowerBoundOfAll t xs → IsLowerBound u x → IsLowerBoundOfAll w (xs ++ x ∷ [])
-IsLowerBoundOfAll-put t u w xs x e f g = all_append (IsLowerBound w) xs (x ∷ [])
-    (IsLowerBoundOfAll-before w t xs (omega (arith, e)) f)
-    (IsLowerBound-before w u x (omega (arith, e)) g, tt)
-
--- two lists in one
-pub IsLowerBoundOfAll-joined : (t u w : ℕ) (xs ys : List StationCopy) → w ≡ min t u → IsLowerBoundOfAll u xs
-    → IsLowerBoundOfAll t ys → IsLowerBoundOfAll w (xs ++ ys)
-IsLowerBoundOfAll-joined t u w xs ys e f g = all_append (IsLowerBound w) xs ys
-    (IsLowerBoundOfAll-before w u xs (omega (arith, e)) f)
-    (IsLowerBoundOfAll-before w t ys (omega (arith, e)) g)
 
 -- with a message more, nothing is pending before a time that the message is not before
 IsLowerBound-given : (t : ℕ) (m : Msg) (k : CloneSet) (a : StationCopy) → t ≤ m.key.time → IsLowerBound t a

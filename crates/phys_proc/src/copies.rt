@@ -1,5 +1,5 @@
-//! The physical processes of a station, with lower bounds of the time stamps of their pending messages.
-ghost use Rattle.std.specs.Prelude.{◌≡◌, ◌∷◌, ◌++◌, [], OnOk, IfOk, IsTrue, map};
+//! The physical processes of a station, with a lower bound for each of the time stamps of its pending messages.
+ghost use Rattle.std.specs.Prelude.{◌≡◌, ◌∷◌, ◌++◌, [], ◌<◌, ◌≤◌, ℕ, length, slice_index, OnOk, IfOk, map};
 ghost use Rattle.std.specs.List.{AllZip};
 ghost use Rattle.sim_base.specs.Marked.{SortedMarked};
 ghost use Rattle.sim_base.specs.Order.{msg_cmp};
@@ -17,27 +17,24 @@ use std::alloc::Global;
 use std::marker::Model;
 use std::mem;
 
-/// Copies of one station, and lower bounds of the times of their pending messages.
+/// Copies of one station, and for each a lower bound of the times of its pending messages.
 #[derive(Drop)]
 pub(crate) struct Copies {
     copies: Vec<PhysCopy>,
     // for each copy, at the same index, a lower bound of its pending times: reading it does not touch the copy's memory
     bounds: Vec<u64>,
-    // lower bound of all pending times
-    lower_bound: u64,
 }
 
 impl Model for Copies {
     ghost use Rattle.std.specs.Prelude.{List};
     ghost use Rattle.std.specs.List.{AllZip};
-    ghost use Rattle.phys_proc.specs.Own.{StationCopy, IsLowerBound, IsLowerBoundOfAll};
+    ghost use Rattle.phys_proc.specs.Own.{StationCopy, IsLowerBound};
 
     ghost Value = { List StationCopy };
 
     ghost view = { λ p. p.copies.items };
 
-    ghost invariant = { λ p. IsLowerBoundOfAll p.lower_bound p.copies.items ×
-        AllZip IsLowerBound p.bounds.items p.copies.items };
+    ghost invariant = { λ p. AllZip IsLowerBound p.bounds.items p.copies.items };
 }
 
 // A lower bound of the pending times of a copy.
@@ -49,6 +46,17 @@ pub(crate) fn lower_bound_of(copy: &PhysCopy) -> u64
         Some(time) => time,
         None => u64::MAX,
     }
+}
+
+// A time that is not after any of these.
+fn least_of(times: &[u64]) -> u64
+    ensures least { (i : ℕ) → i < length times.now → result ≤ slice_index times.now i }
+{
+    let mut least = u64::MAX;
+    for i in 0..times.len() {
+        least = least.min(times[i]);
+    }
+    least
 }
 
 // Adds a message for the copy's clones in the set. `lower_bound` bounds the copy's pending times.
@@ -158,7 +166,6 @@ impl Copies {
         Copies {
             copies: Vec::new(alloc),
             bounds: Vec::new(alloc),
-            lower_bound: u64::MAX,
         }
     }
 
@@ -171,20 +178,16 @@ impl Copies {
         self.copies.reserve(1)?;
         self.bounds.push_reserved(lower_bound);
         self.copies.push_reserved(copy);
-        self.lower_bound = self.lower_bound.min(lower_bound);
         Ok(())
     }
 
-    /// Puts copies before these. `lower_bound` bounds all their pending times, and `bounds` those of each. If out of
-    /// memory, all copies are lost.
+    /// Puts copies before these. `bounds` bounds the pending times of each. If out of memory, all copies are lost.
     pub fn put_before(
         &mut self,
         alloc: Global,
         copies: Vec<PhysCopy>,
         bounds: Vec<u64>,
-        lower_bound: u64,
     ) -> Result<(), NoMemory>
-        requires lower { IsLowerBoundOfAll lower_bound copies.items }
         requires each { AllZip IsLowerBound bounds.items copies.items }
         ensures all { OnOk result (self.new ≡ copies.items ++ self.old) }
     {
@@ -196,7 +199,6 @@ impl Copies {
         bounds.append(&mut last_bounds)?;
         self.copies = copies;
         self.bounds = bounds;
-        self.lower_bound = self.lower_bound.min(lower_bound);
         Ok(())
     }
 
@@ -212,11 +214,7 @@ impl Copies {
         ensures given { OnOk result (self.new ≡ map (with_message msg set) self.old) }
         ensures same { map but_pending self.new ≡ map but_pending self.old }
     {
-        let lower_bound = self.lower_bound.min(msg.key.time);
-        // also if out of memory
-        self.lower_bound = 0;
         let place = deliver_from(&mut self.copies, &mut self.bounds, msg, set, guess)?;
-        self.lower_bound = lower_bound;
         Ok(place)
     }
 
@@ -241,14 +239,7 @@ impl Copies {
     pub fn lower_bound(&self) -> u64
         ensures lower { IsLowerBoundOfAll result self.now }
     {
-        self.lower_bound
-    }
-
-    /// Whether nothing is pending before the bound.
-    pub fn is_idle(&self, bound: u64) -> bool
-        ensures lower { IsTrue result → IsLowerBoundOfAll bound self.now }
-    {
-        bound <= self.lower_bound
+        least_of(self.bounds())
     }
 
     /// The copies, and for each a lower bound of its pending times.
@@ -256,11 +247,7 @@ impl Copies {
         ensures same { result.0.items ≡ self }
         ensures each { AllZip IsLowerBound result.1.items self }
     {
-        let Copies {
-            copies,
-            bounds,
-            lower_bound: _,
-        } = self;
+        let Copies { copies, bounds } = self;
         (copies, bounds)
     }
 

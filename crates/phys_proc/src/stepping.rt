@@ -1,7 +1,7 @@
 //! Advances all physical processes of a station to a window boundary.
-ghost use Rattle.std.specs.Prelude.{◌≡◌, ◌+◌, ◌++◌, IfOk, OnOk};
+ghost use Rattle.std.specs.Prelude.{◌≡◌, ◌+◌, ◌++◌, OnOk};
 ghost use Rattle.std.specs.List.{AllZip};
-ghost use Rattle.phys_proc.specs.Own.{IsStepResult, IsLowerBound, IsLowerBoundOfAll};
+ghost use Rattle.phys_proc.specs.Own.{IsStepResult, IsLowerBound};
 ghost use Rattle.phys_proc.specs.Ends.{ends_in};
 ghost use Rattle.phys_proc.specs.StepOutputs.{MayStepCopies, IsNewOutput};
 
@@ -16,9 +16,8 @@ use stations::MAX_SENDS;
 use std::alloc::Global;
 use std::sync::ledger::Ledger;
 
-// Steps the copies in place, and returns a lower bound of their pending times. Copies whose clones part are taken out,
-// and the resulting copies are put with the finished ones. A copy is only read if its time in `bounds` is before the
-// bound.
+// Steps the copies in place. Copies whose clones part are taken out, and the resulting copies are put with the finished
+// ones. A copy is only read if its time in `bounds` is before the bound.
 fn step_copies_in_place<L: Ledger>(
     alloc: Global,
     copies: &mut Vec<PhysCopy>,
@@ -30,25 +29,22 @@ fn step_copies_in_place<L: Ledger>(
     out: &mut ArrayVec<Msg, MAX_SENDS>,
     stage: &mut StepOutput,
     steps: &mut Steps<L>,
-) -> Result<u64, NoMemory>
+) -> Result<(), NoMemory>
     requires may_step { MayStepCopies model.now station bound copies.old.items }
     requires each { AllZip IsLowerBound bounds.old.items copies.old.items }
     requires new { IsNewOutput stage.old }
     // result: the copies at the bound, in place or finished, their sends, and the clones over the limit
     ensures stepped { OnOk result (IsStepResult model.now station (ends_in model.now.horizon ends.now) bound
         copies.old.items (copies.new.items ++ stage.new.done) stage.new.sent.items stage.new.over steps.old steps.new) }
-    // lower bounds of the pending times: of all copies in place, and of each
-    ensures lower { IfOk result (λ t. IsLowerBoundOfAll t copies.new.items) }
+    // lower bounds of the pending times of each copy in place
     ensures each { OnOk result (AllZip IsLowerBound bounds.new.items copies.new.items) }
     // counts: the messages handled
     ensures handled { OnOk result (stage.new.handled + steps.old ≡ steps.new) }
 {
-    let mut lower_bound = u64::MAX;
     let mut i = 0;
     while i < copies.len() {
         let first = bounds[i];
         if bound <= first {
-            lower_bound = lower_bound.min(first);
             i += 1;
             continue;
         }
@@ -66,7 +62,6 @@ fn step_copies_in_place<L: Ledger>(
             Stop::Settled => {
                 let now = lower_bound_of(&copies[i]);
                 bounds[i] = now;
-                lower_bound = lower_bound.min(now);
                 i += 1;
             }
             _ => {
@@ -78,7 +73,7 @@ fn step_copies_in_place<L: Ledger>(
             }
         }
     }
-    Ok(lower_bound)
+    Ok(())
 }
 
 /// Steps all copies of a station to the bound, each in place. If out of memory, they are lost. `out` is a buffer for
@@ -100,12 +95,8 @@ pub(crate) fn step_copies<L: Ledger>(
         stage.new.done stage.new.sent.items stage.new.over steps.old steps.new) }
     ensures handled { OnOk result (stage.new.handled + steps.old ≡ steps.new) }
 {
-    if copies.is_idle(bound) {
-        stage.done = copies;
-        return Ok(());
-    }
     let (mut standing, mut bounds) = copies.into_parts();
-    let lower_bound = step_copies_in_place(
+    step_copies_in_place(
         alloc,
         &mut standing,
         &mut bounds,
@@ -117,6 +108,6 @@ pub(crate) fn step_copies<L: Ledger>(
         stage,
         steps,
     )?;
-    stage.done.put_before(alloc, standing, bounds, lower_bound)?;
+    stage.done.put_before(alloc, standing, bounds)?;
     Ok(())
 }

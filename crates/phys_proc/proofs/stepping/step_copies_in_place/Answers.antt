@@ -1,15 +1,14 @@
-use Rattle.std.proofs.Common.{◌≡◌, ◌<◌, arith, ap, refl, subst, sym, length, take, slice_set}
-use Rattle.std.proofs.lemmas.List.{length-set, take_more_set}
+use Rattle.std.proofs.Common.{◌≡◌, ◌<◌, arith, ap, refl, subst, sym, length, slice_set}
+use Rattle.std.proofs.lemmas.List.{length-set}
 use Rattle.std.proofs.lemmas.Slice.Zip.{AllZip-long}
-use Rattle.sim_base.proofs.Elements.{take_next}
 use Rattle.phys_proc.specs.Ends.{ends_in}
-use Rattle.phys_proc.specs.Own.{StationCopy, IsCopy, IsLowerBound, IsLowerBoundOfAll, IsAdvance, may_handle}
+use Rattle.phys_proc.specs.Own.{StationCopy, IsCopy, IsLowerBound, IsAdvance, may_handle}
 use Rattle.phys_proc.specs.Stops.{IsStop}
-use Rattle.phys_proc.proofs.LowerBounds.{IsLowerBoundOfAll-put, IsLowerBound-before}
+use Rattle.phys_proc.proofs.LowerBounds.{IsLowerBound-before}
 use Rattle.phys_proc.proofs.CopyBounds.{bound_at, bounds_set, bounds_without}
 use Rattle.phys_proc.proofs.ComesFrom.{left_few}
 use Rattle.phys_proc.proofs.InPlace.{stepped_to-start, stepped_to-fits, stepped_to-few, stepped_to-next, stepped_to-out}
-use Rattle.phys_proc.proofs.InPlace.{stepped_to-idle, stepped_to-end, copy_at, set_there, without_take, without_shorter}
+use Rattle.phys_proc.proofs.InPlace.{stepped_to-idle, stepped_to-end, copy_at, set_there, without_shorter}
 use Rattle.phys_proc.proofs.stepping.step_copies_in_place.Goals as goal
 
 -- ---- the loop begins
@@ -20,7 +19,6 @@ loop-i-init g c = record {
       (ends_in c.args.model.now.horizon c.args.ends.now) c.args.bound c.args.copies.now.items c.args.stage.now.done
       c.args.stage.now.sent.items c.args.stage.now.over c.args.steps.now c.requires.new.none c.requires.new.silent
       c.requires.new.under;
-  lower = tt;
   each = c.requires.each;
   within = omega arith;
   handled = omega (arith, c.requires.new.idle);
@@ -74,9 +72,6 @@ loop-i-preserved-then-bound-first g c =
     record {
       far = stepped_to-idle net c.requires.may_step.valid c.args.station ends c.args.bound l.invariant.far there x at.1
           c.requires.may_step.disjoint fits (IsLowerBound-before c.args.bound first x c.if-bound-first.true late);
-      lower = subst (IsLowerBoundOfAll c.min-lower_bound.result) (sym (take_next cs l.i x there at.1))
-          (IsLowerBoundOfAll-put l.lower_bound first c.min-lower_bound.result (take l.i cs) x c.min-lower_bound.ensures
-          l.invariant.lower late);
       each = l.invariant.each;
       within = omega (arith, there);
       handled = l.invariant.handled;
@@ -114,11 +109,6 @@ loop-i-preserved-in-Settled g c =
           c.index_mut.result.now c.index_mut.ensures.value c.requires.may_step.disjoint y (slice_set cs l.i y)
           s.done s.sent.items s.over c.handle_together.new.steps one.onward (rw c.in-Settled.is at one.stop) refl
           one.done one.over;
-      lower = subst (IsLowerBoundOfAll c.min-lower_bound-in-Settled.result) (sym (take_more_set cs l.i y there))
-          (IsLowerBoundOfAll-put l.lower_bound c.lower_bound_of-now.result c.min-lower_bound-in-Settled.result
-          (take l.i cs) y c.min-lower_bound-in-Settled.ensures l.invariant.lower
-          (subst (IsLowerBound c.lower_bound_of-now.result)
-          (set_there cs l.i c.index.result.now y there c.index.ensures) c.lower_bound_of-now.ensures.lower));
       each = bounds_set l.bounds.items cs l.i c.lower_bound_of-now.result y l.invariant.each
           (subst (IsLowerBound c.lower_bound_of-now.result)
           (set_there cs l.i c.index.result.now y there c.index.ensures) c.lower_bound_of-now.ensures.lower);
@@ -178,8 +168,6 @@ loop-i-preserved g c =
           (subst (λ (u : StationCopy). IsAdvance net c.args.station ends c.args.bound u s.done f.done s.sent.items
           f.sent.items s.over f.over c.handle_together.new.steps c.bring_to_bound.new.steps) same come.comes)
           c.remove-copy.ensures.items one.done one.over;
-      lower = subst (IsLowerBoundOfAll l.lower_bound)
-          (sym (without_take cs after l.i y there c.remove-copy.ensures.items)) l.invariant.lower;
       each = rw (c.remove.ensures.items, c.remove-copy.ensures.items)
           (bounds_without l.bounds.items cs l.i y l.invariant.each);
       within = let n = without_shorter cs after l.i y there c.remove-copy.ensures.items in omega (arith, there, n);

@@ -1,7 +1,7 @@
-use Rattle.std.proofs.Common.{◌≡◌, ◌+◌, ◌-◌, ◌≤◌, length, take}
+use Rattle.std.proofs.Common.{◌≡◌, ◌+◌, ◌-◌, ◌≤◌, length}
 use Rattle.std.specs.List.{AllZip}
 use Rattle.phys_proc.specs.Ends.{ends_in}
-use Rattle.phys_proc.specs.Own.{IsLowerBound, IsLowerBoundOfAll}
+use Rattle.phys_proc.specs.Own.{IsLowerBound}
 use Rattle.phys_proc.proofs.InPlace.{IsSteppedTo}
 use Rattle.phys_proc.proofs.stepping.step_copies_in_place.Given as goal
 
@@ -9,7 +9,6 @@ abbrev pub invariant-loop-i : goal.invariant-loop-i
 invariant-loop-i g l = record {
   far : IsSteppedTo l.model l.station (ends_in l.model.horizon l.ends) l.bound l.fn.copies.items l.i l.copies.items
       l.stage.done l.stage.sent.items l.stage.over l.fn.steps l.steps;
-  lower : IsLowerBoundOfAll l.lower_bound (take l.i l.copies.items);
   each : AllZip IsLowerBound l.bounds.items l.copies.items;
   within : l.i ≤ length l.copies.items;
   handled : l.stage.handled + l.fn.steps ≡ l.steps;

@@ -1,15 +1,11 @@
 use Rattle.std.specs.List.{AllZip}
 use Rattle.std.proofs.Common.{subst, sym}
-use Rattle.phys_proc.specs.Own.{IsLowerBound, IsLowerBoundOfAll}
-use Rattle.phys_proc.proofs.Forks.{IsLowerBoundOfAll-forked}
+use Rattle.phys_proc.specs.Own.{IsLowerBound}
 use Rattle.phys_proc.proofs.CopyBounds.{bounds_forked}
 use Rattle.phys_proc.proofs.copies.Copies.fork.Goals as goal
 
 pub invariant_of-self : goal.invariant_of-self
 invariant_of-self c =
-    let i = c.self.inside in (
-      subst (IsLowerBoundOfAll i.lower_bound) (sym c.fork.ensures.forked)
-          (IsLowerBoundOfAll-forked c.args.old c.args.new i.lower_bound i.copies.items c.self.invariant.0),
-      subst (AllZip IsLowerBound i.bounds.items) (sym c.fork.ensures.forked)
-          (bounds_forked c.args.old c.args.new i.bounds.items i.copies.items c.self.invariant.1),
-    )
+    let i = c.self.inside in
+    subst (AllZip IsLowerBound i.bounds.items) (sym c.fork.ensures.forked)
+    (bounds_forked c.args.old c.args.new i.bounds.items i.copies.items c.self.invariant)

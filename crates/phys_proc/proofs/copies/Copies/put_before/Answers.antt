@@ -1,6 +1,4 @@
-use Rattle.std.proofs.Common.{◌≡◌, ◌++◌, ◌∙◌, refl, sym, subst}
-use Rattle.phys_proc.specs.Own.{IsLowerBoundOfAll}
-use Rattle.phys_proc.proofs.LowerBounds.{IsLowerBoundOfAll-joined}
+use Rattle.std.proofs.Common.{◌≡◌, ◌++◌, ◌∙◌, refl}
 use Rattle.phys_proc.proofs.CopyBounds.{bounds_joined}
 use Rattle.phys_proc.proofs.copies.Copies.put_before.Goals as goal
 
@@ -10,10 +8,6 @@ invariant_of-self-2 c =
     let copies : c.append.new.self.items ≡ c.args.copies.items ++ i.copies.items =
     c.in_ok-append.ensures.items ∙ rw (c.replace-last.ensures.value) refl in
     let bounds : c.append-2.new.self.items ≡ c.args.bounds.items ++ i.bounds.items =
-    c.in_ok-append-2.ensures.items ∙ rw (c.replace-last_bounds.ensures.value) refl in (
-      subst (IsLowerBoundOfAll c.min-self-inside.result) (sym copies)
-          (IsLowerBoundOfAll-joined i.lower_bound c.args.lower_bound c.min-self-inside.result c.args.copies.items
-          i.copies.items c.min-self-inside.ensures c.requires.lower c.self.invariant.0),
-      rw (bounds, copies) (bounds_joined c.args.bounds.items i.bounds.items c.args.copies.items i.copies.items
-          c.requires.each c.self.invariant.1),
-    )
+    c.in_ok-append-2.ensures.items ∙ rw (c.replace-last_bounds.ensures.value) refl in
+    rw (bounds, copies) (bounds_joined c.args.bounds.items i.bounds.items c.args.copies.items i.copies.items
+    c.requires.each c.self.invariant)
