@@ -1,8 +1,12 @@
 -- The lines that marks cut out of bytes, in parts.
-use Rattle.std.proofs.Common.{◌≡◌, ℕ, zero, suc, ◌+◌, ◌-◌, ◌<◌, ◌≤◌, List, [], ◌∷◌, ◌++◌, length, get_or, take, drop, refl, sym, ap, ap₂, ◌∙◌, arith, length-drop}
-use Rattle.std.proofs.lemmas.List.{nil_from_length, take-append-drop, drop-drop, take-take, drop-take, take-append-le, drop-append-le, length-take-le, take_all}
+use Rattle.std.proofs.Common.{◌≡◌, ℕ, zero, suc, ◌+◌, ◌-◌, ◌<◌, ◌≤◌, List, [], ◌∷◌, ◌++◌, length, get_or, take, drop}
+use Rattle.std.proofs.Common.{refl, sym, ap, ap₂, ◌∙◌, arith, length-drop}
+use Rattle.std.proofs.lemmas.List.{nil_from_length, take-append-drop, drop-drop, take-take, drop-take, take-append-le}
+use Rattle.std.proofs.lemmas.List.{drop-append-le, length-take-le, take_all}
+use Rattle.keyed_text.specs.declared.lines.Lines.{Lines}
 use Rattle.keyed_text.specs.declared.mark.Mark.{Mark}
 use Rattle.keyed_text.specs.Lines.{KeyedLine, text_of, lines_at, AreMarks}
+use Rattle.keyed_text.specs.LinesOf.{lines_of}
 use Rattle.keyed_text.specs.Marks.{start_at}
 
 -- a line by its two fields
@@ -30,6 +34,13 @@ word-lines_at at bytes [] i d e l = absurd (omega arith)
 word-lines_at at bytes (m ∷ ms) zero d e l = refl
 word-lines_at at bytes (m ∷ ms) (suc i) d e l =
     word-lines_at m.end (drop (m.end - at) bytes) ms i d e (omega arith)
+
+-- the line of a mark: it is one of the lines, and it has the mark's word
+pub line_of_mark : (lines : Lines) (i : ℕ) → i < length lines.marks.now
+    → (i < length (lines_of lines)) × ((get_or (lines_of lines) i blank).word ≡ (get_or lines.marks.now i no_mark).word)
+line_of_mark lines i l =
+    let n = length-lines_at 0 lines.bytes.now lines.marks.now in
+    (omega (arith, n, l), word-lines_at 0 lines.bytes.now lines.marks.now i no_mark blank l)
 
 -- ---- AreMarks, start_at
 

@@ -1,11 +1,13 @@
 -- Marks that are moved, and a run of lines that is appended to others.
-use Rattle.std.proofs.Common.{◌≡◌, ℕ, ◌+◌, ◌-◌, ◌^◌, ◌<◌, ◌≤◌, List, [], ◌∷◌, ◌++◌, length, get_or, map, take, drop, slice_range, refl, sym, ap, ap₂, ◌∙◌, arith, length-drop}
-use Rattle.std.proofs.lemmas.List.{length-take-le, length-append, take_more, get_or-take, get_or-drop}
-use Rattle.sim_base.proofs.ListLaws.{all_at}
+use Rattle.std.proofs.Common.{◌≡◌, ℕ, ◌+◌, ◌-◌, ◌^◌, ◌<◌, ◌≤◌, List, [], ◌∷◌, ◌++◌, length, map, take, drop}
+use Rattle.std.proofs.Common.{slice_range, refl, sym, ap, ap₂, ◌∙◌, arith, length-drop}
+use Rattle.std.proofs.lemmas.List.{length-take-le, length-append}
 use Rattle.keyed_text.specs.declared.mark.Mark.{Mark}
 use Rattle.keyed_text.specs.Lines.{text_of, lines_at, AreMarks}
 use Rattle.keyed_text.specs.Marks.{start_at, moved, MayMove}
-use Rattle.keyed_text.proofs.Cutting.{line_with, no_mark, below_total, start_at-within, start-within, start_at-drop, AreMarks-drop, AreMarks-take, AreMarks-append, take-lines_at, drop-all, lines_at-append, text_of-lines_at}
+use Rattle.keyed_text.proofs.Cutting.{line_with, below_total, start_at-within, start-within, start_at-drop}
+use Rattle.keyed_text.proofs.Cutting.{AreMarks-drop, AreMarks-take, AreMarks-append, take-lines_at, drop-all}
+use Rattle.keyed_text.proofs.Cutting.{lines_at-append, text_of-lines_at}
 
 module _ (start base : ℕ) where
   -- moved marks cut the same lines
@@ -35,31 +37,6 @@ module _ (start base : ℕ) where
         (omega (arith, l, f.0), omega (arith, b, h)),
         MayMove-marks m.end ms total (omega (arith, l, f.0)) h f.1,
       )
-
--- marks from one place on, up to another
-module _ (ms : List Mark) (first i : ℕ) (o : first ≤ i) where
-  -- the place of a mark among those from `first` on
-  mark-from : get_or (drop first ms) (i - first) no_mark ≡ get_or ms i no_mark
-  mark-from =
-      let e : first + (i - first) ≡ i = omega arith in
-      get_or-drop first ms (i - first) no_mark ∙ ap (λ k. get_or ms k no_mark) e
-
-  -- one more mark
-  pub marks-more : i < length ms → slice_range ms first (i + 1) ≡ slice_range ms first i ++ get_or ms i no_mark ∷ []
-  marks-more l =
-      let e : i + 1 - first ≡ i - first + 1 = omega (arith, o) in
-      ap (λ k. take k (drop first ms)) e
-      ∙ take_more (drop first ms) (i - first) no_mark (omega (arith, l, o, length-drop first ms))
-      ∙ ap (λ m. slice_range ms first i ++ m ∷ []) mark-from
-
-  -- if all of them can be moved, each can
-  pub MayMove-at : (start base last : ℕ) → i < last → last ≤ length ms →
-      MayMove start base (slice_range ms first last) →
-      (start ≤ (get_or ms i no_mark).end) × (base + ((get_or ms i no_mark).end - start) < 2 ^ 64)
-  MayMove-at start base last l le h =
-      let many = length-take-le (last - first) (drop first ms) (omega (arith, le, length-drop first ms)) in
-      let e = get_or-take (last - first) (drop first ms) (i - first) no_mark (omega (arith, l, o)) ∙ mark-from in
-      rw e at (all_at _ (slice_range ms first last) (i - first) no_mark h (omega (arith, many, l, o)))
 
 module _ (bytes : List ℕ) (ms : List Mark) (f : AreMarks 0 ms (length bytes)) (first last : ℕ) (o : first ≤ last) where
   -- the end of a run

@@ -1,5 +1,6 @@
 -- The steps of a text that is made: run by run of the old lines and of the new ones.
-use Rattle.std.proofs.Common.{◌≡◌, ℕ, ◌+◌, ◌-◌, ◌%◌, ◌<◌, ◌≤◌, Bool, true, false, cond, List, [], ◌∷◌, ◌++◌, length, get_or, take, drop, slice_range, refl, sym, ap, ◌∙◌, subst, arith, append_assoc}
+use Rattle.std.proofs.Common.{◌≡◌, ℕ, ◌+◌, ◌-◌, ◌%◌, ◌<◌, ◌≤◌, Bool, true, false, cond, List, [], ◌∷◌, ◌++◌, length}
+use Rattle.std.proofs.Common.{get_or, take, drop, slice_range, refl, sym, ap, ◌∙◌, subst, arith, append_assoc}
 use Rattle.std.proofs.lemmas.Bool.Decides.{nat_tests}
 use Rattle.std.proofs.lemmas.List.{drop_more, drop_all, append-nil, take-append-drop, drop-drop}
 use Rattle.std.proofs.lemmas.List.Edits.{between_more}
@@ -189,7 +190,8 @@ ComeBefore-first made [] first word l w a = tt
 ComeBefore-first made (x ∷ xs) first word l w a =
     let none : slice_range made first first ≡ [] =
     (let e : first - first ≡ 0 = omega arith in ap (λ n. take n (drop first made)) e) in
-    let one = between_more made first first blank (omega arith) l ∙ ap (λ ls. ls ++ get_or made first blank ∷ []) none in
+    let one = between_more made first first blank (omega arith) l ∙ ap (λ ls. ls ++ get_or made first blank ∷ []) none
+    in
     rw one (rw w a, tt)
 
 module _ (cuts : List ℕ) (here next made : List KeyedLine) (word done end : ℕ) (text between after : TextView)

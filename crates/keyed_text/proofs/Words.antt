@@ -1,5 +1,6 @@
 -- Lines whose words rise, and a word among them.
-use Rattle.std.proofs.Common.{ℕ, zero, suc, ◌+◌, ◌<◌, ◌≤◌, List, [], ◌∷◌, length, get_or, take, drop, subst, sym, add-one, arith}
+use Rattle.std.proofs.Common.{ℕ, zero, suc, ◌+◌, ◌<◌, ◌≤◌, List, [], ◌∷◌, length, get_or, take, drop, subst, sym}
+use Rattle.std.proofs.Common.{add-one, arith}
 use Rattle.std.specs.List.{AllByRecursion}
 use Rattle.keyed_text.specs.Lines.{KeyedLine, RiseByWord, AreBelow, AreFrom}
 

@@ -1,5 +1,5 @@
 //! Marks, which cut bytes into lines.
-ghost use Rattle.std.specs.Prelude.{◌≡◌, ◌+◌, ◌<◌, ◌≤◌, ◌-◌, ◌++◌, length, map, slice_range, vec_capacity};
+ghost use Rattle.std.specs.Prelude.{◌≡◌, ◌+◌, ◌<◌, ◌≤◌, ◌++◌, length, map, vec_capacity};
 ghost use Rattle.keyed_text.specs.Marks.{start_at, moved, MayMove};
 
 /// The key of a line and its end: the next line begins there.
@@ -20,78 +20,29 @@ pub(crate) fn start_of(marks: &[Mark], line: usize) -> usize
     if line == 0 { 0 } else { marks[line - 1].end }
 }
 
-/// Appends a part of other marks, each moved: what was at place `start` is at place `base`. The memory must be
-/// reserved.
-#[inline(always)]
-pub(crate) fn append_marks(
-    marks: &mut Vec<Mark>,
-    more: &[Mark],
-    first: usize,
-    last: usize,
-    start: usize,
-    base: usize,
-)
-    requires order { first ≤ last }
-    requires in_range { last ≤ length more.now }
-    requires room { length marks.old.items + (last - first) ≤ vec_capacity marks.old }
-    requires may_move { MayMove start base (slice_range more.now first last) }
-    ensures value { marks.new.items ≡ marks.old.items ++ map (moved start base) (slice_range more.now first last) }
-    ensures reserved { vec_capacity marks.old ≤ vec_capacity marks.new }
-{
-    if last - first < FEW {
-        push_moved(marks, more, first, last, start, base);
-    } else {
-        extend_moved(marks, more, first, last, start, base);
-    }
-}
-
 // Fewer marks than this are appended one by one: a copy of all at once costs more than it saves.
 const FEW: usize = 8;
 
-// Appends a part of other marks, one by one, each moved. The memory must be reserved.
+/// Appends marks, each moved: what was at place `start` is at place `base`. The memory must be reserved.
 #[inline(always)]
-fn push_moved(
-    marks: &mut Vec<Mark>,
-    more: &[Mark],
-    first: usize,
-    last: usize,
-    start: usize,
-    base: usize,
-)
-    requires order { first ≤ last }
-    requires in_range { last ≤ length more.now }
-    requires room { length marks.old.items + (last - first) ≤ vec_capacity marks.old }
-    requires may_move { MayMove start base (slice_range more.now first last) }
-    ensures value { marks.new.items ≡ marks.old.items ++ map (moved start base) (slice_range more.now first last) }
+pub(crate) fn append_marks(marks: &mut Vec<Mark>, more: &[Mark], start: usize, base: usize)
+    requires room { length marks.old.items + length more.now ≤ vec_capacity marks.old }
+    requires may_move { MayMove start base more.now }
+    ensures value { marks.new.items ≡ marks.old.items ++ map (moved start base) more.now }
     ensures reserved { vec_capacity marks.old ≤ vec_capacity marks.new }
 {
-    for i in first..last {
-        let mark = more[i];
-        marks.push_reserved(Mark {
-            word: mark.word,
-            end: base + (mark.end - start),
-        });
+    if more.len() < FEW {
+        for i in 0..more.len() {
+            let mark = more[i];
+            marks.push_reserved(Mark {
+                word: mark.word,
+                end: base + (mark.end - start),
+            });
+        }
+        return;
     }
-}
-
-// Appends a part of other marks, all at once, and then moves them. The memory must be reserved.
-fn extend_moved(
-    marks: &mut Vec<Mark>,
-    more: &[Mark],
-    first: usize,
-    last: usize,
-    start: usize,
-    base: usize,
-)
-    requires order { first ≤ last }
-    requires in_range { last ≤ length more.now }
-    requires room { length marks.old.items + (last - first) ≤ vec_capacity marks.old }
-    requires may_move { MayMove start base (slice_range more.now first last) }
-    ensures value { marks.new.items ≡ marks.old.items ++ map (moved start base) (slice_range more.now first last) }
-    ensures reserved { vec_capacity marks.old ≤ vec_capacity marks.new }
-{
     let count = marks.len();
-    match marks.extend_from_slice(&more[first..last]) {
+    match marks.extend_from_slice(more) {
         Ok(()) => {}
         Err(_) => unreachable!(),
     }

@@ -108,7 +108,7 @@ impl KeyedText {
         let end = start_of(from.marks, last);
         let base = self.bytes.len();
         append_bytes(&mut self.bytes, from.bytes, start, end);
-        append_marks(&mut self.marks, from.marks, first, last, start, base);
+        append_marks(&mut self.marks, &from.marks[first..last], start, base);
     }
 
     /// Appends all lines, and reserves more memory if they do not fit.

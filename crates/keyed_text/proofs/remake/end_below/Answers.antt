@@ -1,6 +1,6 @@
-use Rattle.std.proofs.Common.{◌<◌, length, arith}
+use Rattle.std.proofs.Common.{arith}
 use Rattle.keyed_text.specs.LinesOf.{lines_of}
-use Rattle.keyed_text.proofs.Cutting.{blank, no_mark, length-lines_at, word-lines_at}
+use Rattle.keyed_text.proofs.Cutting.{length-lines_at, line_of_mark}
 use Rattle.keyed_text.proofs.Steps.{AreBelow-more}
 use Rattle.keyed_text.proofs.remake.end_below.Goals as goal
 
@@ -21,17 +21,13 @@ returns-then-made-i-clause-in_range c =
 
 pub loop-i-preserved : goal.loop-i-preserved
 loop-i-preserved c =
-    let bytes = c.args.made.bytes.now in
-    let ms = c.args.made.marks.now in
     let i = c.loop-i.i in
-    let n = length-lines_at 0 bytes ms in
     let from = c.loop-i.invariant.from in
-    let l : i < length (lines_of c.args.made) = omega (arith, n, c.loop-i-test.true) in
-    let w = word-lines_at 0 bytes ms i no_mark blank (omega (arith, c.loop-i-test.true)) in
+    let at = line_of_mark c.args.made i (omega (arith, c.loop-i-test.true)) in
     record {
       from = omega (arith, from);
       within = omega (arith, c.loop-i-test.true);
-      below = AreBelow-more (lines_of c.args.made) i _ l w c.args.word c.args.first (omega (arith, from))
+      below = AreBelow-more (lines_of c.args.made) i _ at.0 at.1 c.args.word c.args.first (omega (arith, from))
           (omega (arith, c.if-made-i.false)) c.loop-i.invariant.below;
     }
 

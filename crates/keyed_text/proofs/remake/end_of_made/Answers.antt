@@ -1,6 +1,6 @@
-use Rattle.std.proofs.Common.{◌+◌, ◌<◌, length, slice_range, arith}
+use Rattle.std.proofs.Common.{◌+◌, slice_range, arith}
 use Rattle.keyed_text.specs.LinesOf.{lines_of}
-use Rattle.keyed_text.proofs.Cutting.{blank, no_mark, length-lines_at, word-lines_at}
+use Rattle.keyed_text.proofs.Cutting.{length-lines_at, line_of_mark}
 use Rattle.keyed_text.proofs.Steps.{below_next, ComeBefore-next}
 use Rattle.keyed_text.proofs.remake.end_of_made.Goals as goal
 
@@ -16,20 +16,14 @@ offset_bounds-old-place c =
 
 pub end_below-requires-clause-below : goal.end_below-requires-clause-below
 end_below-requires-clause-below c =
-    let bytes = c.args.old.bytes.now in
-    let ms = c.args.old.marks.now in
-    let n = length-lines_at 0 bytes ms in
-    let l : c.args.place < length (lines_of c.args.old) = omega (arith, c.len.ensures.value, c.requires.place) in
-    let w = word-lines_at 0 bytes ms c.args.place no_mark blank (omega (arith, n, l)) in
-    below_next (slice_range (lines_of c.args.made) c.args.first (c.args.first + 1)) (lines_of c.args.old) c.args.place _ l
-    w c.requires.before
+    let n = length-lines_at 0 c.args.old.bytes.now c.args.old.marks.now in
+    let at = line_of_mark c.args.old c.args.place (omega (arith, n, c.len.ensures.value, c.requires.place)) in
+    below_next (slice_range (lines_of c.args.made) c.args.first (c.args.first + 1)) (lines_of c.args.old) c.args.place _
+    at.0 at.1 c.requires.before
 
 pub returns-clause-before : goal.returns-clause-before
 returns-clause-before c =
-    let bytes = c.args.old.bytes.now in
-    let ms = c.args.old.marks.now in
-    let n = length-lines_at 0 bytes ms in
-    let l : c.args.place < length (lines_of c.args.old) = omega (arith, c.len.ensures.value, c.requires.place) in
-    let w = word-lines_at 0 bytes ms c.args.place no_mark blank (omega (arith, n, l)) in
+    let n = length-lines_at 0 c.args.old.bytes.now c.args.old.marks.now in
+    let at = line_of_mark c.args.old c.args.place (omega (arith, n, c.len.ensures.value, c.requires.place)) in
     ComeBefore-next (slice_range (lines_of c.args.made) c.args.first c.end_below.result) (lines_of c.args.old)
-    c.args.place _ l w c.end_below.ensures.below
+    c.args.place _ at.0 at.1 c.end_below.ensures.below

@@ -1,7 +1,7 @@
-use Rattle.std.proofs.Common.{◌<◌, ◌∙◌, length, refl, arith}
+use Rattle.std.proofs.Common.{◌∙◌, length, refl, arith}
 use Rattle.std.proofs.lemmas.List.{drop_all}
 use Rattle.keyed_text.specs.LinesOf.{lines_of}
-use Rattle.keyed_text.proofs.Cutting.{blank, no_mark, length-lines_at, word-lines_at}
+use Rattle.keyed_text.proofs.Cutting.{length-lines_at, line_of_mark}
 use Rattle.keyed_text.proofs.Steps.{starts_staying, staying-removed}
 use Rattle.keyed_text.proofs.remake.end_of_removed.Goals as goal
 
@@ -17,27 +17,17 @@ returns-then-word-cuts-clause-in_range c =
 
 pub returns-then-word-cuts-clause-stays : goal.returns-then-word-cuts-clause-stays
 returns-then-word-cuts-clause-stays c =
-    let bytes = c.args.old.bytes.now in
-    let ms = c.args.old.marks.now in
-    let i = c.loop-i.i in
-    let n = length-lines_at 0 bytes ms in
-    let l : i < length (lines_of c.args.old) = omega (arith, n, c.loop-i-test.true) in
-    let w = word-lines_at 0 bytes ms i no_mark blank (omega (arith, c.loop-i-test.true)) in
-    starts_staying c.args.cuts.now (lines_of c.args.old) i _ l w c.if-word-cuts.true
+    let at = line_of_mark c.args.old c.loop-i.i (omega (arith, c.loop-i-test.true)) in
+    starts_staying c.args.cuts.now (lines_of c.args.old) c.loop-i.i _ at.0 at.1 c.if-word-cuts.true
 
 pub loop-i-preserved : goal.loop-i-preserved
 loop-i-preserved c =
-    let bytes = c.args.old.bytes.now in
-    let ms = c.args.old.marks.now in
-    let i = c.loop-i.i in
-    let n = length-lines_at 0 bytes ms in
-    let l : i < length (lines_of c.args.old) = omega (arith, n, c.loop-i-test.true) in
-    let w = word-lines_at 0 bytes ms i no_mark blank (omega (arith, c.loop-i-test.true)) in
+    let at = line_of_mark c.args.old c.loop-i.i (omega (arith, c.loop-i-test.true)) in
     record {
       from = omega (arith, c.loop-i.invariant.from);
       within = omega (arith, c.loop-i-test.true);
       removed = c.loop-i.invariant.removed
-          ∙ staying-removed c.args.cuts.now (lines_of c.args.old) i _ l w c.if-word-cuts.false;
+          ∙ staying-removed c.args.cuts.now (lines_of c.args.old) c.loop-i.i _ at.0 at.1 c.if-word-cuts.false;
     }
 
 pub returns-clause-in_range : goal.returns-clause-in_range

@@ -1,10 +1,11 @@
-use Rattle.std.proofs.Common.{◌<◌, length, arith}
+use Rattle.std.proofs.Common.{length, arith}
 use Rattle.std.proofs.lemmas.List.{drop_all}
 use Rattle.keyed_text.specs.LinesOf.{lines_of}
-use Rattle.keyed_text.proofs.Cutting.{blank, no_mark, length-lines_at, word-lines_at}
+use Rattle.keyed_text.proofs.Cutting.{length-lines_at, line_of_mark}
 use Rattle.keyed_text.proofs.Steps.{IsRun-none, IsRun-more, ends-above, ends-removed}
 use Rattle.keyed_text.proofs.remake.end_of_run.Goals as goal
-use Rattle.keyed_text.proofs.remake.end_of_run.Goals.{then-word-limit-via-then-word-limit, then-word-limit-via-else-word-limit+then-word-cuts}
+use Rattle.keyed_text.proofs.remake.end_of_run.Goals.{then-word-limit-via-then-word-limit}
+use Rattle.keyed_text.proofs.remake.end_of_run.Goals.{then-word-limit-via-else-word-limit+then-word-cuts}
 
 pub loop-i-init : goal.loop-i-init
 loop-i-init c =
@@ -22,32 +23,24 @@ returns-then-word-limit-clause-in_range c =
 
 pub returns-then-word-limit-clause-ends : goal.returns-then-word-limit-clause-ends
 returns-then-word-limit-clause-ends c =
-    let bytes = c.args.old.bytes.now in
-    let ms = c.args.old.marks.now in
     let i = c.loop-i.i in
-    let n = length-lines_at 0 bytes ms in
-    let l : i < length (lines_of c.args.old) = omega (arith, n, c.loop-i-test.true) in
-    let w = word-lines_at 0 bytes ms i no_mark blank (omega (arith, c.loop-i-test.true)) in
+    let at = line_of_mark c.args.old i (omega (arith, c.loop-i-test.true)) in
     elim c.then-word-limit.branch [
       | then-word-limit-via-then-word-limit v ↦
-          ends-above c.args.cuts.now (lines_of c.args.old) i _ l w c.args.limit v.if-word-limit.true
+          ends-above c.args.cuts.now (lines_of c.args.old) i _ at.0 at.1 c.args.limit v.if-word-limit.true
       | then-word-limit-via-else-word-limit+then-word-cuts v ↦
-          ends-removed c.args.cuts.now (lines_of c.args.old) i _ l w c.args.limit v.if-word-cuts.true
+          ends-removed c.args.cuts.now (lines_of c.args.old) i _ at.0 at.1 c.args.limit v.if-word-cuts.true
     ]
 
 pub loop-i-preserved : goal.loop-i-preserved
 loop-i-preserved c =
-    let bytes = c.args.old.bytes.now in
-    let ms = c.args.old.marks.now in
     let i = c.loop-i.i in
-    let n = length-lines_at 0 bytes ms in
     let from = c.loop-i.invariant.from in
-    let l : i < length (lines_of c.args.old) = omega (arith, n, c.loop-i-test.true) in
-    let w = word-lines_at 0 bytes ms i no_mark blank (omega (arith, c.loop-i-test.true)) in
+    let at = line_of_mark c.args.old i (omega (arith, c.loop-i-test.true)) in
     record {
       from = omega (arith, from);
       within = omega (arith, c.loop-i-test.true);
-      run = IsRun-more c.args.cuts.now (lines_of c.args.old) i _ l w c.args.limit c.args.first from
+      run = IsRun-more c.args.cuts.now (lines_of c.args.old) i _ at.0 at.1 c.args.limit c.args.first from
           c.if-word-limit.false c.if-word-cuts.false c.loop-i.invariant.run;
     }
 

@@ -1,11 +1,13 @@
-use Rattle.std.proofs.Common.{◌≡◌, ◌+◌, ◌-◌, ◌<◌, ◌^◌, ◌++◌, ap, ap₂, ◌∙◌, sym, subst, length, drop, slice_range, map, arith}
+use Rattle.std.proofs.Common.{◌≡◌, ◌+◌, ◌-◌, ◌<◌, ◌^◌, ◌++◌, ap, ap₂, ◌∙◌, sym, subst, length, drop, slice_range, map}
+use Rattle.std.proofs.Common.{arith}
 use Rattle.std.proofs.lemmas.List.{length-take-le, length-drop}
 use Rattle.keyed_text.specs.Lines.{text_of, lines_at}
 use Rattle.keyed_text.specs.LinesOf.{lines_of}
 use Rattle.keyed_text.specs.Marks.{start_at, moved, MayMove}
 use Rattle.keyed_text.specs.Texts.{TextView}
 use Rattle.keyed_text.proofs.Cutting.{length-lines_at, start-within, text_of-all}
-use Rattle.keyed_text.proofs.Moving.{run-order, run-bytes, AreMarks-run, MayMove-marks, lines_at-run, AreMarks-run-moved}
+use Rattle.keyed_text.proofs.Moving.{run-order, run-bytes, AreMarks-run, MayMove-marks, lines_at-run}
+use Rattle.keyed_text.proofs.Moving.{AreMarks-run-moved}
 use Rattle.keyed_text.proofs.text.KeyedText.append.Goals as goal
 
 pub start_of-start-requires : goal.start_of-start-requires
@@ -40,8 +42,13 @@ append_bytes-requires-clause-room c =
     let cap = ap (λ (t : TextView). t.bytes_reserved) c.self.view_is in
     omega (arith, many, v, t, cap, c.start_of-start.ensures.value, c.start_of-end.ensures.value, c.requires.room.bytes)
 
-pub append_marks-requires-clause-in_range : goal.append_marks-requires-clause-in_range
-append_marks-requires-clause-in_range c =
+pub offset_bounds-from-first : goal.offset_bounds-from-first
+offset_bounds-from-first c =
+    let n = length-lines_at 0 c.args.from.bytes.now c.args.from.marks.now in
+    omega (arith, n)
+
+pub slice_bounds-append_marks-end : goal.slice_bounds-append_marks-end
+slice_bounds-append_marks-end c =
     let n = length-lines_at 0 c.args.from.bytes.now c.args.from.marks.now in
     omega (arith, n)
 
@@ -82,7 +89,8 @@ made : (c : goal.After-append_marks) →
     ≡ c.self.inside.bytes.items ++ slice_range c.args.from.bytes.now (start_at 0 c.args.from.marks.now c.args.first)
     (start_at 0 c.args.from.marks.now c.args.last))
     × (c.append_marks.new.marks.items
-    ≡ c.self.inside.marks.items ++ map (moved (start_at 0 c.args.from.marks.now c.args.first) (length c.self.inside.bytes.items))
+    ≡ c.self.inside.marks.items ++ map (moved (start_at 0 c.args.from.marks.now c.args.first)
+    (length c.self.inside.bytes.items))
     (slice_range c.args.from.marks.now c.args.first c.args.last))
 made c =
     let r = c.self.inside in

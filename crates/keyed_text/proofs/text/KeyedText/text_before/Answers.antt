@@ -18,7 +18,8 @@ slice_bounds-result-end c =
     let r = c.self.inside in
     let w = start-within r.bytes.items r.marks.items c.self.invariant c.args.line in
     let s = c.start_of-start.ensures.value ∙ ap (λ ms. start_at 0 ms c.args.line) c.as_slice.ensures.value in
-    sym (length-take-le c.start_of-start.result c.deref.result.now (omega (arith, ap length c.deref.ensures.value, w, s)))
+    sym (length-take-le c.start_of-start.result c.deref.result.now
+    (omega (arith, ap length c.deref.ensures.value, w, s)))
 
 pub returns : goal.returns
 returns c =
