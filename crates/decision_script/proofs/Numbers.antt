@@ -30,7 +30,7 @@ has_number_form-digits (d ∷ e ∷ ds) all some first =
     grind (arith, nat_tests)
 
 -- the text of a number below 2 ^ 64 has the form of a number
-has_number_form-decimal : (n : ℕ) → n < 2 ^ 64 → has_number_form (decimal n) ≡ true
+pub has_number_form-decimal : (n : ℕ) → n < 2 ^ 64 → has_number_form (decimal n) ≡ true
 has_number_form-decimal zero h =
     has_number_form-digits (decimal 0) (digits_decimal digit_numerals 0 h) (decimal_nonempty 0 h)
     (inl (ap length (decimal_digit 0 (omega arith))))

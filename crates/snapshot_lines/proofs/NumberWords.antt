@@ -1,16 +1,17 @@
 -- Which words are numbers.
-use Rattle.std.proofs.Common.{◌≡◌, ℕ, ◌<◌, ◌≤◌, ◌^◌, ◌⊎◌, inl, inr, Bool, true, false, List, [], ◌∷◌, length, get_or}
-use Rattle.std.proofs.Common.{refl, sym, ap, arith, zero, suc, subst, decimal, nat_le}
+use Rattle.std.proofs.Common.{◌≡◌, ℕ, ◌<◌, ◌≤◌, ◌^◌, Bool, true, false, List, [], ◌∷◌, length, get_or}
+use Rattle.std.proofs.Common.{refl, sym, arith, subst, decimal, nat_le}
 use Rattle.std.specs.List.{list_all}
 use Rattle.std.specs.Str.Parse.{digits_value}
 use Rattle.std.proofs.lemmas.Bool.{and_parts, and_from, leb-true, le-leb}
 use Rattle.std.proofs.lemmas.Bool.Decides.{nat_tests}
-use Rattle.std.proofs.lemmas.Fmt.{decimal-digits_value, decimal_digit, decimal_nonempty, digits_decimal, first_decimal}
+use Rattle.std.proofs.lemmas.Fmt.{decimal-digits_value}
 use Rattle.std.proofs.lemmas.Fmt.{length-decimal-le}
 use Rattle.std.proofs.lemmas.Slice.Eq.{bytes_eq-Decides}
 use Rattle.sim_base.specs.Names.{is_digit, is_leading}
 use Rattle.sim_base.proofs.Digits.{digit_numerals}
 use Rattle.decision_script.specs.Lines.{has_number_form}
+use Rattle.decision_script.proofs.Numbers.{has_number_form-decimal}
 use Rattle.exact_words.specs.Forms.{is_number}
 use Rattle.snapshot_lines.specs.declared.numbers.TheConstants.{MAX_NUMBER_LEN}
 
@@ -35,24 +36,6 @@ has_number_form-leading (d ∷ e ∷ ds) form zero_first =
     let parts = and_parts (is_leading d) (list_all is_digit (e ∷ ds)) form in
     let lead : 49 ≤ d = grind (arith, nat_tests) in
     absurd (omega (arith, lead, zero_first))
-
--- digits of which the first is not 0 have the form
-has_number_form-from_digits : (ds : List ℕ) → list_all is_digit ds ≡ true → 0 < length ds
-    → (length ds ≡ 1) ⊎ (48 < get_or ds 0 0) → has_number_form ds ≡ true
-has_number_form-from_digits [] all some first = absurd (omega arith)
-has_number_form-from_digits (d ∷ []) all some first = (and_parts (is_digit d) true all).0
-has_number_form-from_digits (d ∷ e ∷ ds) all some first =
-    let (digit, rest) = and_parts (is_digit d) (list_all is_digit (e ∷ ds)) all in
-    let lead : 48 < d = elim first [ inl h ↦ absurd (omega arith) | inr h ↦ h ] in
-    grind (arith, nat_tests)
-
-has_number_form-decimal : (n : ℕ) → n < 2 ^ 64 → has_number_form (decimal n) ≡ true
-has_number_form-decimal zero h =
-    has_number_form-from_digits (decimal 0) (digits_decimal digit_numerals 0 h) (decimal_nonempty 0 h)
-    (inl (ap length (decimal_digit 0 (omega arith))))
-has_number_form-decimal (suc n) h =
-    has_number_form-from_digits (decimal (suc n)) (digits_decimal digit_numerals (suc n) h)
-    (decimal_nonempty (suc n) h) (inr (first_decimal (suc n) (omega arith) h))
 
 -- ---- is_number
 
