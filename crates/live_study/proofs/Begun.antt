@@ -93,7 +93,7 @@ up_to_next : (k n : ℕ) → one_if (nat_le k n) + one_if (nat_eq k (n + 1)) ≤
 up_to_next k n = one_if-apart (nat_le k n) (nat_eq k (n + 1)) (nat_le k (n + 1)) (λ h. grind (arith, nat_tests, h))
     (λ h. grind (arith, nat_tests, h)) (λ h e. absurd (grind (arith, nat_tests, h, e)))
 
--- if there are no items, nobody has an act
+-- if there are no items, no analyst has an act
 total_of-no_items : (n : ℕ) → total_of (each_acts [] n) ≡ 0
 total_of-no_items zero = refl
 total_of-no_items (suc n) = omega (arith, total_of-push (each_acts [] n) [], total_of-no_items n)

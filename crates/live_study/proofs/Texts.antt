@@ -24,7 +24,7 @@ from_one x h = omega arith
 up_to : (x many : ℕ) → (many < x → ⊥) → x ≤ many
 up_to x many h = omega arith
 
--- where none but those from 1 to so many have calls, each caller is one of them
+-- if only the callers from 1 to a number have calls, each caller is one of them
 callers_from : (many n : ℕ) (calls : List Call) → ((x : ℕ) → (x ≡ 0) ⊎ (many < x) → calls_from x n calls ≡ [])
     → AllByRecursion (λ (c : Call). IsAnalyst many c.caller) calls
 callers_from many n [] others = tt
@@ -37,24 +37,24 @@ callers_from many n (c ∷ cs) others =
           (λ x h. rest_empty (nat_eq c.caller x) (n, c) (calls_from x (n + 1) cs) (others x h)),
     )
 
--- so where none but those from 1 to so many have calls, each call is of one of these
+-- so if only the callers from 1 to a number have calls, each call is of one of these
 pub callers_within : (many : ℕ) (calls : List Call) → ((x : ℕ) → (x ≡ 0) ⊎ (many < x) → calls_from x 0 calls ≡ [])
     → All (λ (c : Call). IsAnalyst many c.caller) calls
 callers_within many calls others =
     All-from_recursion (λ (c : Call). IsAnalyst many c.caller) calls (callers_from many 0 calls others)
 
 -- ---- lookers
--- a look by one of so many analysts
+-- a look by one of the first n analysts
 abbrev IsByOneOf : ℕ → AskedLook → Type 0
 IsByOneOf many t = IsAnalyst many t.0
 
--- the looks of an analyst who is one of so many
+-- the looks of one of the first n analysts
 looks_within : (many a : ℕ) (acts : List Act) → IsAnalyst many a → AllByRecursion (IsByOneOf many) (looks_in a acts)
 looks_within many a [] is = tt
 looks_within many a (Decide d ∷ acts) is = looks_within many a acts is
 looks_within many a (Look who station ∷ acts) is = (is, looks_within many a acts is)
 
--- the looks of the first n analysts, where n is at most so many
+-- the looks of the first n analysts, if n is at most the number of analysts
 each_within : (many : ℕ) (items : List Item) (n : ℕ) → n ≤ many → AllByRecursion (IsByOneOf many) (each_looks items n)
 each_within many items zero high = tt
 each_within many items (suc n) high =

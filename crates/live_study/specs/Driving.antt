@@ -1,5 +1,5 @@
--- The engine's way to the horizon: what it begins with, and what it comes to.
-use Rattle.std.specs.Prelude.{◌≡◌, ◌+◌, ◌<◌, ◌≤◌, ℕ, List, length, Result, IfOk, IfErr}
+-- The engine's way to the horizon: what it begins with, and what it ends with.
+use Rattle.std.specs.Prelude.{◌≡◌, ◌+◌, ◌<◌, ◌≤◌, ℕ, Bool, List, length, Result, IfOk, IfErr}
 use Rattle.atomic_table.specs.Seated.{TableId}
 use Rattle.decision_desk.specs.Passes.{HelmView}
 use Rattle.phys_proc.specs.Racks.{RackView}
@@ -10,7 +10,7 @@ use Rattle.study_run.specs.declared.fault.StudyFault.{StudyFault}
 use Rattle.study_run.specs.declared.fault.StudyFault.TheVariants.{NoMemory, LimitMet}
 use Rattle.live_study.specs.Engines.{InStep, Steers, StopsEngine}
 use Rattle.live_study.specs.Looks.{AreAtFront}
-use Rattle.live_study.specs.Showing.{AreShownOf, AreShownTo}
+use Rattle.live_study.specs.Showing.{AreShownOf, AreShownTo, TellsEach}
 
 -- what the engine begins with
 pub record MayDrive (table : TableId) (h : HelmView) (w : WorldView) (published : List RackView) : Type 0 where
@@ -36,14 +36,17 @@ pub record MayShow (h : HelmView) (w : WorldView) (done : ℕ) (published : List
   pub at : AreAtFront h.net h.helm w.front w.clones
   pub shown : AreShownTo h w done published
 
--- what it comes to: its helm and what was published in the end, and how the run ended
-pub record HasDriven (old new : HelmView) (published : List RackView) (run : Result WorldView StudyFault) : Type 0 where
+-- what it ends with: its helm, how the run ended, what was published in the end, and what the stocker needs to tell
+-- each reader of it: the number of its readers, whether it has published, and its number of handles
+pub record HasDriven (old new : HelmView) (run : Result WorldView StudyFault) (published : List RackView)
+    (readers : ℕ) (has_published : Bool) (spares : ℕ) : Type 0 where
   -- all of the helm but the journal is as it was
   pub steers : Steers old new
   -- the world is at the horizon, where the helm's journal has led
   pub in_step : IfOk run (λ w. InStep new w × (w.front ≡ w.net.horizon))
-  -- and its racks are published
+  -- and its racks are published, of which each reader can be told
   pub shown : IfOk run (λ w. AreShownOf new w published)
+  pub tells : IfOk run (λ _. TellsEach readers has_published spares)
   -- or it stopped, out of memory or at the limit
   pub stops : IfErr run (λ e. StopsEngine new.net new.helm e)
 

@@ -16,8 +16,8 @@ use Rattle.live_study.specs.Looks.{AreLooks, AreMadeLooks, IsTrueLook, NeverFall
 use Rattle.live_study.specs.Scripts.{AskedLook, IsJournalOf}
 use Rattle.live_study.specs.declared.run.LiveRun.{LiveRun}
 
--- a journal in which all was asked: it is legal, each analyst's calls in it are its decisions, in order, and nobody
--- else has calls
+-- a journal in which all was asked: it is legal, each analyst's calls in it are its decisions, in order, and no
+-- other caller has calls
 pub record IsAllAsked (net : Net) (seated : List SeatedAnalyst) (book : BookView) : Type 0 where
   pub net_is : book.net ≡ net
   pub legal : IsLegal net book.events

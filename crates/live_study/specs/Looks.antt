@@ -24,9 +24,9 @@ abbrev pub AreAtFront : Net → List Event → ℕ → List Clone → Type 0
 AreAtFront net events front clones = ((front ≡ 0) × (clones ≡ base ∷ []))
     ⊎ ((before : List Event) × IsPrefix (before ++ NewFront front ∷ []) events × (clones ≡ (after net before).clones))
 
--- a glance at a station is true: at its front of the journal there are so many clones; it finds the clone of the name
--- exactly where there is one, and tells how many messages are in its log before the front, and of how many clones the
--- log is the same
+-- a glance at a station is true: it has the number of clones at its front of the journal. It finds the clone of the
+-- name exactly if there is one, and then it has the number of messages in its log before the front, and the number of
+-- clones with an equal log
 pub record IsTrueGlance (net : Net) (events : List Event) (s : ℕ) (who : List ℕ) (g : Glance) : Type 0 where
   pub clones : List Clone
   pub at : AreAtFront net events g.front clones
@@ -39,9 +39,9 @@ pub record IsTrueLook (net : Net) (events : List Event) (l : Looked) : Type 0 wh
   pub known : IfSome l.glance (λ g. (s : ℕ) × (station_named l.station net ≡ Some s)
       × IsTrueGlance net events s l.who g)
 
--- of the clones that a journal leaves, a glance tells this: the first of them were there at its front; the clone of the
--- name is one of these exactly where one was found, and its log before the front has so many messages and is that of so
--- many of them
+-- what a glance says of the clones that a journal leaves: the first of them were there at its front. The clone of the
+-- name is one of these exactly if one was found. The glance has the number of messages in its log before the front, and
+-- the number of those with an equal log
 pub record IsTrueOf (net : Net) (clones : List Clone) (s : ℕ) (who : List ℕ) (g : Glance) : Type 0 where
   pub at_most : g.clones ≤ length clones
   pub found : FindsClone net (take g.clones clones) s g.front who g.found

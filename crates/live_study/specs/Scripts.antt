@@ -48,7 +48,7 @@ each_looks items zero = []
 each_looks items (suc n) = each_looks items n ++ looks_in (n + 1) (acts_by (n + 1) items)
 
 -- a journal of a script over a network: it is legal, each analyst's calls in it are its decisions, in order, and
--- nobody else has calls
+-- no other caller has calls
 pub record IsJournalOf (net : Net) (s : ScriptView) (book : BookView) : Type 0 where
   pub net_is : book.net ≡ net
   pub legal : IsLegal net book.events

@@ -15,9 +15,8 @@ use decision_desk::{Desk, Helm};
 use shelf::{Naming, Stocker};
 use sim_base::{NoMemory, Steps};
 use std::alloc::Global;
-use std::marker::Brand;
 use std::sync::Wait;
-use std::sync::ledger::{Blank, Ledger};
+use std::sync::ledger::Ledger;
 use study_run::{StudyFault, fault_of_window};
 use world_core::{Window, World, WorldFault};
 
@@ -201,8 +200,8 @@ fn take_window_and_show<G: Gate, J: Naming, L: Ledger, W: Wait + Drop, R: Wait>(
     }
 }
 
-// The engine runs to the horizon, and returns its helm in any case.
-fn drive<G: Gate, J: Naming, L: Ledger, W: Wait + Drop, R: Wait>(
+/// The engine runs to the horizon, publishes on its way, and returns its helm in any case.
+pub(crate) fn drive<G: Gate, J: Naming, L: Ledger, W: Wait + Drop, R: Wait>(
     rt: &R,
     alloc: Global,
     crew: &mut Option<Crew<'_, Window, G>>,
@@ -214,10 +213,8 @@ fn drive<G: Gate, J: Naming, L: Ledger, W: Wait + Drop, R: Wait>(
     steps: &mut Steps<L>,
 ) -> (Helm, Result<World, StudyFault>)
     requires may_drive { MayDrive (desk_id desk.now) helm world stocker.old.published }
-    ensures driven { HasDriven helm result.0 stocker.new.published result.1 }
-    ensures readers { stocker.new.readers ≡ stocker.old.readers }
-    ensures tells { IfOk result.1 (λ _.
-        TellsEach stocker.new.readers stocker.new.has_published (length stocker.new.spares.items)) }
+    ensures driven { HasDriven helm result.0 result.1 stocker.new.published
+        stocker.old.readers stocker.new.has_published (length stocker.new.spares.items) }
     ensures steps { IfOk result.1 (λ w. CountsOnce world w steps.old steps.new) }
     ensures at_most { IfErr result.1 (λ e. CountsFew result.0 world steps.old steps.new e) }
 {
@@ -230,63 +227,4 @@ fn drive<G: Gate, J: Naming, L: Ledger, W: Wait + Drop, R: Wait>(
         };
     }
     (helm, Ok(world))
-}
-
-// The same on the counter that the blank makes.
-fn drive_counted<G: Gate, J: Naming, L: Ledger, W: Wait + Drop, R: Wait>(
-    rt: &R,
-    alloc: Global,
-    crew: &mut Option<Crew<'_, Window, G>>,
-    desk: &Desk,
-    helm: Helm,
-    world: World,
-    stocker: &mut Stocker<J, W>,
-    watched: &[bool],
-    blank: Blank,
-) -> (Helm, Result<World, StudyFault>)
-    requires may_drive { MayDrive (desk_id desk.now) helm world stocker.old.published }
-    requires name { blank.name ≡ L.name }
-    requires parts { blank.parts ≡ L.parts }
-    requires nonempty { 0 < L.parts }
-    ensures driven { HasDriven helm result.0 stocker.new.published result.1 }
-    ensures readers { stocker.new.readers ≡ stocker.old.readers }
-    ensures tells { IfOk result.1 (λ _.
-        TellsEach stocker.new.readers stocker.new.has_published (length stocker.new.spares.items)) }
-{
-    let mut steps = Steps::<L>::new(blank);
-    drive(
-        rt, alloc, crew, desk, helm, world, stocker, watched, &mut steps,
-    )
-}
-
-/// The engine runs to the horizon, publishes on its way, and returns helm and stocker in any case. Its counter is its
-/// own.
-pub(crate) fn drive_alone<G: Gate, J: Naming, W: Wait + Drop, R: Wait>(
-    rt: &R,
-    alloc: Global,
-    mut crew: Option<Crew<'_, Window, G>>,
-    desk: &Desk,
-    helm: Helm,
-    world: World,
-    mut stocker: Stocker<J, W>,
-    watched: &[bool],
-) -> (Helm, Stocker<J, W>, Result<World, StudyFault>)
-    requires may_drive { MayDrive (desk_id desk.now) helm world stocker.published }
-    ensures driven { HasDriven helm result.0 result.1.published result.2 }
-    ensures readers { result.1.readers ≡ stocker.readers }
-    ensures tells { IfOk result.2 (λ _.
-        TellsEach result.1.readers result.1.has_published (length result.1.spares.items)) }
-{
-    let (helm, world) = drive_counted::<G, J, Brand, W, R>(
-        rt,
-        alloc,
-        &mut crew,
-        desk,
-        helm,
-        world,
-        &mut stocker,
-        watched,
-        Blank::new(1),
-    );
-    (helm, stocker, world)
 }

@@ -13,7 +13,7 @@ ghost use Rattle.live_study.specs.Showing.{AllReadOneHistory, HaveActed, TellsEa
 
 use crate::analyst::Analyst;
 use crate::asking::act_everyone;
-use crate::beside::drive_with_crew;
+use crate::beside::run_engine;
 use crate::reserve::Reserve;
 use crate::run::LiveRun;
 use crew_pool::{Gate, Workers};
@@ -46,22 +46,18 @@ fn side_by_side<G: Gate, J: Naming + Send + Sync, W: Wait + Drop + Send, R: Thre
 )
     requires may_drive { MayDrive (desk_id desk.now) helm world stocker.published }
     requires ready { AreReadyAll (desk_id desk.now) model.now seated.items }
-    ensures driven { HasDriven helm result.0.0 result.0.1.published result.0.2 }
-    ensures readers { result.0.1.readers ≡ stocker.readers }
-    ensures tells { IfOk result.0.2 (λ _.
-        TellsEach result.0.1.readers result.0.1.has_published (length result.0.1.spares.items)) }
+    ensures driven { HasDriven helm result.0.0 result.0.2 result.0.1.published
+        stocker.readers result.0.1.has_published (length result.0.1.spares.items) }
     ensures acted { HaveActed (desk_id desk.now) model.now seated.items result.1.items }
 {
     thread::join(
         rt,
         move || -> (Helm, Stocker<J, W>, Result<World, StudyFault>)
             requires { MayDrive (desk_id desk.now) helm world stocker.published }
-            ensures { HasDriven helm result.0 result.1.published result.2
-                × (result.1.readers ≡ stocker.readers)
-                × IfOk result.2 (λ _.
-                TellsEach result.1.readers result.1.has_published (length result.1.spares.items)) }
+            ensures { HasDriven helm result.0 result.2 result.1.published
+                stocker.readers result.1.has_published (length result.1.spares.items) }
         {
-            drive_with_crew(
+            run_engine(
                 rt, alloc, workers, gate, desk, helm, world, stocker, watched,
             )
         },

@@ -51,9 +51,9 @@ close_seats-reserve-requires-clause-tells g c done =
     let s = c.side_by_side-helm.ensures in
     let stocker = c.side_by_side-helm.result.0.1 in
     let told = if_is_ok c.side_by_side-helm.result.0.2 c.is_ok.result
-    (TellsEach stocker.readers stocker.has_published (length stocker.spares.items)) c.is_ok.ensures.value s.tells
-    done in
-    (told.0, told.1 ∙ s.readers ∙ c.requires.readers ∙ sym s.acted.len)
+    (TellsEach c.args.stocker.readers stocker.has_published (length stocker.spares.items))
+    c.is_ok.ensures.value s.driven.tells done in
+    (told.0, told.1 ∙ c.requires.readers ∙ sym s.acted.len)
 
 -- ---- made, seen, looked
 
