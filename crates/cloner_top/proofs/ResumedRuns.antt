@@ -1,5 +1,6 @@
 -- The result of a run that goes on from a snapshot.
-use Rattle.std.proofs.Common.{◌≡◌, ℕ, ◌+◌, arith, sym, ap, subst, ◌∙◌, List, [], ◌∷◌, ◌++◌, length, Result, append_assoc}
+use Rattle.std.proofs.Common.{◌≡◌, ℕ, ◌+◌, arith, sym, ap, subst, ◌∙◌, List, [], ◌∷◌, ◌++◌, length, Result}
+use Rattle.std.proofs.Common.{append_assoc}
 use Rattle.std.proofs.Common.{codes}
 use Rattle.std.specs.List.{flat_map}
 use Rattle.trace_report.specs.TraceText.{entry_line}

@@ -1,5 +1,5 @@
-//! Laws on the program's results: a clone's own script and a live study's journal reproduce the output, and a resumed run
-//! writes what the unbroken one writes. The part of a file that a fetch returns is read as the whole file is.
+//! Laws on the program's results: a clone's own script and a live study's journal reproduce the output, and a resumed
+//! run writes what the unbroken one writes. The part of a file that a fetch returns is read as the whole file is.
 ghost use Rattle.cloner_top.specs.GoingOn.{SavedRunsGoOn};
 ghost use Rattle.cloner_top.specs.Journals.{JournalRunsTheSame};
 ghost use Rattle.cloner_top.specs.OwnScripts.{OwnScriptWritesTheSame};
@@ -25,8 +25,8 @@ pub fn prefixes_state_the_same()
     ensures { PrefixesStateTheSame }
 {}
 
-/// What `save` writes of a clone, `resume` turns into what `solo` writes of it. It never refuses that text: it writes the
-/// same bytes, or it meets the limit at the same station. The two parts handle as many messages as the whole.
+/// What `save` writes of a clone, `resume` turns into what `solo` writes of it. It never refuses that text: it writes
+/// the same bytes, or it meets the limit at the same station. The two parts handle as many messages as the whole.
 pub fn saved_runs_go_on()
     ensures { SavedRunsGoOn }
 {}

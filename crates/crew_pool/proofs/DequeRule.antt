@@ -34,7 +34,8 @@ use Rattle.crew_pool.specs.declared.task_deque.SeatView.{SeatView}
 use Rattle.crew_pool.specs.Deque.{seat_view, occurrences, one_if_same, one_if_below}
 use Rattle.crew_pool.specs.Deque.{KnowsDealt, EachKnowsDealt, TasksOnce, TakesTasks, DealsTask, IsComplete}
 use Rattle.crew_pool.specs.Deque.{numbers, IsItemAt, view_after}
-use Rattle.crew_pool.proofs.Pairs.{numbers-push, EachPair-push, EachPair-weaken, EachPair-none, IsItemAt-more, IsItemAt-last}
+use Rattle.crew_pool.proofs.Pairs.{numbers-push, EachPair-push, EachPair-weaken, EachPair-none, IsItemAt-more}
+use Rattle.crew_pool.proofs.Pairs.{IsItemAt-last}
 use Rattle.crew_pool.specs.declared.task_deque.TheConstants.{MAX_PARTS}
 
 -- ---- occurrences
@@ -56,7 +57,8 @@ sum_by-set f (u ∷ us) (suc port) v w e =
     omega (arith, sum_by-set f us port v w e, sum_by-cons f u us, sum_by-cons f u (set us port w))
 
 -- no seat has more than the sum
-sum_by-bounds : {X : Type 0} (f : SeatView X → ℕ) (views : List (SeatView X)) (port : ℕ) (v : SeatView X) → get_elem? views port ≡ some v
+sum_by-bounds : {X : Type 0} (f : SeatView X → ℕ) (views : List (SeatView X)) (port : ℕ) (v : SeatView X)
+    → get_elem? views port ≡ some v
     → f v ≤ sum_by f views
 sum_by-bounds f [] port v e = absurd (some-ne-none v (sym e))
 sum_by-bounds f (u ∷ us) zero v e =

@@ -1,5 +1,6 @@
 -- Lists of values together with their numbers.
-use Rattle.std.proofs.Common.{◌≡◌, ℕ, ◌+◌, List, [], ◌∷◌, ◌++◌, length, sym, ap, ◌∙◌, subst, arith, get_or, length-append}
+use Rattle.std.proofs.Common.{◌≡◌, ℕ, ◌+◌, List, [], ◌∷◌, ◌++◌, length, sym, ap, ◌∙◌, subst, arith, get_or}
+use Rattle.std.proofs.Common.{length-append}
 use Rattle.std.proofs.lemmas.List.{map-append, get_or_append_left, get_or-append-add, length_push}
 use Rattle.crew_pool.specs.declared.task_deque.SeatView.{SeatView}
 use Rattle.crew_pool.specs.Deque.{seat_view, occurrences, one_if_same, numbers, EachPair, IsItemAt, TakesTasks}
@@ -47,7 +48,8 @@ EachPair-none asks (p ∷ ps) none = absurd (omega (arith, none p.0, same p.0))
 -- ---- IsItemAt
 
 -- an item keeps its place if more follow it
-pub IsItemAt-more : {X : Type 0} (items more : List X) (i : ℕ) (x : X) → IsItemAt items i x → IsItemAt (items ++ more) i x
+pub IsItemAt-more : {X : Type 0} (items more : List X) (i : ℕ) (x : X) → IsItemAt items i x
+    → IsItemAt (items ++ more) i x
 IsItemAt-more items more i x is =
     (omega (arith, is.0, length-append items more), λ d. get_or_append_left items more d i is.0 ∙ is.1 d)
 

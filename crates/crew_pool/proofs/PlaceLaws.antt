@@ -1,5 +1,6 @@
 -- Answers at their places.
-use Rattle.std.proofs.Common.{◌≡◌, ◌≢◌, ℕ, ◌+◌, ◌<◌, List, [], ◌∷◌, ◌++◌, length, set, map, Option, Some, None, IfSome, sym, ap, ◌∙◌, subst, ⊎_elim, arith, get_or}
+use Rattle.std.proofs.Common.{◌≡◌, ◌≢◌, ℕ, ◌+◌, ◌<◌, List, [], ◌∷◌, ◌++◌, length, set, map, Option, Some, None, IfSome}
+use Rattle.std.proofs.Common.{sym, ap, ◌∙◌, subst, ⊎_elim, arith, get_or}
 use Rattle.std.proofs.lemmas.Bool.{cases_eq}
 use Rattle.std.proofs.lemmas.Grind.{get_or-set_at}
 use Rattle.std.proofs.lemmas.Option.{none-some}
@@ -80,7 +81,8 @@ ArePlaced-full asks places ps n long once all j d less =
     below x n e = grind (arith, e)
 
 -- `asks` holds of the taken values and their places
-pub ArePlaced-taken : {Y : Type 0} (asks : ℕ → Y → Type 0) (places : List (Option Y)) (ps : List (ℕ × Y)) (outs : List Y)
+pub ArePlaced-taken : {Y : Type 0} (asks : ℕ → Y → Type 0) (places : List (Option Y)) (ps : List (ℕ × Y))
+    (outs : List Y)
     → ArePlaced asks places ps → places ≡ map Some outs → EachAt asks outs
 ArePlaced-taken {Y} asks places ps outs all taken i d less =
     let long : length places ≡ length outs = ap length taken ∙ length-map outs (λ (y : Y). Some y) in

@@ -59,7 +59,8 @@ IsEnd answers items deque end =
 -- each pair
 abbrev pub HasTaken : {X Y A P : Type 0} → (ℕ → Y → Type 0) → ℕ → List X → Worker (ℕ × X) A (SeatView X) P
     → List (ℕ × Y) → Type 0
-HasTaken asks parts items owner pairs = (worker_view owner ≡ seat_view parts items (numbers pairs)) × EachPair asks pairs
+HasTaken asks parts items owner pairs = (worker_view owner ≡ seat_view parts items (numbers pairs)) × EachPair asks
+    pairs
 
 -- the owner between two calls: it has every part, and all tasks were taken
 pub record IsResting {X A P : Type 0} (owner : Worker (ℕ × X) A (SeatView X) P) : Type 0 where

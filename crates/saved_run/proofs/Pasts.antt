@@ -47,11 +47,13 @@ count-other : (s n : ℕ) (p : Entries) (e : Entry Msg Line) → (e.msg.to < s) 
     → count s n (p ++ e ∷ []) ≡ count s n p
 count-other s zero p e other = refl
 count-other s (suc n) p e (inl below) =
-    let first = ap (λ (l : Entries). length l) (log_there receiver s p e (λ same. absurd (omega (arith, below, same)))) in
+    let first = ap (λ (l : Entries). length l) (log_there receiver s p e (λ same. absurd (omega (arith, below, same))))
+    in
     let rest = count-other (suc s) n p e (inl (omega (arith, below))) in
     omega (arith, first, rest)
 count-other s (suc n) p e (inr above) =
-    let first = ap (λ (l : Entries). length l) (log_there receiver s p e (λ same. absurd (omega (arith, above, same)))) in
+    let first = ap (λ (l : Entries). length l) (log_there receiver s p e (λ same. absurd (omega (arith, above, same))))
+    in
     let rest = count-other (suc s) n p e (inr (omega (arith, above))) in
     omega (arith, first, rest)
 

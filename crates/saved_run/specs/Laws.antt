@@ -13,9 +13,9 @@ use Rattle.snapshot_text.specs.Laws.{IsReadFrom}
 use Rattle.saved_run.specs.Sayable.{AreSayable}
 use Rattle.saved_run.specs.Saving.{MeetsLimitOnward, saved_text}
 
--- what the text of a clone that was stopped at a time leads to: it is read back as the clone's snapshot; the run from it
--- has the text of the clone's whole run, the two parts handle as many messages as the whole, and the limit is met in
--- the run from it where the whole run meets it, or in neither
+-- what the text of a clone that was stopped at a time leads to: it is read back as the clone's snapshot. The run from
+-- it has the text of the clone's whole run. The two parts handle as many messages as the whole. The run from it meets
+-- the limit where the whole run meets it, or neither does
 pub record IsResumed (net : Net) (time : ℕ) (c : Clone) : Type 0 where
   pub back : IsReadFrom net c (last_time net time c) (saved_text net time c)
   pub count : length (trace_of net (until net time c)) + length (onward net (snapshot_of net c (last_time net time c)))

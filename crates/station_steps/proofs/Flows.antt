@@ -58,7 +58,8 @@ AreStations-stepped net ends bounds procs news sent over steps0 steps all s = re
   at_most = let n = ap length s.procs in let m = length-map s.flows (λ (f : StationStep). f.done) in let k = s.count in
       let few = all.at_most in omega (arith, n, m, k, few);
   procs_in_order = λ i p got.
-      let f = slice_get-map_back (λ (f : StationStep). f.done) s.flows i p (ap (λ l. slice_get l i) (sym s.procs) ∙ got) in
+      let f = slice_get-map_back (λ (f : StationStep). f.done) s.flows i p (ap (λ l. slice_get l i) (sym s.procs) ∙ got)
+      in
       let l = slice_get_within s.flows i f.0 f.1 in
       let q = got_within procs i (let n = s.count in omega (arith, l, n)) in
       let flow = s.each i q.0 f.0 q.1 f.1 in

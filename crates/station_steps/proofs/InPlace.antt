@@ -182,7 +182,8 @@ module _ (net : Net) (ends bounds : ℕ → ℕ) (olds : List ProcView) where
   pub SteppedTo-idle : (n : ℕ) (news : List ProcView) (sent : MarkedMessages) (over : Option (ℕ × ℕ)) (steps0 steps : ℕ)
       (p : ProcView) (flow : StationStep) → n < length olds → SteppedTo net ends bounds n olds news sent over steps0
       steps
-      → slice_get news n ≡ Some p → IsNumbered net n p → IsLowerBoundOfAll (bounds n) p.copies → AreShared p.living p.copies
+      → slice_get news n ≡ Some p → IsNumbered net n p → IsLowerBoundOfAll (bounds n) p.copies
+      → AreShared p.living p.copies
       → flow.done ≡ p → flow.sent.items ≡ [] → flow.over ≡ empty → flow.handled ≡ 0
       → SteppedTo net ends bounds (n + 1) olds news sent over steps0 steps
   SteppedTo-idle n news sent over steps0 steps p flow less far got numbered late shared done none free silent =

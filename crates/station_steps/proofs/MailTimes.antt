@@ -1,6 +1,7 @@
 -- The least times of the mail that clones take.
 use Rattle.std.proofs.Common.{◌≡◌, ◌≢◌, ℕ, ◌<◌, ◌≤◌, ◌==◌, ◌&&◌, not, Bool, true, false, ◌⊎◌, List, [], ◌∷◌, ◌++◌}
-use Rattle.std.proofs.Common.{inl, inr, Option, Some, refl, sym, ap, ◌∙◌, subst, arith, nat_lt, IfSome, eqb-true, eq-eqb, if◌then◌else◌}
+use Rattle.std.proofs.Common.{inl, inr, Option, Some, refl, sym, ap, ◌∙◌, subst, arith, nat_lt, IfSome, eqb-true}
+use Rattle.std.proofs.Common.{eq-eqb, if◌then◌else◌}
 use Rattle.std.specs.List.{AllByRecursion}
 use Rattle.std.proofs.lemmas.Bool.{and_parts, false≢true, ltb-true, lt-ltb}
 use Rattle.sim_base.specs.Order.{msg_cmp}

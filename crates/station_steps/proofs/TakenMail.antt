@@ -1,6 +1,7 @@
 -- The copies of a station after mail: their pending messages, what is unchanged, and the least times.
 use Rattle.std.proofs.Common.{◌≡◌, ℕ, ◌+◌, ◌<◌, ◌≤◌, ◌==◌, Bool, true, false, cond, ◌⊎◌, List, [], ◌∷◌, ◌++◌}
-use Rattle.std.proofs.Common.{inl, inr, Option, Some, None, refl, sym, ap, ap₂, ◌∙◌, subst, arith, map, drop, get_or, eq-eqb, eqb-true}
+use Rattle.std.proofs.Common.{inl, inr, Option, Some, None, refl, sym, ap, ap₂, ◌∙◌, subst, arith, map, drop, get_or}
+use Rattle.std.proofs.Common.{eq-eqb, eqb-true}
 use Rattle.std.proofs.Common.{take, length, IfSome}
 use Rattle.std.specs.List.{AllByRecursion, flat_map}
 use Rattle.std.proofs.lemmas.Bool.{ne_eqb}

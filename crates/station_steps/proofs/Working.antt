@@ -49,6 +49,8 @@ steps_answered net ends procs bounds tasks flows are h = each
     each : AllFlow net ends (bound_of bounds) procs flows
     each i p flow got there =
         let step : StationTask = step_task p (bound_of bounds i) in
-        subst (λ (t : StationTask). IsFlow net ends t.bound i t.proc flow) (get_or_from_slice_get tasks i step step (are.each i p got))
-        (subst (λ o. let t = get_or tasks i step in IsFlow net ends t.bound i t.proc o) (get_or_from_slice_get flows i flow flow there)
+        subst (λ (t : StationTask). IsFlow net ends t.bound i t.proc flow)
+        (get_or_from_slice_get tasks i step step (are.each i p got))
+        (subst (λ o. let t = get_or tasks i step in IsFlow net ends t.bound i t.proc o)
+        (get_or_from_slice_get flows i flow flow there)
         (h i flow (slice_get_within flows i flow there) step))

@@ -63,7 +63,11 @@ pub HasGoneOn-first : (w : WorldView) (s : ℕ) → w.front ≡ 0 → HasGoneOn 
 HasGoneOn-first w s first = record {
   under_way = record {
     net_is = refl;
-    come = record { left = w.net.horizon; enough = omega (arith, first); same = ap (first_overrun w.net w.clones w.net.horizon) first };
+    come = record {
+      left = w.net.horizon;
+      enough = omega (arith, first);
+      same = ap (first_overrun w.net w.clones w.net.horizon) first;
+    };
   };
   clones = refl;
   steps = refl;

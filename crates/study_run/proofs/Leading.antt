@@ -62,7 +62,8 @@ at_front_after w bound window v value same =
       ap (λ (y : WorldView). y.front) same.1.1 ∙ ap (λ (y : WorldView). y.front) is,
     )
 
-module _ {A : Type 0} (gone_on : RunState A → RunState A → Type 0) (stopped : RunState A → ℕ → StudyFault → Type 0) where
+module _ {A : Type 0} (gone_on : RunState A → RunState A → Type 0)
+    (stopped : RunState A → ℕ → StudyFault → Type 0) where
   -- ---- GoesOn
 
   -- a run that has led to a world goes on from there

@@ -75,7 +75,11 @@ module _ (net : Net) (valid : IsNet net) (c : Clone) (counted : HasFewNumbers ne
       let soon = valid.horizon_max in
       let few = valid.at_most in
       record {
-        fits = record { time = omega (arith, early, soon); sender = omega (arith, sender, few); number = small.1.number };
+        fits = record {
+          time = omega (arith, early, soon);
+          sender = omega (arith, sender, few);
+          number = small.1.number;
+        };
         early = early;
       }
 
@@ -139,7 +143,8 @@ module _ (net : Net) (valid : IsNet net) (c : Clone) (counted : HasFewNumbers ne
       → own_entries net c (replicate WORD_PLACES 0) t ≡ entries_from sim t (trace_of net c)
   unfolding own_entries
   own_entries-zeros t =
-      merge_of_lists-same sim sender_of number_of (remakes.own_from sim c (part_at (replicate WORD_PLACES 0)) t) (log_from sim c t)
+      merge_of_lists-same sim sender_of number_of (remakes.own_from sim c (part_at (replicate WORD_PLACES 0)) t)
+      (log_from sim c t)
       (length net.sites)
       (λ s. ap (λ n. entries_from sim t (drop n (log_at net c s net.horizon))) (zeros WORD_PLACES (s - 1)))
       ∙ rest_is_merge (lawful-stations net valid) (stations-to_stations net valid) (fresh-stations net valid) c t

@@ -1,6 +1,7 @@
 -- Changes that are found station by station.
 use Rattle.std.proofs.Common.{◌≡◌, ℕ, ◌+◌, ◌-◌, ◌<◌, ◌≤◌, ◌≢◌, ◌==◌, nat_lt, List, inl, inr}
-use Rattle.std.proofs.Common.{sym, ap, ◌∙◌, subst, arith, length, take, drop, get_or, set, get_or-set_same, get_or-set_other}
+use Rattle.std.proofs.Common.{sym, ap, ◌∙◌, subst, arith, length, take, drop, get_or, set, get_or-set_same}
+use Rattle.std.proofs.Common.{get_or-set_other}
 use Rattle.std.specs.List.{filter}
 use Rattle.std.proofs.lemmas.Bool.{cases_lt}
 use Rattle.sim_base.specs.Clones.{Clone}

@@ -65,7 +65,8 @@ module _ (n : ℕ) (old new walk other rest others : List E) (common : take n ol
 
   -- by the next entries of the walks
   pub further : (r q : Option E) → option_eq same r q ≡ true → IfSome r (λ e. walk ≡ e ∷ rest)
-      → IfNone r ((walk ≡ []) × (rest ≡ [])) → IfSome q (λ e. other ≡ e ∷ others) → AreFurther (n + 1) old new rest others
+      → IfNone r ((walk ≡ []) × (rest ≡ [])) → IfSome q (λ e. other ≡ e ∷ others)
+      → AreFurther (n + 1) old new rest others
   further (Some x) (Some y) e s m k =
       let h : x ∷ rest ≡ drop n old = sym s ∙ is in
       let g : y ∷ others ≡ drop n new = sym k ∙ is_other in

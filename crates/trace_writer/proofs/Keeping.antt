@@ -50,7 +50,8 @@ module _ (net : Net) (valid : IsNet net) (cs : List Clone) (in_net : AreInNet ne
   parting_fits =
       let b = clone_at cs (c - 1) in
       let d = clone_at cs c in
-      let le = parting_time-le same_plan (min (end_of (simulation net) b) (end_of (simulation net) d)) b.plans d.plans in
+      let le = parting_time-le same_plan (min (end_of (simulation net) b) (end_of (simulation net) d)) b.plans d.plans
+      in
       let end = in_net.ends c there in
       let most = valid.horizon_max in
       omega (arith, time_is, le, end, most)

@@ -92,7 +92,8 @@ module _ (net : Net) (valid : IsNet net) (cs : List Clone) (in_net : AreInNet ne
 
   -- its trace is its part before the time followed by the rest
   split : trace_of net clone
-      ≡ entries_before (simulation net) time (trace_of net clone) ++ entries_from (simulation net) time (trace_of net clone)
+      ≡ entries_before (simulation net) time (trace_of net clone) ++ entries_from (simulation net) time
+      (trace_of net clone)
   split = trace_split (lawful-stations net valid) (stations-to_stations net valid) (fresh-stations net valid) clone time
       (in_net.plans c there)
 

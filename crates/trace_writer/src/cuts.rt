@@ -9,8 +9,8 @@ use trace_changes::Changes;
 // The approximate number of lines of a span: its task costs little compared to them, and its buffer stays in the cache.
 const LINES_OF_A_SPAN: u64 = 2_048;
 
-/// The own lines of a text, cut into pieces by the log of the station that handles most of them. Where a piece ends is a hint:
-/// no text depends on it.
+/// The own lines of a text, cut into pieces by the log of the station that handles most of them. Where a piece ends is a
+/// hint: no text depends on it.
 #[derive(Drop)]
 pub(crate) struct Cuts<'a> {
     busiest: Busiest<'a>,

@@ -28,9 +28,9 @@
 //!
 //! If a run has a long text, a crew of workers makes the own lines of long texts. It is begun once for all texts. A
 //! text is cut into spans of about 2,048 own lines, and each span is a task of the crew: it merges the entries of the
-//! span, and writes their lines into a buffer. Eight spans for each worker are a batch, at most 64. The members make one
-//! batch while the caller puts the lines of the previous batch, and the lines that stay. Then the caller makes what no
-//! member has begun:
+//! span, and writes their lines into a buffer. Eight spans for each worker are a batch, at most 64. The members make
+//! one batch while the caller puts the lines of the previous batch, and the lines that stay. Then the caller makes what
+//! no member has begun:
 //!
 //! ```text
 //!   caller     start 2 | put the lines of batch 1 | make spans of 2 | start 3 | put the lines of batch 2 | ..

@@ -100,10 +100,11 @@ impl Remaking {
         requires room { HasRoom self.old.text
             (staying self.old.changes.cuts (drop self.old.done self.old.before.lines) ++ lines_of made) }
         // whatever lines are made later, these and the lines before are put, or cut off
-        ensures ok { OnOk result ((later : List KeyedLine) → ArePutTo keeps (to_come self.old (lines_of made.entry ++ later))
-            (to_come self.new later) self.old.text self.new.text (O.view out.old) (O.view out.new)) }
-        ensures err { OnErr result ((later : List KeyedLine) → IsCutOff (text_of (to_come self.old (lines_of made.entry ++ later)))
-            (O.view out.old) (O.view out.new)) }
+        ensures ok { OnOk result ((later : List KeyedLine) →
+            ArePutTo keeps (to_come self.old (lines_of made.entry ++ later)) (to_come self.new later)
+            self.old.text self.new.text (O.view out.old) (O.view out.new)) }
+        ensures err { OnErr result ((later : List KeyedLine) →
+            IsCutOff (text_of (to_come self.old (lines_of made.entry ++ later))) (O.view out.old) (O.view out.new)) }
         ensures within { self.new.done ≤ length self.new.before.lines }
         ensures source { HasSameSource self.old self.new }
     {
@@ -150,7 +151,7 @@ impl Remaking {
     }
 }
 
-// Puts lines that nobody keeps, as a part.
+// Puts lines that are not kept, as a part.
 fn put_bytes<O: Sink>(made: Lines<'_>, out: &mut O) -> Result<(), PutFailed>
     ensures ok { OnOk result (IsPartPut (text_of (lines_of made.entry)) (O.view out.old) (O.view out.new)) }
     ensures err { OnErr result (IsCutOff (text_of (lines_of made.entry)) (O.view out.old) (O.view out.new)) }

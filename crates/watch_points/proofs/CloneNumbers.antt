@@ -168,7 +168,7 @@ module _ (w : WatcherView) (net : Net) (cs : List Clone) (front k : ℕ) (f : Fo
             (sym (outcomes-at (simulation net) front (map initial_branch script) (active_triggers net w.active) i v g)
             ∙ e)
 
--- the number of a clone of a followed world stands for the clone's name
+-- the number of a clone of a followed world represents the clone's name
 pub numbers_name_clones : NumbersNameClones
 numbers_name_clones w net cs front k f l = elim (cases_lt k w.script_len) [
   | inl below ↦ of-script w net cs front k f l below

@@ -79,7 +79,7 @@ pub after_branches-none : (o : Option WatchedClone) → after_branches 0 o ≡ o
 after_branches-none None = refl
 after_branches-none (Some c) = refl
 
--- one or more branches: no end, and so many decisions more
+-- one or more branches: no end, and their decisions more
 pub branch_times-is : (n : ℕ) (c : WatchedClone) →
     branch_times (suc n) c ≡ record { end = None; decisions = c.decisions + suc n }
 branch_times-is zero c = let e : suc c.decisions ≡ c.decisions + 1 = omega arith in

@@ -28,7 +28,7 @@ abbrev pub new_name : Option Watch → List ℕ
 new_name (Some w) = w.new
 new_name None = []
 
--- the name that a number stands for: that of a clone of the script, or of a watch's branch
+-- the name that a number represents: that of a clone of the script, or of a watch's branch
 abbrev pub numbered_name : List Clone → List Watch → ℕ → List ℕ
 numbered_name cs ws n =
     if nat_lt n (length cs) then (clone_at cs n).name else new_name (slice_get ws (n - length cs))
@@ -41,7 +41,7 @@ pub record IsPlaceOf (w : WatcherView) (k : ℕ) : Type 0 where
   pub follows : Follows w net clones front
   pub in_range : k < length clones
 
--- the number of a clone of a followed world stands for the clone's name
+-- the number of a clone of a followed world represents the clone's name
 pub record NamesClone (w : WatcherView) (cs : List Clone) (k : ℕ) : Type 0 where
   pub in_range : clone_number w k < w.script_len + length w.active
   pub name : (clone_at cs k).name ≡ numbered_name (take w.script_len cs) (watches_of w.active) (clone_number w k)

@@ -32,7 +32,7 @@ pub fn accepted_watches_fit()
 {}
 
 /// A world that a watcher follows has the script's clones and the branches that its front brings. Put in the order of
-/// the watches, its clones are at the horizon those of the whole run. The number of a clone stands for its name.
+/// the watches, its clones are at the horizon those of the whole run. The number of a clone represents its name.
 pub fn followed_clones_are_in_order()
     ensures order { OrderHasAllClones }
     ensures clones { FollowedClonesAreInOrder }

@@ -29,7 +29,8 @@ use Rattle.phys_proc.specs.Own.{StationCopy, IsCopy}
 use Rattle.phys_proc.specs.Procs.{ProcView}
 use Rattle.phys_proc.proofs.ComesFrom.{sets_join}
 use Rattle.station_steps.specs.declared.station_step.StationStep.{StationStep}
-use Rattle.station_steps.specs.Windows.{AllFlow, IsFlow, NoneOver, copies_at, done_at, sent_at, after_window, all_handled}
+use Rattle.station_steps.specs.Windows.{AllFlow, IsFlow, NoneOver, copies_at, done_at, sent_at, after_window}
+use Rattle.station_steps.specs.Windows.{all_handled}
 use Rattle.station_steps.proofs.Flows.{copies_at-got, done_at-got, sent_at-got}
 use Rattle.station_steps.proofs.Places.{by_number}
 use Rattle.station_steps.proofs.Handled.{handled_at, handled_at-got, all_handled-sum}

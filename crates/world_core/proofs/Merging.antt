@@ -57,7 +57,8 @@ module _ {X : Type 0} (cmp : X → X → Ordering) where
 
 -- the merged logs of the stations so far, merged with that of the next, are those up to the next
 pub one_more : (net : Net) (c : Clone) (front i : ℕ) (before log after : List (Entry Msg Line))
-    → before ≡ merge_of_logs (simulation net) sender_of number_of c front i → log ≡ log_at (simulation net) c (i + 1) front
+    → before ≡ merge_of_logs (simulation net) sender_of number_of c front i
+    → log ≡ log_at (simulation net) c (i + 1) front
     → after ≡ merge by_key before log → after ≡ merge_of_logs (simulation net) sender_of number_of c front (i + 1)
 one_more net c front i before log after e h f =
     let up : i + 1 ≡ suc i = omega arith in

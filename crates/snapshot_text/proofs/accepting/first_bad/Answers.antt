@@ -6,7 +6,7 @@ use Rattle.net_model.specs.declared.limits.TheConstants.{MAX_STATIONS}
 use Rattle.snapshot_text.proofs.Counting.{bad_here, bad_next, count_room, counts_next}
 use Rattle.snapshot_text.proofs.accepting.first_bad.Goals as goal
 
--- what stands for a message past the last one
+-- the message that is read past the last one
 abbrev no_message : Msg
 no_message = record { key = record { time = 0; sender = 0; number = 0 }; to = 0; payload = Tick }
 

@@ -4,6 +4,7 @@ use Rattle.clone_sets.specs.Sets.{empty, minus}
 use Rattle.clone_sets.specs.declared.set.CloneSet.{CloneSet}
 use Rattle.station_steps.proofs.MailTimes.{one-beyond, one-late, one-none, one-some}
 use Rattle.station_steps.proofs.sent_list.earlier_of_message.Goals.{then-is_at_most-via-then-is_at_most}
+use Rattle.station_steps.proofs.sent_list.earlier_of_message.Goals.{}
 use Rattle.station_steps.proofs.sent_list.earlier_of_message.Goals.{then-is_at_most-via-else-is_at_most+then-time-horizon}
 use Rattle.station_steps.proofs.sent_list.earlier_of_message.Goals as goal
 
@@ -12,7 +13,8 @@ returns-then-is_at_most c = elim c.then-is_at_most.branch [
   | then-is_at_most-via-then-is_at_most w ↦
       let y = w.if-is_at_most.ensures.yes refl in
       record {
-        earliest = one-late c.args.horizon c.args.ends.now c.args.clones c.args.msg c.args.set c.args.before y.0 y.1 y.2;
+        earliest = one-late c.args.horizon c.args.ends.now c.args.clones c.args.msg c.args.set c.args.before y.0 y.1
+            y.2;
       }
   | then-is_at_most-via-else-is_at_most+then-time-horizon w ↦
       let late = w.if-time-horizon.true in

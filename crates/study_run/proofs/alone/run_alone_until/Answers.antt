@@ -12,7 +12,8 @@ returns-in-Ok-run_to-clause-run g c =
     let clone = clone_at c.args.lists.now.clones c.args.c in
     let is = last_time-is net c.args.time c.min-front.result c.last_front.result clone c.end_of.result
     c.min-front.ensures c.last_front.ensures.value c.end_of.ensures.value in
-    ran_to net c.list.result.now clone.plans c.min-front.result _ c.in-Ok.solo c.in-Ok-run_to.solo c.list.ensures.value is
+    ran_to net c.list.result.now clone.plans c.min-front.result _ c.in-Ok.solo c.in-Ok-run_to.solo c.list.ensures.value
+    is
     c.in-Ok.ensures.begins c.in-Ok-run_to.ensures.ok
 
 pub returns-in-Ok-run_to-clause-trace : goal.returns-in-Ok-run_to-clause-trace
@@ -43,7 +44,8 @@ returns-in-Ok-run_to-clause-within g c =
     let clone = clone_at c.args.lists.now.clones c.args.c in
     let is = last_time-is net c.args.time c.min-front.result c.last_front.result clone c.end_of.result
     c.min-front.ensures c.last_front.ensures.value c.end_of.ensures.value in
-    stays_within net (until net c.args.time clone) c.list.result.now c.min-front.result c.in-Ok.solo c.list.ensures.value
+    stays_within net (until net c.args.time clone) c.list.result.now c.min-front.result c.in-Ok.solo
+    c.list.ensures.value
     (until-last net c.args.time c.min-front.result clone is) c.in-Ok.ensures.begins
     c.in-Ok-run_to.solo c.args.steps.now c.run_to.new.steps c.in-Ok-run_to.ensures.ok c.in-Ok-run_to.ensures.solo
     c.in-Ok-run_to.ensures.steps

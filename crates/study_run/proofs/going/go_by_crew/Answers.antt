@@ -2,7 +2,8 @@ use Rattle.std.proofs.Common.{◌-◌, ◌<◌, ap, arith, subst}
 use Rattle.net_model.specs.Net.{Net}
 use Rattle.net_model.specs.Rules.{IsNet}
 use Rattle.study_run.specs.Onwards.{run_state}
-use Rattle.study_run.proofs.Leading.{IsWindow-made, at_front_after, front_after-rises, goes_after, leads_after, next_window}
+use Rattle.study_run.proofs.Leading.{IsWindow-made, at_front_after, front_after-rises, goes_after, leads_after}
+use Rattle.study_run.proofs.Leading.{next_window}
 use Rattle.study_run.proofs.going.go_by_crew.Goals as goal
 
 pub window-window-requires-clause-above : goal.window-window-requires-clause-above
@@ -45,7 +46,8 @@ returns-in-Err-clause-goes g c =
     valid below c.bound-bound.ensures.value e.value e.steps e.length_max e.fault in
     let old = run_state c.args.follow_up.now c.args.world c.args.steps.now in
     goes_after g.A.Onwards.has_gone_on g.A.Onwards.has_stopped old c.window.follow_up w c.window.steps
-    c.window-window.new.steps c.window-window.result c.window.invariant.leads is c.after_window.new.self _ c.in-Err.ensures.goes
+    c.window-window.new.steps c.window-window.result c.window.invariant.leads is c.after_window.new.self _
+    c.in-Err.ensures.goes
 
 pub window-smaller : goal.window-smaller
 window-smaller g c =
@@ -77,5 +79,6 @@ window-preserved g c =
     let old = run_state c.args.follow_up.now c.args.world c.args.steps.now in
     record {
       leads = leads_after g.A.Onwards.has_gone_on g.A.Onwards.has_stopped old c.window.follow_up w c.window.steps
-          c.window-window.new.steps c.window-window.result c.window.invariant.leads is c.after_window.new.self _ c.in-Ok.ensures.goes;
+          c.window-window.new.steps c.window-window.result c.window.invariant.leads is c.after_window.new.self _
+          c.in-Ok.ensures.goes;
     }

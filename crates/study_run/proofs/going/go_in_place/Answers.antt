@@ -2,7 +2,8 @@ use Rattle.std.proofs.Common.{◌-◌, ◌<◌, ap, arith, subst}
 use Rattle.net_model.specs.Net.{Net}
 use Rattle.net_model.specs.Rules.{IsNet}
 use Rattle.study_run.specs.Onwards.{run_state}
-use Rattle.study_run.proofs.Leading.{IsWindow-made, at_front_after, front_after-rises, goes_after, leads_after, next_window}
+use Rattle.study_run.proofs.Leading.{IsWindow-made, at_front_after, front_after-rises, goes_after, leads_after}
+use Rattle.study_run.proofs.Leading.{next_window}
 use Rattle.study_run.proofs.going.go_in_place.Goals as goal
 
 pub window_in_place-window-requires-clause-above : goal.window_in_place-window-requires-clause-above
@@ -24,12 +25,14 @@ after_window-requires g c =
     let below : w.front < w.net.horizon =
     omega (arith, c.window-test.true, c.front.ensures.value, c.horizon.ensures.value, horizon) in
     let e = c.window_in_place-window.ensures in
-    let is = IsWindow-made w c.bound-bound.result c.window.steps c.window_in_place-window.new.steps c.window_in_place-window.result
+    let is = IsWindow-made w c.bound-bound.result c.window.steps c.window_in_place-window.new.steps
+    c.window_in_place-window.result
     valid below c.bound-bound.ensures.value e.value e.steps e.length_max e.fault in
     let old = run_state c.args.follow_up.now c.args.world c.args.steps.now in
     record {
       next = next_window g.A.Onwards.has_gone_on g.A.Onwards.has_stopped old c.window.follow_up w c.window.steps
-          c.window_in_place-window.new.steps c.window_in_place-window.result c.window.invariant.leads is c.requires.come;
+          c.window_in_place-window.new.steps c.window_in_place-window.result c.window.invariant.leads is
+          c.requires.come;
     }
 
 pub returns-in-Err-clause-goes : goal.returns-in-Err-clause-goes
@@ -41,11 +44,13 @@ returns-in-Err-clause-goes g c =
     let below : w.front < w.net.horizon =
     omega (arith, c.window-test.true, c.front.ensures.value, c.horizon.ensures.value, horizon) in
     let e = c.window_in_place-window.ensures in
-    let is = IsWindow-made w c.bound-bound.result c.window.steps c.window_in_place-window.new.steps c.window_in_place-window.result
+    let is = IsWindow-made w c.bound-bound.result c.window.steps c.window_in_place-window.new.steps
+    c.window_in_place-window.result
     valid below c.bound-bound.ensures.value e.value e.steps e.length_max e.fault in
     let old = run_state c.args.follow_up.now c.args.world c.args.steps.now in
     goes_after g.A.Onwards.has_gone_on g.A.Onwards.has_stopped old c.window.follow_up w c.window.steps
-    c.window_in_place-window.new.steps c.window_in_place-window.result c.window.invariant.leads is c.after_window.new.self _ c.in-Err.ensures.goes
+    c.window_in_place-window.new.steps c.window_in_place-window.result c.window.invariant.leads is
+    c.after_window.new.self _ c.in-Err.ensures.goes
 
 pub window-smaller : goal.window-smaller
 window-smaller g c =
@@ -56,7 +61,8 @@ window-smaller g c =
     let below : w.front < w.net.horizon =
     omega (arith, c.window-test.true, c.front.ensures.value, c.horizon.ensures.value, horizon) in
     let later = front_after-rises w c.bound-bound.result valid below c.bound-bound.ensures.value in
-    let front = at_front_after w c.bound-bound.result c.window_in_place-window.result c.in-Ok.world c.window_in_place-window.ensures.value
+    let front = at_front_after w c.bound-bound.result c.window_in_place-window.result c.in-Ok.world
+    c.window_in_place-window.ensures.value
     c.in-Ok.ensures.same in
     let same = ap (λ (n : Net). n.horizon) front.0 in
     let less : c.in-Ok.world.net.horizon - c.in-Ok.world.front < w.net.horizon - w.front =
@@ -72,10 +78,12 @@ window-preserved g c =
     let below : w.front < w.net.horizon =
     omega (arith, c.window-test.true, c.front.ensures.value, c.horizon.ensures.value, horizon) in
     let e = c.window_in_place-window.ensures in
-    let is = IsWindow-made w c.bound-bound.result c.window.steps c.window_in_place-window.new.steps c.window_in_place-window.result
+    let is = IsWindow-made w c.bound-bound.result c.window.steps c.window_in_place-window.new.steps
+    c.window_in_place-window.result
     valid below c.bound-bound.ensures.value e.value e.steps e.length_max e.fault in
     let old = run_state c.args.follow_up.now c.args.world c.args.steps.now in
     record {
       leads = leads_after g.A.Onwards.has_gone_on g.A.Onwards.has_stopped old c.window.follow_up w c.window.steps
-          c.window_in_place-window.new.steps c.window_in_place-window.result c.window.invariant.leads is c.after_window.new.self _ c.in-Ok.ensures.goes;
+          c.window_in_place-window.new.steps c.window_in_place-window.result c.window.invariant.leads is
+          c.after_window.new.self _ c.in-Ok.ensures.goes;
     }

@@ -19,7 +19,8 @@ returns c =
     let until_is : until ≡ min net.horizon (end_of (simulation net) other) =
     c.simulated_until-until.ensures.value
     ∙ ap (λ e. min net.horizon (unwrap_or e net.horizon))
-    (c.end_of-2.ensures.value ∙ ap (λ (cs : List Clone). (clone_at cs c.args.clone).end) c.lists-lists.ensures.clones) in
+    (c.end_of-2.ensures.value ∙ ap (λ (cs : List Clone). (clone_at cs c.args.clone).end) c.lists-lists.ensures.clones)
+    in
     record {
       value = row-other net c.requires.valid one other c.args.station from until c.requires.is_station c.requires.server
           from_is until_is c.requires.same_log c.requires.entries_max c.args.stats c.with_end.result c.requires.stats

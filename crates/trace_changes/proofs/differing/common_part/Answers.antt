@@ -18,7 +18,8 @@ loop-part-preserved c =
     let h = c.loop-part.invariant in
     let equal = not_unequal c.ne.result (option_eq same c.next.result c.next-in-loop-part.result) c.ne.ensures
     c.if-ne.false in
-    let more : c.loop-part.part < length c.args.old.now = omega (arith, c.loop-part-test.true, c.len-part-end.ensures.value) in
+    let more : c.loop-part.part < length c.args.old.now = omega
+    (arith, c.loop-part-test.true, c.len-part-end.ensures.value) in
     let one = further c.loop-part.part c.args.old.now c.args.new.now c.loop-part.old_walk c.loop-part.new_walk
     c.next.new.self c.next-in-loop-part.new.self h.common h.old_rest h.new_rest more c.next.result
     c.next-in-loop-part.result equal c.next.ensures.some c.next.ensures.none c.next-in-loop-part.ensures.some in

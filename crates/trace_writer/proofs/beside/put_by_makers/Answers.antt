@@ -64,13 +64,15 @@ put_last-requires g c =
 
 pub returns-in_default-clause-put : goal.returns-in_default-clause-put
 returns-in_default-clause-put g c =
-    let h = c.batch.invariant in both_put _ _ _ _ h.left h.ready c.args.texts.now c.batch.texts _ _ h.put _ _ _ c.put_last.ensures.put
+    let h = c.batch.invariant in both_put _ _ _ _ h.left h.ready c.args.texts.now c.batch.texts _ _ h.put _ _ _
+    c.put_last.ensures.put
 
 -- ---- the ready part is put
 
 pub put_ready-requires-clause-may : goal.put_ready-requires-clause-may
 put_ready-requires-clause-may g c =
-    let h = c.batch.invariant in ready_may _ _ _ _ h.left h.ready c.args.texts.now c.batch.texts _ _ h.put h.within h.can c.requires.may
+    let h = c.batch.invariant in ready_may _ _ _ _ h.left h.ready c.args.texts.now c.batch.texts _ _ h.put h.within
+    h.can c.requires.may
 
 pub returns-in-Err-clause-put : goal.returns-in-Err-clause-put
 returns-in-Err-clause-put g c =
@@ -89,13 +91,15 @@ put_span-requires g c =
     let h = c.batch.invariant in
     let put = c.in-Ok.ensures.put in
     record {
-      may = left_may _ _ _ _ h.left h.ready c.args.texts.now c.batch.texts _ _ h.put c.put_ready.new.texts _ put.ok h.within put.can c.requires.may;
+      may = left_may _ _ _ _ h.left h.ready c.args.texts.now c.batch.texts _ _ h.put c.put_ready.new.texts _ put.ok
+          h.within put.can c.requires.may;
     }
 
 pub returns-in_default-finish_batch-clause-put : goal.returns-in_default-finish_batch-clause-put
 returns-in_default-finish_batch-clause-put g c =
     let h = c.batch.invariant in
-    left_put _ _ _ _ h.left h.ready c.args.texts.now c.batch.texts _ _ h.put c.put_ready.new.texts _ c.in-Ok.ensures.put.ok _ _ _ c.put_span.ensures.put
+    left_put _ _ _ _ h.left h.ready c.args.texts.now c.batch.texts _ _ h.put c.put_ready.new.texts _
+    c.in-Ok.ensures.put.ok _ _ _ c.put_span.ensures.put
 
 pub batch-preserved : goal.batch-preserved
 batch-preserved g c =
@@ -134,4 +138,5 @@ put_last-requires-2 g c =
 
 pub returns-clause-put : goal.returns-clause-put
 returns-clause-put g c =
-    let h = c.batch.invariant in both_put _ _ _ _ h.left h.ready c.args.texts.now c.batch.texts _ _ h.put _ _ _ c.put_last-2.ensures.put
+    let h = c.batch.invariant in both_put _ _ _ _ h.left h.ready c.args.texts.now c.batch.texts _ _ h.put _ _ _
+    c.put_last-2.ensures.put

@@ -36,7 +36,8 @@ returns-in-Err g c =
     record {
       put = record {
         ok = tt;
-        err = subst (λ (s : TextSpan). IsSpanCutOff c.args.traces.now s c.args.texts.now.making (g.O.Sink.view c.args.out.now)
+        err = subst (λ (s : TextSpan). IsSpanCutOff c.args.traces.now s c.args.texts.now.making
+            (g.O.Sink.view c.args.out.now)
             (g.O.Sink.view c.put_ready.new.out)) c.requires.joined.same cut.err;
         can = cut.can;
       };

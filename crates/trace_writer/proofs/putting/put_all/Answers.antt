@@ -31,7 +31,12 @@ put_clone_text-requires g c =
 pub returns-in-Err : goal.returns-in-Err
 returns-in-Err g c =
     let cs = c.args.traces.now.clones in
-    let there : c.loop-c.c < length cs = omega (arith, c.loop-c-test.true, c.loop-c.auto.c-end, c.len-c-end.ensures.value) in
+    let there : c.loop-c.c < length cs = omega (
+      arith,
+      c.loop-c-test.true,
+      c.loop-c.auto.c-end,
+      c.len-c-end.ensures.value,
+    ) in
     let h = c.loop-c.invariant in
     let cut = c.in-Err.ensures.err in
     let later = cut.later in
@@ -50,7 +55,12 @@ loop-c-preserved g c =
     let h = c.loop-c.invariant in
     let net = c.args.traces.now.net in
     let cs = c.args.traces.now.clones in
-    let there : c.loop-c.c < length cs = omega (arith, c.loop-c-test.true, c.loop-c.auto.c-end, c.len-c-end.ensures.value) in
+    let there : c.loop-c.c < length cs = omega (
+      arith,
+      c.loop-c-test.true,
+      c.loop-c.auto.c-end,
+      c.len-c-end.ensures.value,
+    ) in
     let put = c.in-Ok.ensures in
     let more_faults = put.ok.later in
     record {

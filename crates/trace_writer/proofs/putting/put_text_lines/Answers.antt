@@ -15,7 +15,8 @@ returns-in-Err-clause-err g c =
     let coming = text_of (to_come_from c.args.traces.now c.args.texts.now.making c.args.rest.c c.args.rest.from) in
     let cut = c.in-Err.ensures in
     cut_part c.text_from.result.now coming _ _ _
-    (ap (λ l. l ++ coming) c.text_from.ensures.value ∙ begun_text c.args.traces.now.net c.len-clones.ensures.valid c.args.traces.now.clones c.len-clones.ensures.in_net c.args.rest.c
+    (ap (λ l. l ++ coming) c.text_from.ensures.value ∙ begun_text c.args.traces.now.net c.len-clones.ensures.valid
+    c.args.traces.now.clones c.len-clones.ensures.in_net c.args.rest.c
     c.requires.in_range c.args.rest.from c.args.texts.now.making c.requires.begun)
     (record { bytes = cut.part; failed = cut.cause; later = cut.later; counted = cut.counted })
 
@@ -31,7 +32,8 @@ put_lines-requires g c κs =
           has_span = record { in_range = c.requires.in_range; order = omega (arith, until) };
           can = record { walk = c.requires.can.walk; piece = c.requires.can.piece };
           within = c.requires.begun.within;
-          room = begun_room c.args.traces.now.net c.len-clones.ensures.valid c.args.traces.now.clones c.len-clones.ensures.in_net c.args.rest.c
+          room = begun_room c.args.traces.now.net c.len-clones.ensures.valid c.args.traces.now.clones
+              c.len-clones.ensures.in_net c.args.rest.c
               c.requires.in_range c.args.rest.from c.args.texts.now.making c.requires.begun
               c.requires.fits.text;
         },
@@ -43,7 +45,8 @@ returns-in-Err-put_lines-clause-err g c =
     let coming = text_of (to_come_from c.args.traces.now c.args.texts.now.making c.args.rest.c c.args.rest.from) in
     let put = c.in-Ok.ensures in
     rest_cut c.text_from.result.now coming _
-    (ap (λ l. l ++ coming) c.text_from.ensures.value ∙ begun_text c.args.traces.now.net c.len-clones.ensures.valid c.args.traces.now.clones c.len-clones.ensures.in_net c.args.rest.c
+    (ap (λ l. l ++ coming) c.text_from.ensures.value ∙ begun_text c.args.traces.now.net c.len-clones.ensures.valid
+    c.args.traces.now.clones c.len-clones.ensures.in_net c.args.rest.c
     c.requires.in_range c.args.rest.from c.args.texts.now.making c.requires.begun) _ _ _
     (record { bytes = put.ok; later = put.later; same = put.same }) c.in-Err-put_lines.ensures.put.err
 
@@ -56,9 +59,12 @@ put_staying-requires g c =
     let now = c.put_lines.new.texts.making in
     record {
       within = put.within;
-      room = subst (HasRoom now.text) (begun_end c.args.traces.now.net c.len-clones.ensures.valid c.args.traces.now.clones c.len-clones.ensures.in_net c.args.rest.c
-          c.requires.in_range c.args.rest.from c.args.texts.now.making c.requires.begun now c.args.rest.until put.source (omega (arith, until)))
-          (room_left c.args.rest.keeps _ _ _ _ _ _ put.put (begun_room c.args.traces.now.net c.len-clones.ensures.valid c.args.traces.now.clones c.len-clones.ensures.in_net c.args.rest.c
+      room = subst (HasRoom now.text) (begun_end c.args.traces.now.net c.len-clones.ensures.valid
+          c.args.traces.now.clones c.len-clones.ensures.in_net c.args.rest.c
+          c.requires.in_range c.args.rest.from c.args.texts.now.making c.requires.begun now c.args.rest.until put.source
+          (omega (arith, until)))
+          (room_left c.args.rest.keeps _ _ _ _ _ _ put.put (begun_room c.args.traces.now.net c.len-clones.ensures.valid
+          c.args.traces.now.clones c.len-clones.ensures.in_net c.args.rest.c
           c.requires.in_range c.args.rest.from c.args.texts.now.making c.requires.begun c.requires.fits.text));
     }
 
@@ -74,12 +80,15 @@ returns-in-Ok-put_staying-clause-ok g c =
     (g.O.Sink.view c.put_part.new.self) (g.O.Sink.view c.put_lines.new.out) =
     subst (λ l. ArePutTo c.args.rest.keeps coming l making.text now.text (g.O.Sink.view c.put_part.new.self)
     (g.O.Sink.view c.put_lines.new.out))
-    (begun_end c.args.traces.now.net c.len-clones.ensures.valid c.args.traces.now.clones c.len-clones.ensures.in_net c.args.rest.c
-    c.requires.in_range c.args.rest.from c.args.texts.now.making c.requires.begun now c.args.rest.until put.source (omega (arith, until))) put.put in
+    (begun_end c.args.traces.now.net c.len-clones.ensures.valid c.args.traces.now.clones c.len-clones.ensures.in_net
+    c.args.rest.c
+    c.requires.in_range c.args.rest.from c.args.texts.now.making c.requires.begun now c.args.rest.until put.source
+    (omega (arith, until))) put.put in
     let all = put_all c.args.rest.keeps _ _ _ _ _ (put_on c.args.rest.keeps _ _ _ _ _ _ _ _ _ some
     c.in-Ok-put_staying.ensures.ok) in
     subst (λ l. IsPartPut l (g.O.Sink.view c.args.out.now) (g.O.Sink.view c.put_staying.new.out))
-    (ap (λ l. l ++ text_of coming) c.text_from.ensures.value ∙ begun_text c.args.traces.now.net c.len-clones.ensures.valid c.args.traces.now.clones c.len-clones.ensures.in_net c.args.rest.c
+    (ap (λ l. l ++ text_of coming) c.text_from.ensures.value ∙ begun_text c.args.traces.now.net
+    c.len-clones.ensures.valid c.args.traces.now.clones c.len-clones.ensures.in_net c.args.rest.c
     c.requires.in_range c.args.rest.from c.args.texts.now.making c.requires.begun)
     (taken_then c.text_from.result.now (text_of coming) _ _ _
     (record { bytes = head.ok; later = head.later; same = head.same }) all)
@@ -95,10 +104,13 @@ returns-in-Ok-put_staying-clause-kept g c keeps =
     (g.O.Sink.view c.put_part.new.self) (g.O.Sink.view c.put_lines.new.out) =
     subst (λ l. ArePutTo c.args.rest.keeps coming l making.text now.text (g.O.Sink.view c.put_part.new.self)
     (g.O.Sink.view c.put_lines.new.out))
-    (begun_end c.args.traces.now.net c.len-clones.ensures.valid c.args.traces.now.clones c.len-clones.ensures.in_net c.args.rest.c
-    c.requires.in_range c.args.rest.from c.args.texts.now.making c.requires.begun now c.args.rest.until put.source (omega (arith, until))) put.put in
+    (begun_end c.args.traces.now.net c.len-clones.ensures.valid c.args.traces.now.clones c.len-clones.ensures.in_net
+    c.args.rest.c
+    c.requires.in_range c.args.rest.from c.args.texts.now.making c.requires.begun now c.args.rest.until put.source
+    (omega (arith, until))) put.put in
     text_kept c.args.rest.keeps coming _ _ _ _ keeps (put_on c.args.rest.keeps _ _ _ _ _ _ _ _ _ some
-    c.in-Ok-put_staying.ensures.ok) ∙ begun_lines c.args.traces.now.net c.len-clones.ensures.valid c.args.traces.now.clones c.len-clones.ensures.in_net c.args.rest.c
+    c.in-Ok-put_staying.ensures.ok) ∙ begun_lines c.args.traces.now.net c.len-clones.ensures.valid
+    c.args.traces.now.clones c.len-clones.ensures.in_net c.args.rest.c
     c.requires.in_range c.args.rest.from c.args.texts.now.making c.requires.begun
 
 pub returns-in-Err-put_staying-clause-err : goal.returns-in-Err-put_staying-clause-err
@@ -113,10 +125,13 @@ returns-in-Err-put_staying-clause-err g c =
     (g.O.Sink.view c.put_part.new.self) (g.O.Sink.view c.put_lines.new.out) =
     subst (λ l. ArePutTo c.args.rest.keeps coming l making.text now.text (g.O.Sink.view c.put_part.new.self)
     (g.O.Sink.view c.put_lines.new.out))
-    (begun_end c.args.traces.now.net c.len-clones.ensures.valid c.args.traces.now.clones c.len-clones.ensures.in_net c.args.rest.c
-    c.requires.in_range c.args.rest.from c.args.texts.now.making c.requires.begun now c.args.rest.until put.source (omega (arith, until))) put.put in
+    (begun_end c.args.traces.now.net c.len-clones.ensures.valid c.args.traces.now.clones c.len-clones.ensures.in_net
+    c.args.rest.c
+    c.requires.in_range c.args.rest.from c.args.texts.now.making c.requires.begun now c.args.rest.until put.source
+    (omega (arith, until))) put.put in
     rest_cut c.text_from.result.now (text_of coming) _
-    (ap (λ l. l ++ text_of coming) c.text_from.ensures.value ∙ begun_text c.args.traces.now.net c.len-clones.ensures.valid c.args.traces.now.clones c.len-clones.ensures.in_net c.args.rest.c
+    (ap (λ l. l ++ text_of coming) c.text_from.ensures.value ∙ begun_text c.args.traces.now.net
+    c.len-clones.ensures.valid c.args.traces.now.clones c.len-clones.ensures.in_net c.args.rest.c
     c.requires.in_range c.args.rest.from c.args.texts.now.making c.requires.begun) _ _ _
     (record { bytes = head.ok; later = head.later; same = head.same })
     (put_cut c.args.rest.keeps _ _ _ _ _ _ _ some c.in-Err-put_staying.ensures.err)

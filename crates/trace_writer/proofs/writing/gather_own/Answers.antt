@@ -4,21 +4,24 @@ use Rattle.trace_writer.proofs.Spans.{span_over, span_seen}
 use Rattle.trace_writer.proofs.writing.gather_own.Goals as goal
 
 pub overflow_sub-result : goal.overflow_sub-result
-overflow_sub-result c = (span_seen c.traces.inside.world.now c.traces.invariant.may_trace.over c.args.traces.now _ c.traces.view_is c.args.c
+overflow_sub-result c = (span_seen c.traces.inside.world.now c.traces.invariant.may_trace.over c.args.traces.now _
+    c.traces.view_is c.args.c
     c.place_in-place.result c.place_in-place.ensures.in_range c.place_in-place.ensures.same c.args.changes.now.parts
     c.args.from c.args.until c.fill_own-all.result c.count_own.result
     c.fill_own-all.new.cursor.left c.requires.span.order c.fill_own-all.ensures.left c.fill_own-all.ensures.count
     c.count_own.ensures.value).0
 
 pub returns-clause-left : goal.returns-clause-left
-returns-clause-left c = (span_seen c.traces.inside.world.now c.traces.invariant.may_trace.over c.args.traces.now _ c.traces.view_is c.args.c
+returns-clause-left c = (span_seen c.traces.inside.world.now c.traces.invariant.may_trace.over c.args.traces.now _
+    c.traces.view_is c.args.c
     c.place_in-place.result c.place_in-place.ensures.in_range c.place_in-place.ensures.same c.args.changes.now.parts
     c.args.from c.args.until c.fill_own-all.result c.count_own.result
     c.fill_own-all.new.cursor.left c.requires.span.order c.fill_own-all.ensures.left c.fill_own-all.ensures.count
     c.count_own.ensures.value).1
 
 pub returns-clause-behind : goal.returns-clause-behind
-returns-clause-behind c = (span_seen c.traces.inside.world.now c.traces.invariant.may_trace.over c.args.traces.now _ c.traces.view_is c.args.c
+returns-clause-behind c = (span_seen c.traces.inside.world.now c.traces.invariant.may_trace.over c.args.traces.now _
+    c.traces.view_is c.args.c
     c.place_in-place.result c.place_in-place.ensures.in_range c.place_in-place.ensures.same c.args.changes.now.parts
     c.args.from c.args.until c.fill_own-all.result c.count_own.result
     c.fill_own-all.new.cursor.left c.requires.span.order c.fill_own-all.ensures.left c.fill_own-all.ensures.count

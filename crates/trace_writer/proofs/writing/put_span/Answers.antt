@@ -30,7 +30,8 @@ returns g c =
     let put = c.put_entries in
     let model = c.model-model.result.now in
     let is = c.model-model.ensures.value ∙ ap (λ (v : WorldTracesView). v.net) c.traces.view_is in
-    let lines = own_lines-is view.net model clone making.changes.parts span.from own.new.walk.left is own.ensures.left in
+    let lines = own_lines-is view.net model clone making.changes.parts span.from own.new.walk.left is own.ensures.left
+    in
     record {
       put = record {
         ok = all_ok put.result _ _ _ _ _ put.ensures.ok put.ensures.left put.ensures.within put.ensures.source

@@ -32,7 +32,8 @@ back-preserved-then-eq c =
       within = omega (arith, within);
       at_most = omega (arith, at_most, some);
       same = ap (λ (u : Watch). after_branches (c.back.branches + 1)
-          (watched_clone c.args.lists.now.clones (reverse (take i earlier)) u.who)) (sym c.index-earlier-left-then-eq.is)
+          (watched_clone c.args.lists.now.clones (reverse (take i earlier)) u.who))
+          (sym c.index-earlier-left-then-eq.is)
           ∙ back_to_source c.args.lists.now.clones earlier c.back.left c.back.name c.back.branches w _
           (omega (arith, some)) within c.index-earlier-left-then-eq.is named c.back.invariant.same;
     }

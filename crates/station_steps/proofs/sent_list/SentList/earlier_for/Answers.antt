@@ -18,7 +18,8 @@ returns-then-first c =
     elim c.then-first.branch [
       | then-first-via-then-first w ↦ record {
         earliest = subst (λ (ms : MarkedMessages). IsEarliest c.args.before (IsMailTaken ends c.args.clones ms)
-            c.args.before) (sym (first.none (let e = w.if-first.true in omega (arith, e)))) (earliest-nil ends c.args.clones c.args.before);
+            c.args.before) (sym (first.none (let e = w.if-first.true in omega (arith, e))))
+            (earliest-nil ends c.args.clones c.args.before);
       }
       | then-first-via-else-first+then-is_at_most w ↦
           let y = w.if-is_at_most.ensures.yes refl in

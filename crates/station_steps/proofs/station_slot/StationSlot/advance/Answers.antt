@@ -13,7 +13,8 @@ returns-clause-advanced g c =
     let gain = c.in_ok-gain.gain in
     let sent = c.advance.new.sent.items in
     let e = c.in_ok-gain.ensures in
-    let taken : c.take_mail.new.proc ≡ c.args.self.now = taken_is (mail_in c.self.inside.mail) (mail_in c.take.result) c.self.inside.proc.value
+    let taken : c.take_mail.new.proc ≡ c.args.self.now = taken_is (mail_in c.self.inside.mail) (mail_in c.take.result)
+    c.self.inside.proc.value
     c.deref_mut.result.now c.take_mail.new.proc c.args.self.now c.in_ok-take_mail.ensures.given
     (ap mail_in c.take.ensures.value) c.deref_mut.ensures.value c.self.view_is in
     subst (λ o. HasAdvanced net c.args.self.now.station ends c.args.bound c.args.self.now

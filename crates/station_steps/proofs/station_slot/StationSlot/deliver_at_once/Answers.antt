@@ -14,7 +14,8 @@ pub invariant_of-self-2 : goal.invariant_of-self-2
 invariant_of-self-2 c =
     let low = c.self.inside.lower_bound in
     let old = with_own_mail (mail_in c.self.inside.mail) c.self.inside.proc.value in
-    let taken : c.take_mail.new.proc ≡ old = taken_is (mail_in c.self.inside.mail) (mail_in c.take.result) c.self.inside.proc.value
+    let taken : c.take_mail.new.proc ≡ old = taken_is (mail_in c.self.inside.mail) (mail_in c.take.result)
+    c.self.inside.proc.value
     c.deref_mut.result.now c.take_mail.new.proc old c.in_ok-take_mail.ensures.given
     (ap mail_in c.take.ensures.value) c.deref_mut.ensures.value refl in
     subst (λ o. KeepsMail c.min-lower_bound.result (mail_in o) c.deliver.new.self) (sym c.take.ensures.after)

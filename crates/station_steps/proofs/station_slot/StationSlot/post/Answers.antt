@@ -29,7 +29,8 @@ invariant_of-self-2 c =
 pub returns : goal.returns
 returns c =
     let old = c.args.self.now in
-    let taken : c.take_mail.new.proc ≡ old = taken_is (mail_in c.self.inside.mail) (mail_in c.take.result) c.self.inside.proc.value
+    let taken : c.take_mail.new.proc ≡ old = taken_is (mail_in c.self.inside.mail) (mail_in c.take.result)
+    c.self.inside.proc.value
     c.deref_mut.result.now c.take_mail.new.proc old c.in_ok-take_mail.ensures.given
     (ap mail_in c.take.ensures.value) c.deref_mut.ensures.value c.self.view_is in
     record {

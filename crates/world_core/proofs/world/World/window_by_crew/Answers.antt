@@ -13,7 +13,8 @@ step_by_crew-requires-clause-stations g c κs within =
     let many : length bounds ≡ length procs =
     omega (arith, c.in_ok-bound_all.ensures.count, c.len.ensures, c.self.inside.procs.ok.0) in
     let may = may_step i.model.value i.lists.clones i.ends i.front c.args.bound procs c.args.self c.self.invariant
-    c.self.view_is c.requires.above c.requires.within bounds many c.in_ok-bound_all.ensures.bounds c.in_ok-work.work.value.net (ap (λ v. v.net) c.in_ok-work.ensures.value) in
+    c.self.view_is c.requires.above c.requires.within bounds many c.in_ok-bound_all.ensures.bounds
+    c.in_ok-work.work.value.net (ap (λ v. v.net) c.in_ok-work.ensures.value) in
     may.0
 
 pub step_by_crew-requires-clause-bounds : goal.step_by_crew-requires-clause-bounds
@@ -24,7 +25,8 @@ step_by_crew-requires-clause-bounds g c κs within =
     let many : length bounds ≡ length procs =
     omega (arith, c.in_ok-bound_all.ensures.count, c.len.ensures, c.self.inside.procs.ok.0) in
     let may = may_step i.model.value i.lists.clones i.ends i.front c.args.bound procs c.args.self c.self.invariant
-    c.self.view_is c.requires.above c.requires.within bounds many c.in_ok-bound_all.ensures.bounds c.in_ok-work.work.value.net (ap (λ v. v.net) c.in_ok-work.ensures.value) in
+    c.self.view_is c.requires.above c.requires.within bounds many c.in_ok-bound_all.ensures.bounds
+    c.in_ok-work.work.value.net (ap (λ v. v.net) c.in_ok-work.ensures.value) in
     may.1
 
 -- ---- a log beyond the limit
@@ -39,11 +41,14 @@ returns-in-Some-clause-fault g c =
     let s = c.in_ok-stepped.stepped in
     let all = c.in_ok-stepped.ensures.stepped in
     let h = has_stepped i.model.value i.lists.clones i.ends i.front c.args.bound procs c.args.self c.self.invariant
-    c.self.view_is c.requires.above c.requires.within bounds many c.in_ok-bound_all.ensures.bounds c.in_ok-work.work.value.net c.in_ok-work.work.value.ends
-    all.news all.sent s.over c.args.steps.now c.step_by_crew.new.steps (ap (λ v. v.net) c.in_ok-work.ensures.value) (ap (λ v. v.ends) c.in_ok-work.ensures.value)
+    c.self.view_is c.requires.above c.requires.within bounds many c.in_ok-bound_all.ensures.bounds
+    c.in_ok-work.work.value.net c.in_ok-work.work.value.ends
+    all.news all.sent s.over c.args.steps.now c.step_by_crew.new.steps (ap (λ v. v.net) c.in_ok-work.ensures.value)
+    (ap (λ v. v.ends) c.in_ok-work.ensures.value)
     all.stepped in
     let place = c.in-Some.place + 1 in
-    subst (IsFault c.args.self.net c.args.self.clones c.args.self.front c.args.bound c.args.steps.now c.step_by_crew.new.steps)
+    subst (IsFault c.args.self.net c.args.self.clones c.args.self.front c.args.bound c.args.steps.now
+    c.step_by_crew.new.steps)
     (sym (c.beyond_limit.ensures.value ∙ ap (λ (n : Net). EventLimit place c.in-Some.who n.limit) c.deref.ensures))
     (h.fault (c.in-Some.place, c.in-Some.who) c.in-Some.is)
 
@@ -59,8 +64,10 @@ invariant_of-result g c =
     let s = c.in_ok-stepped.stepped in
     let all = c.in_ok-stepped.ensures.stepped in
     let h = has_stepped i.model.value i.lists.clones i.ends i.front c.args.bound procs c.args.self c.self.invariant
-    c.self.view_is c.requires.above c.requires.within bounds many c.in_ok-bound_all.ensures.bounds c.in_ok-work.work.value.net c.in_ok-work.work.value.ends
-    all.news all.sent s.over c.args.steps.now c.step_by_crew.new.steps (ap (λ v. v.net) c.in_ok-work.ensures.value) (ap (λ v. v.ends) c.in_ok-work.ensures.value)
+    c.self.view_is c.requires.above c.requires.within bounds many c.in_ok-bound_all.ensures.bounds
+    c.in_ok-work.work.value.net c.in_ok-work.work.value.ends
+    all.news all.sent s.over c.args.steps.now c.step_by_crew.new.steps (ap (λ v. v.net) c.in_ok-work.ensures.value)
+    (ap (λ v. v.ends) c.in_ok-work.ensures.value)
     all.stepped in
     h.stands c.in_default.is s.procs.items (all.delivered c.in_default.is)
 
@@ -74,8 +81,10 @@ returns-clause-steps g c =
     let s = c.in_ok-stepped.stepped in
     let all = c.in_ok-stepped.ensures.stepped in
     let h = has_stepped i.model.value i.lists.clones i.ends i.front c.args.bound procs c.args.self c.self.invariant
-    c.self.view_is c.requires.above c.requires.within bounds many c.in_ok-bound_all.ensures.bounds c.in_ok-work.work.value.net c.in_ok-work.work.value.ends
-    all.news all.sent s.over c.args.steps.now c.step_by_crew.new.steps (ap (λ v. v.net) c.in_ok-work.ensures.value) (ap (λ v. v.ends) c.in_ok-work.ensures.value)
+    c.self.view_is c.requires.above c.requires.within bounds many c.in_ok-bound_all.ensures.bounds
+    c.in_ok-work.work.value.net c.in_ok-work.work.value.ends
+    all.news all.sent s.over c.args.steps.now c.step_by_crew.new.steps (ap (λ v. v.net) c.in_ok-work.ensures.value)
+    (ap (λ v. v.ends) c.in_ok-work.ensures.value)
     all.stepped in
     h.steps c.in_default.is
 
@@ -89,7 +98,9 @@ returns-clause-length_max g c =
     let s = c.in_ok-stepped.stepped in
     let all = c.in_ok-stepped.ensures.stepped in
     let h = has_stepped i.model.value i.lists.clones i.ends i.front c.args.bound procs c.args.self c.self.invariant
-    c.self.view_is c.requires.above c.requires.within bounds many c.in_ok-bound_all.ensures.bounds c.in_ok-work.work.value.net c.in_ok-work.work.value.ends
-    all.news all.sent s.over c.args.steps.now c.step_by_crew.new.steps (ap (λ v. v.net) c.in_ok-work.ensures.value) (ap (λ v. v.ends) c.in_ok-work.ensures.value)
+    c.self.view_is c.requires.above c.requires.within bounds many c.in_ok-bound_all.ensures.bounds
+    c.in_ok-work.work.value.net c.in_ok-work.work.value.ends
+    all.news all.sent s.over c.args.steps.now c.step_by_crew.new.steps (ap (λ v. v.net) c.in_ok-work.ensures.value)
+    (ap (λ v. v.ends) c.in_ok-work.ensures.value)
     all.stepped in
     h.length_max c.in_default.is

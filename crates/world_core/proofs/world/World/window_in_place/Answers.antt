@@ -15,7 +15,8 @@ step_in_place-requires-clause-stations g c =
     let many : length bounds ≡ length procs =
     omega (arith, c.in_ok-bound_all.ensures.count, c.len.ensures, c.self.inside.procs.ok.0) in
     let may = may_step i.model.value i.lists.clones i.ends i.front c.args.bound procs c.args.self c.self.invariant
-    c.self.view_is c.requires.above c.requires.within bounds many c.in_ok-bound_all.ensures.bounds c.deref.result.now c.deref.ensures in
+    c.self.view_is c.requires.above c.requires.within bounds many c.in_ok-bound_all.ensures.bounds c.deref.result.now
+    c.deref.ensures in
     may.0
 
 pub step_in_place-requires-clause-bounds : goal.step_in_place-requires-clause-bounds
@@ -26,7 +27,8 @@ step_in_place-requires-clause-bounds g c =
     let many : length bounds ≡ length procs =
     omega (arith, c.in_ok-bound_all.ensures.count, c.len.ensures, c.self.inside.procs.ok.0) in
     let may = may_step i.model.value i.lists.clones i.ends i.front c.args.bound procs c.args.self c.self.invariant
-    c.self.view_is c.requires.above c.requires.within bounds many c.in_ok-bound_all.ensures.bounds c.deref.result.now c.deref.ensures in
+    c.self.view_is c.requires.above c.requires.within bounds many c.in_ok-bound_all.ensures.bounds c.deref.result.now
+    c.deref.ensures in
     may.1
 
 -- ---- a log beyond the limit
@@ -40,12 +42,16 @@ returns-in-Some-clause-fault g c =
     omega (arith, c.in_ok-bound_all.ensures.count, c.len.ensures, c.self.inside.procs.ok.0) in
     let s = c.in_ok-stepped.stepped in
     let h = has_stepped i.model.value i.lists.clones i.ends i.front c.args.bound procs c.args.self c.self.invariant
-    c.self.view_is c.requires.above c.requires.within bounds many c.in_ok-bound_all.ensures.bounds c.deref.result.now c.ends-2.result.now
-    s.procs.items s.buffers.sent.items s.over c.args.steps.now c.step_in_place.new.steps c.deref.ensures c.ends-2.ensures.value
+    c.self.view_is c.requires.above c.requires.within bounds many c.in_ok-bound_all.ensures.bounds c.deref.result.now
+    c.ends-2.result.now
+    s.procs.items s.buffers.sent.items s.over c.args.steps.now c.step_in_place.new.steps c.deref.ensures
+    c.ends-2.ensures.value
     c.in_ok-stepped.ensures.stepped in
     let place = c.in-Some.place + 1 in
-    subst (IsFault c.args.self.net c.args.self.clones c.args.self.front c.args.bound c.args.steps.now c.step_in_place.new.steps)
-    (sym (c.beyond_limit.ensures.value ∙ ap (λ (n : Net). EventLimit place c.in-Some.who n.limit) c.deref-in-Some.ensures))
+    subst (IsFault c.args.self.net c.args.self.clones c.args.self.front c.args.bound c.args.steps.now
+    c.step_in_place.new.steps)
+    (sym (c.beyond_limit.ensures.value ∙ ap (λ (n : Net). EventLimit place c.in-Some.who n.limit)
+    c.deref-in-Some.ensures))
     (h.fault (c.in-Some.place, c.in-Some.who) c.in-Some.is)
 
 -- ---- what was sent
@@ -59,8 +65,10 @@ deliver_all-requires g c =
     omega (arith, c.in_ok-bound_all.ensures.count, c.len.ensures, c.self.inside.procs.ok.0) in
     let s = c.in_ok-stepped.stepped in
     let h = has_stepped i.model.value i.lists.clones i.ends i.front c.args.bound procs c.args.self c.self.invariant
-    c.self.view_is c.requires.above c.requires.within bounds many c.in_ok-bound_all.ensures.bounds c.deref.result.now c.ends-2.result.now
-    s.procs.items s.buffers.sent.items s.over c.args.steps.now c.step_in_place.new.steps c.deref.ensures c.ends-2.ensures.value
+    c.self.view_is c.requires.above c.requires.within bounds many c.in_ok-bound_all.ensures.bounds c.deref.result.now
+    c.ends-2.result.now
+    s.procs.items s.buffers.sent.items s.over c.args.steps.now c.step_in_place.new.steps c.deref.ensures
+    c.ends-2.ensures.value
     c.in_ok-stepped.ensures.stepped in
     record { in_order = h.may_give.in_order }
 
@@ -75,8 +83,10 @@ invariant_of-result g c =
     omega (arith, c.in_ok-bound_all.ensures.count, c.len.ensures, c.self.inside.procs.ok.0) in
     let s = c.in_ok-stepped.stepped in
     let h = has_stepped i.model.value i.lists.clones i.ends i.front c.args.bound procs c.args.self c.self.invariant
-    c.self.view_is c.requires.above c.requires.within bounds many c.in_ok-bound_all.ensures.bounds c.deref.result.now c.ends-2.result.now
-    s.procs.items s.buffers.sent.items s.over c.args.steps.now c.step_in_place.new.steps c.deref.ensures c.ends-2.ensures.value
+    c.self.view_is c.requires.above c.requires.within bounds many c.in_ok-bound_all.ensures.bounds c.deref.result.now
+    c.ends-2.result.now
+    s.procs.items s.buffers.sent.items s.over c.args.steps.now c.step_in_place.new.steps c.deref.ensures
+    c.ends-2.ensures.value
     c.in_ok-stepped.ensures.stepped in
     h.stands c.in_default.is c.deliver_all.new.procs.items
     (subst (λ (k : MarkedMessages). AllDelivered k s.procs.items c.deliver_all.new.procs.items) c.as_slice.ensures.value
@@ -91,8 +101,10 @@ returns-clause-steps g c =
     omega (arith, c.in_ok-bound_all.ensures.count, c.len.ensures, c.self.inside.procs.ok.0) in
     let s = c.in_ok-stepped.stepped in
     let h = has_stepped i.model.value i.lists.clones i.ends i.front c.args.bound procs c.args.self c.self.invariant
-    c.self.view_is c.requires.above c.requires.within bounds many c.in_ok-bound_all.ensures.bounds c.deref.result.now c.ends-2.result.now
-    s.procs.items s.buffers.sent.items s.over c.args.steps.now c.step_in_place.new.steps c.deref.ensures c.ends-2.ensures.value
+    c.self.view_is c.requires.above c.requires.within bounds many c.in_ok-bound_all.ensures.bounds c.deref.result.now
+    c.ends-2.result.now
+    s.procs.items s.buffers.sent.items s.over c.args.steps.now c.step_in_place.new.steps c.deref.ensures
+    c.ends-2.ensures.value
     c.in_ok-stepped.ensures.stepped in
     h.steps c.in_default.is
 
@@ -105,7 +117,9 @@ returns-clause-length_max g c =
     omega (arith, c.in_ok-bound_all.ensures.count, c.len.ensures, c.self.inside.procs.ok.0) in
     let s = c.in_ok-stepped.stepped in
     let h = has_stepped i.model.value i.lists.clones i.ends i.front c.args.bound procs c.args.self c.self.invariant
-    c.self.view_is c.requires.above c.requires.within bounds many c.in_ok-bound_all.ensures.bounds c.deref.result.now c.ends-2.result.now
-    s.procs.items s.buffers.sent.items s.over c.args.steps.now c.step_in_place.new.steps c.deref.ensures c.ends-2.ensures.value
+    c.self.view_is c.requires.above c.requires.within bounds many c.in_ok-bound_all.ensures.bounds c.deref.result.now
+    c.ends-2.result.now
+    s.procs.items s.buffers.sent.items s.over c.args.steps.now c.step_in_place.new.steps c.deref.ensures
+    c.ends-2.ensures.value
     c.in_ok-stepped.ensures.stepped in
     h.length_max c.in_default.is
