@@ -10,18 +10,31 @@ ghost use Rattle.stations.specs.Opening.{setup as setup', opening_kind, first_ti
 ghost use Rattle.stations.specs.Sending.{MaySend, outgoing, reaction};
 ghost use Rattle.stations.specs.Sends.{AreSends};
 ghost use Rattle.stations.specs.declared.sender.TheConstants.{MAX_EVENT_TIMES, MAX_SENDS};
+ghost use Rattle.std.specs.Prelude.{ℕ, ◌*◌, Some, IsTrue};
+ghost use Rattle.msg_heap.specs.Contents.{as_payload};
+ghost use Rattle.msg_heap.specs.Lines.{FitsLine};
+ghost use Rattle.msg_heap.specs.declared.line.TheConstants.{STAY_SUMS};
+ghost use Rattle.net_model.specs.Net.{site_at};
+ghost use Rattle.net_model.specs.declared.limits.TheConstants.{MAX_HORIZON};
+ghost use Rattle.stations.specs.Quick.{sends_of, MayPack, HasShortLinks, HasShortJobs, IsShort, IsQuick, stay_of};
 
 use crate::delay::delay_handles;
 use crate::job_queue::JobQueue;
 use crate::kind_state::{DelayState, KindState, RouterState, ServerState, SinkState, SourceState};
+use crate::quick::{delay_quick, router_quick, sink_quick, source_quick};
+use crate::quick_sends::QuickSends;
 use crate::router::router_handles;
 use crate::sender::{MAX_SENDS, Sender, link_weights};
 use crate::server::server_handles;
+use crate::server_quick::server_quick;
 use crate::sink::sink_handles;
 use crate::source::{send_tick, source_handles};
 use arrayvec::ArrayVec;
-use net_model::limits::MAX_LINKS;
+use msg_heap::line::STAY_SUMS;
+use msg_heap::{Content, PackedLine, PackedMsg};
+use net_model::limits::{MAX_HORIZON, MAX_LIMIT, MAX_LINKS};
 use net_model::{Kind, Model, Station};
+use sim_base::message::WORD_NUMBERS;
 use sim_base::{Line, Msg, NoMemory, Payload, Steps};
 use sim_draw::Draws;
 use std::alloc::Global;
@@ -160,6 +173,148 @@ pub fn handle<L: Ledger>(
     state.handled += 1;
     steps.tick();
     Ok(kind_line(&state.kind))
+}
+
+#[inline(always)]
+fn kind_quick(
+    kind: &mut KindState,
+    sender: &mut Sender,
+    model: &Model,
+    site: &Station,
+    now: u64,
+    content: Content,
+) -> Result<QuickSends, NoMemory>
+    requires may_pack { MayPack 2 now sender.old }
+    requires links { HasShortLinks kind.old site.now.links.items }
+    requires of_kind { IsOfKind (as_site site.now) site.now.kind kind.old }
+    requires fits { FitsKind MAX_LIMIT kind.old }
+    requires jobs { HasShortJobs kind.old }
+    ensures ok { IfOk result (λ sends. kind_on model.now (as_site site.now) now (as_payload content) kind.old
+        (outgoing sender.old []) ≡ reaction kind.new (outgoing sender.new (sends_of sends))) }
+    ensures kind { OnErr result (kind.new ≡ kind.old) }
+    ensures sender { OnErr result (sender.new ≡ sender.old) }
+{
+    match kind {
+        KindState::Source(source) => Ok(source_quick(source, sender, site, now, content)),
+        KindState::Server(server) => server_quick(server, sender, model, site, now, content),
+        KindState::Delay(delay) => Ok(delay_quick(delay, sender, site, now, content)),
+        KindState::Router(router) => Ok(router_quick(router, sender, site, now, content)),
+        KindState::Sink(sink) => {
+            sink_quick(sink, now, content);
+            Ok(QuickSends::none())
+        }
+    }
+}
+
+#[inline(always)]
+fn packed_line(kind: &KindState) -> PackedLine
+    requires fits { FitsLine (line_of kind.now) }
+    ensures { result ≡ line_of kind.now }
+{
+    match kind {
+        KindState::Source(source) => PackedLine::source(source.sent),
+        KindState::Server(server) => PackedLine::server(
+            server.busy,
+            server.waiting.len() as u64,
+            server.done,
+            server.lost,
+        ),
+        KindState::Delay(delay) => PackedLine::passed(delay.passed),
+        KindState::Router(router) => PackedLine::passed(router.passed),
+        KindState::Sink(sink) => PackedLine::sink(sink.got, sink.stay),
+    }
+}
+
+// The job of a content fits one word.
+#[inline(always)]
+fn recall_short(content: &Content)
+    ensures { IsShort content.now }
+{
+    match *content {
+        Content::Job(job) | Content::Done(job) => {
+            let _job = job.job();
+        }
+        Content::Tick => {}
+    }
+}
+
+/// Whether the station may handle `more` packed messages: its numbers are small enough.
+pub fn is_quick(state: &State, more: u64) -> bool
+    requires below { state.now.handled ≤ MAX_LIMIT }
+    ensures { IsTrue result → IsQuick more state.now }
+{
+    more <= MAX_LIMIT
+        && state.sender.next <= WORD_NUMBERS - 2 * more
+        && kind_is_quick(&state.kind, more)
+}
+
+// Whether the stays and the waiting jobs are small enough.
+fn kind_is_quick(kind: &KindState, more: u64) -> bool
+    requires at_most { more ≤ MAX_LIMIT }
+    ensures stay { IsTrue result → stay_of kind.now + MAX_HORIZON * more < STAY_SUMS }
+    ensures jobs { IsTrue result → HasShortJobs kind.now }
+{
+    match kind {
+        KindState::Server(server) => server.waiting.is_short(),
+        KindState::Sink(sink) => sink.stay < STAY_SUMS - MAX_HORIZON * more,
+        KindState::Source(_) | KindState::Delay(_) | KindState::Router(_) => true,
+    }
+}
+
+/// Handles a packed message other than a change, as `handle` does. It sends at most two messages, both packed.
+///
+/// If out of memory, the state does not change. It ticks once if it returns Ok.
+#[inline(always)]
+pub fn handle_quick<L: Ledger>(
+    state: &mut State,
+    model: &Model,
+    site: &Station,
+    msg: PackedMsg,
+    content: Content,
+    steps: &mut Steps<L>,
+) -> Result<(QuickSends, PackedLine), NoMemory>
+    // required: the station of the network, a message to it, and its content. The station has handled fewer messages
+    // than the greatest limit, and its numbers are small
+    requires suits { SuitsNet model.now state.old }
+    requires site { site_at model.now state.old.sender.station ≡ Some (as_site site.now) }
+    requires own { msg.to ≡ state.old.sender.station }
+    requires content { as_payload content ≡ msg.payload }
+    requires below { state.old.handled < MAX_LIMIT }
+    requires time_max { msg.key.time ≤ MAX_HORIZON }
+    requires quick { IsQuick 1 state.old }
+    // result: the state, the sends and the line of the definition; each send is later than the message, and they have
+    // the sender's next numbers
+    ensures ok { IfOk result (λ r. handle' model.now state.old msg
+        ≡ record { state = state.new; sends = sends_of r.0; line = r.1 }) }
+    ensures sends { IfOk result (λ r. AreSends model.now msg.key.time state.old.sender.station state.old.sender.next
+        (sends_of r.0)) }
+    ensures next { IfOk result (λ r. state.new.sender.next ≡ state.old.sender.next + length (sends_of r.0)) }
+    // its numbers stay small for one message less
+    ensures quick { OnOk result ((n : ℕ) → IsQuick (n + 1) state.old → IsQuick n state.new) }
+    // invariant, also on errors: it is a state of this station of the network, within its bounds
+    ensures suits { SuitsNet model.now state.new }
+    ensures fits { FitsState state.new }
+    ensures own { state.new.sender.station ≡ state.old.sender.station }
+    // counts: the message in the state, and a step
+    ensures one_more { OnOk result (state.new.handled ≡ state.old.handled + 1) }
+    ensures counted { OnOk result (steps.new ≡ steps.old + 1) }
+    // if out of memory, the state does not change, and no step is counted
+    ensures err { OnErr result (state.new ≡ state.old) }
+    ensures uncounted { OnErr result (steps.new ≡ steps.old) }
+{
+    let _valid = model.lookahead();
+    recall_short(&content);
+    let sends = kind_quick(
+        &mut state.kind,
+        &mut state.sender,
+        model,
+        site,
+        msg.time(),
+        content,
+    )?;
+    state.handled += 1;
+    steps.tick();
+    Ok((sends, packed_line(&state.kind)))
 }
 
 fn opening_state(alloc: Global, station: &Station) -> KindState
