@@ -24,6 +24,7 @@ use Rattle.stations.specs.Runs.{replay}
 use Rattle.run_laws.specs.World as world
 use Rattle.run_laws.proofs.MessageOrder.{messages_ordered}
 use Rattle.phys_proc.specs.Own.{StationCopy, MarkedMessages, AreMarks, IsCopy, IsHandled, pending_after, sent_after}
+use Rattle.phys_proc.specs.Events.{HasTaken}
 use Rattle.phys_proc.proofs.Halves.{tail_of}
 use Rattle.phys_proc.proofs.Sends.{all_inserted_all, marks_inserted_all, marks_join, whole_marks}
 
@@ -123,3 +124,13 @@ module _ (net : Net) (s : ℕ) (a : StationCopy) (m0 : Msg) (k0 : CloneSet) (q0 
       ap (λ h. sent_after s a.set h.sends before) (sym gives)
       ∙ ap (λ z. sent_after s a.set (handle net a.state z).sends before) same in
       (one ∙ two ∙ three, aside ∙ sent, new_copy)
+
+-- so it is if it has taken its least message
+pub taken_is_handled : (net : Net) (s : ℕ) (a new : StationCopy) (m : Msg) (k : CloneSet)
+    (q before after : MarkedMessages) → a.pending ≡ (m, k) ∷ q → IsCopy net s a → length a.log < net.limit
+    → HasTaken net s m (record a { pending = q }) new before after → IsHandled net s a new before after
+taken_is_handled net s a new m k q before after there fits below t =
+    subst (λ (set : CloneSet). IsHandled net s a
+    (record { set = set; state = new.state; log = new.log; pending = new.pending }) before after) (sym t.set)
+    (is_handled net s a m k q new.state t.line t.sends new.log new.pending before after there fits below t.handles
+    t.fits t.suits t.station t.handled t.log t.pending t.aside)

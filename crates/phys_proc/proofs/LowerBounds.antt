@@ -1,6 +1,6 @@
 -- Lower bounds of pending times.
 use Rattle.std.proofs.Common.{◌≡◌, ℕ, ◌≤◌, min, ◌==◌, Bool, true, false, cond}
-use Rattle.std.proofs.Common.{List, [], ◌∷◌, ◌++◌, Some, None, arith, map}
+use Rattle.std.proofs.Common.{List, [], ◌∷◌, Some, None, arith, map}
 use Rattle.std.specs.List.{AllByRecursion}
 use Rattle.std.specs.declared.cmp.Ordering.TheVariants.{Less}
 use Rattle.sim_base.specs.Order.{msg_cmp}

@@ -4,3 +4,4 @@ pub mod Procs
 pub mod Racks
 pub mod StepOutputs
 pub mod Stops
+pub mod Events

@@ -7,7 +7,8 @@ ghost use Rattle.phys_proc.specs.Ends.{ends_in};
 
 use crate::clone_ends::CloneEnds;
 use crate::copies::{Copies, lower_bound_of};
-use crate::copy::{PhysCopy, handle_least, next_due};
+use crate::copy::{PhysCopy, next_due};
+use crate::event::handle_least;
 use arrayvec::ArrayVec;
 use clone_sets::CloneSet;
 use net_model::Model;

@@ -1,24 +1,18 @@
 //! A physical process: one copy of a station, which represents the virtual processes of several clones.
-ghost use Rattle.std.specs.Prelude.{◌≡◌, ◌<◌, ◌≤◌, List, ◌∷◌, length};
-ghost use Rattle.std.specs.Prelude.{IfOk, IfSome, IfNone, OnOk, ◌+◌};
+ghost use Rattle.std.specs.Prelude.{◌≡◌, ◌≤◌, IfOk, IfSome, IfNone};
 ghost use Rattle.clone_sets.specs.Sets.{minus};
-ghost use Rattle.clone_sets.specs.declared.set.CloneSet.{CloneSet as CloneSet'};
 ghost use Rattle.sim_base.specs.declared.message.Msg.{Msg as Msg'};
 ghost use Rattle.sim_base.specs.Order.{msg_cmp};
 ghost use Rattle.sim_base.specs.Marked.{SortedMarked};
-ghost use Rattle.phys_proc.specs.Own.{IsCopy, NextDue, NothingDue, IsHandled, half, sent_after, pending_after};
+ghost use Rattle.phys_proc.specs.Own.{NextDue, NothingDue, half};
 ghost use Rattle.phys_proc.specs.Ends.{ends_in};
 
 use crate::clone_ends::CloneEnds;
-use arrayvec::ArrayVec;
 use clone_sets::CloneSet;
 use log_chain::Log;
-use net_model::Model;
-use sim_base::{Entry, Msg, NoMemory, Pending, Steps};
-use stations::state::handle;
-use stations::{MAX_SENDS, State};
+use sim_base::{NoMemory, Pending};
+use stations::State;
 use std::alloc::Global;
-use std::sync::ledger::Ledger;
 
 /// Physical process: a set of clones, their common state and log, and their pending messages.
 #[derive(Drop)]
@@ -64,51 +58,6 @@ pub(crate) fn next_due(
         let _passed = copy.pending.take_message();
     }
     None
-}
-
-// A station's sends to itself become pending for these clones, and the others are laid aside for them.
-fn send_all(
-    station: u32,
-    set: CloneSet,
-    sends: &[Msg],
-    pending: &mut Pending<CloneSet>,
-    sent: &mut Vec<(Msg, CloneSet)>,
-) -> Result<(), NoMemory>
-    ensures pending { OnOk result (pending.new ≡ pending_after station set sends.now pending.old) }
-    ensures aside { OnOk result (sent.new.items ≡ sent_after station set sends.now sent.old.items) }
-{
-    for msg in sends {
-        if msg.to == station {
-            pending.insert(*msg, set)?;
-        } else {
-            sent.push((*msg, set))?;
-        }
-    }
-    Ok(())
-}
-
-// All clones of the copy take the least message. Its sends are put into `out` first.
-pub(crate) fn handle_least<L: Ledger>(
-    copy: &mut PhysCopy,
-    model: &Model,
-    station: u32,
-    out: &mut ArrayVec<Msg, MAX_SENDS>,
-    sent: &mut Vec<(Msg, CloneSet)>,
-    steps: &mut Steps<L>,
-) -> Result<(), NoMemory>
-    requires due { (m : Msg') × (k : CloneSet') × (q : List (Msg' × CloneSet')) × (copy.old.pending ≡ (m, k) ∷ q) ×
-        (m.key.time < model.now.horizon) }
-    requires fits { IsCopy model.now station copy.old }
-    requires length_max { length copy.old.log < model.now.limit }
-    ensures handled { OnOk result (IsHandled model.now station copy.old copy.new sent.old.items sent.new.items) }
-    ensures counted { OnOk result (steps.new ≡ steps.old + 1) }
-{
-    let msg = copy.pending.take_message();
-    out.clear();
-    let line = handle(&mut copy.state, model, &msg, out, steps)?;
-    copy.log.push(Entry { msg, line })?;
-    send_all(station, copy.set, out.as_slice(), &mut copy.pending, sent)?;
-    Ok(())
 }
 
 impl PhysCopy {

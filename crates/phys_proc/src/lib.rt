@@ -32,6 +32,7 @@ mod advancing;
 pub mod clone_ends;
 mod copies;
 pub mod copy;
+mod event;
 mod leasts;
 pub mod proc;
 pub mod rack;
