@@ -2,10 +2,8 @@
 use Rattle.std.proofs.Common.{◌≡◌, ◌≢◌, ◌↔◌, ◌==◌, ◌≤◌, ℕ, List, ◌∷◌, [], ◌++◌, Option, Some}
 use Rattle.std.proofs.Common.{Bool, true, false, nat_le, sym, subst, ap, ◌∙◌, refl, length, arith}
 use Rattle.sim_base.specs.declared.decision.Decision.{Decision}
-use Rattle.sim_base.specs.Clones.{place_of}
 use Rattle.sim_base.specs.Decisions.{subject}
-use Rattle.sim_base.specs.Reserved.{ReservedView}
-use Rattle.sim_base.specs.Clones.{ListsView}
+use Rattle.sim_base.specs.Clones.{Clone, place_of}
 use Rattle.net_model.specs.Net.{Net}
 use Rattle.decision_book.specs.declared.call.Call.{Call}
 use Rattle.decision_book.specs.declared.call.TheConstants.{MAX_CALLS}
@@ -84,12 +82,12 @@ with_reply-not_full es caller d r not = refl
 -- ---- journal_of
 
 -- a reply of a book's parts is one of its journal
-pub reply-of_parts : (net : Net) (lists : ListsView) (calls : ReservedView Call) (fronts : ReservedView ℕ) (last : ℕ)
-    (d : Decision) (r : Reply) (v : BookView) → IsBook net lists calls fronts last
-    → record { net = net; events = journal_of calls.items fronts.items } ≡ v
-    → r ≡ reply (record { net = net; clones = lists.clones; front = last; calls = length calls.items }) d
+pub reply-of_parts : (net : Net) (clones : List Clone) (calls : List Call) (fronts : List ℕ) (last : ℕ)
+    (d : Decision) (r : Reply) (v : BookView) → IsBook net clones calls fronts last
+    → record { net = net; events = journal_of calls fronts } ≡ v
+    → r ≡ reply (record { net = net; clones = clones; front = last; calls = length calls }) d
     → r ≡ reply (after v.net v.events) d
-reply-of_parts net lists calls fronts last d r v h is e =
+reply-of_parts net clones calls fronts last d r v h is e =
     subst (λ (w : BookView). r ≡ reply (after w.net w.events) d) is
     (e ∙ ap (λ (s : Situation). reply s d) (sym h.situation))
 

@@ -34,36 +34,39 @@ abbrev pub AreInOrder : ℕ → ℕ → List Call → Type 0
 AreInOrder n all [] = n ≤ all
 AreInOrder n all (c ∷ cs) = (n ≤ c.fronts) × AreInOrder c.fronts all cs
 
--- the lists of a book: they are planned, and memory is reserved for all clones and decisions
-pub record AreBookLists (net : Net) (lists : ListsView) : Type 0 where
-  pub planned : ArePlanned net lists.clones
+-- memory is reserved for all clones and decisions
+pub record HaveRoom (lists : ListsView) : Type 0 where
   pub reserved_clones : lists.reserved_clones ≡ MAX_CLONES
   pub reserved_plans : lists.reserved_plans ≡ MAX_DECISIONS
 
--- a decision on such lists had the reply of this row of the table. They have the new clones if it was accepted, are
+-- a decision on lists had the reply of this row of the table. They have the new clones if it was accepted, are
 -- otherwise unchanged, and are planned
 pub record HasReply (net : Net) (row : Reply) (new : List Clone) (reply : Reply) (old lists : ListsView) : Type 0 where
   pub reply_is : reply ≡ row
   pub lists_are : lists ≡ record old { clones = if_accepted reply new old.clones }
   pub planned : ArePlanned net lists.clones
 
--- lists, front and number of calls are those of the journal, which is right, and memory is reserved for all calls,
--- clones and decisions
-pub record IsBook (net : Net) (lists : ListsView) (calls : ReservedView Call) (fronts : ReservedView ℕ) (last : ℕ) :
-    Type 0 where
-  pub situation : after net (journal_of calls.items fronts.items) ≡ record {
+-- clones, front and number of calls are those of the journal, which is right
+pub record IsBook (net : Net) (clones : List Clone) (calls : List Call) (fronts : List ℕ) (last : ℕ) : Type 0 where
+  pub situation : after net (journal_of calls fronts) ≡ record {
     net = net;
-    clones = lists.clones;
+    clones = clones;
     front = last;
-    calls = length calls.items;
+    calls = length calls;
   }
-  pub right : IsRight net (journal_of calls.items fronts.items)
-  pub stamps : AreInOrder 0 (length fronts.items) calls.items
-  pub at_most : length fronts.items ≤ last
+  pub right : IsRight net (journal_of calls fronts)
+  pub stamps : AreInOrder 0 (length fronts) calls
+  pub at_most : length fronts ≤ last
   pub time_max : last ≤ net.horizon
   pub horizon_max : net.horizon ≤ MAX_HORIZON
-  pub lists_are : AreBookLists net lists
-  pub reserved_calls : calls.reserved ≡ MAX_CALLS
+  pub planned : ArePlanned net clones
+
+-- and memory is reserved for all calls, clones and decisions
+pub record IsRoomyBook (net : Net) (lists : ListsView) (calls : ReservedView Call) (fronts : List ℕ) (last : ℕ) :
+    Type 0 where
+  pub book : IsBook net lists.clones calls.items fronts last
+  pub lists_room : HaveRoom lists
+  pub calls_room : calls.reserved ≡ MAX_CALLS
 
 -- the call of a decision with this reply, and the book whose last entry it is
 pub record IsEntry (old : BookView) (caller : ℕ) (d : Decision) (reply : Reply) (call : Call) (new : BookView) :

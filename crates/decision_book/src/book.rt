@@ -1,9 +1,6 @@
 //! The book: the journal of decisions and fronts, and the resulting lists.
-ghost use Rattle.std.specs.Prelude.{◌≡◌};
-ghost use Rattle.decision_book.specs.Journal.{is_full as is_full'};
-
 use crate::call::{Call, MAX_CALLS, Reply};
-use crate::reply::decide_by_table;
+use crate::reply::{decide_by_table, is_full};
 use net_model::Model;
 use sim_base::{Decision, Lists, MAX_CLONES, MAX_DECISIONS, NoMemory, Reserved};
 use std::alloc::Global;
@@ -12,6 +9,7 @@ use std::sync::Arc;
 /// The journal of a simulation, calls and fronts together, and the lists of the clones after it.
 #[derive(Drop)]
 pub struct Book {
+    alloc: Global,
     model: Arc<Model>,
     lists: Lists,
     calls: Reserved<Call>,
@@ -20,22 +18,13 @@ pub struct Book {
 }
 
 impl std::marker::Model for Book {
-    ghost use Rattle.decision_book.specs.Books.{BookView, IsBook, journal_of};
+    ghost use Rattle.decision_book.specs.Books.{BookView, IsRoomyBook, journal_of};
 
     ghost Value = { BookView };
 
     ghost view = { λ b. record { net = b.model.value; events = journal_of b.calls.items b.fronts.items } };
 
-    ghost invariant = { λ b. IsBook b.model.value b.lists b.calls b.fronts b.front };
-}
-
-fn is_full(reply: Reply) -> bool
-    ensures value { result ≡ is_full' reply }
-{
-    match reply {
-        Reply::Full => true,
-        _ => false,
-    }
+    ghost invariant = { λ b. IsRoomyBook b.model.value b.lists b.calls b.fronts.items b.front };
 }
 
 impl Book {
@@ -60,6 +49,7 @@ impl Book {
         // for its clause: the model is a network that keeps the rules
         let _horizon = model.horizon();
         Ok(Book {
+            alloc,
             model,
             lists,
             calls,
@@ -87,7 +77,15 @@ impl Book {
             self.new.events ≡ self.old.events ++ NewCall (call_of caller self.old.events d result) ∷ [] }
     {
         let calls = self.calls.len();
-        let reply = decide_by_table(&self.model, &mut self.lists, self.front, calls, &d);
+        let decided = decide_by_table(
+            self.alloc,
+            &self.model,
+            &mut self.lists,
+            self.front,
+            calls,
+            &d,
+        );
+        let Ok(reply) = decided else { unreachable!() };
         if !is_full(reply) {
             let call = Call {
                 caller,

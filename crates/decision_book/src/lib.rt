@@ -21,6 +21,9 @@
 //! `decide` allocates nothing: the memory for 4,096 calls and 256 clones of 256 decisions, less than 8 MB, is reserved
 //! at the start. It costs a walk over the names of the clones; a fork copies the old clone's list.
 //!
+//! A [`ScriptBook`] is a book for decisions that are all made before the simulation begins, at front 0. It reserves
+//! nothing, so `decide` allocates and may run out of memory.
+//!
 //! The table of refusals in `specs/Replies.antt` is the definition: the reply is its first row whose condition holds.
 //! The book's invariant is that its journal is right, and that its lists result from the accepted decisions. A journal
 //! is right if each reply is that of the table after the events before it, and the fronts rise. The laws carry the
@@ -33,6 +36,8 @@ pub mod call;
 pub mod examples;
 pub mod laws;
 mod reply;
+pub mod script_book;
 
 pub use book::Book;
 pub use call::{Call, MAX_CALLS, Reply};
+pub use script_book::ScriptBook;

@@ -1,31 +1,50 @@
 //! The reply to a decision, and the effect of the decision on the lists.
-ghost use Rattle.std.specs.Prelude.{◌≡◌, ◌<◌, length};
+ghost use Rattle.std.specs.Prelude.{◌≡◌, ◌<◌, length, IfOk, IsOk, OnErr};
 ghost use Rattle.sim_base.specs.Clones.{clone_at, clones_with_fork, clones_with_plan, clones_with_end};
-ghost use Rattle.decision_book.specs.Books.{AreBookLists, HasReply};
-ghost use Rattle.decision_book.specs.Journal.{clones_after, plan_of_set};
+ghost use Rattle.decision_book.specs.Books.{HasReply, HaveRoom};
+ghost use Rattle.decision_book.specs.Journal.{clones_after, is_full as is_full', plan_of_set};
 ghost use Rattle.decision_book.specs.Plans.{ArePlanned};
 ghost use Rattle.decision_book.specs.Replies.{first_row, fork_rows, set_rows, time_rows, reply as reply_of};
 
 use crate::call::{MAX_CALLS, Reply};
 use net_model::Model;
-use sim_base::{Change, Decision, Lists, MAX_CLONES, MAX_DECISIONS, Name, Planned};
+use sim_base::{Change, Decision, Lists, MAX_CLONES, MAX_DECISIONS, Name, NoMemory, Planned};
 use stations::change::{ChangeFault, accepts};
+use std::alloc::Global;
+
+/// Whether it is the reply of a full journal.
+pub fn is_full(reply: Reply) -> bool
+    ensures value { result ≡ is_full' reply }
+{
+    match reply {
+        Reply::Full => true,
+        _ => false,
+    }
+}
 
 #[tactic(auto, using(crate::proofs::Planned::planned_forked))]
-fn decide_fork(model: &Model, lists: &mut Lists, clone: u32, new: Name) -> Reply
+fn decide_fork(
+    alloc: Global,
+    model: &Model,
+    lists: &mut Lists,
+    clone: u32,
+    new: Name,
+) -> Result<Reply, NoMemory>
     requires in_range { clone < length lists.old.clones }
-    requires lists { AreBookLists model.now lists.old }
-    ensures reply { HasReply model.now (first_row (fork_rows lists.old.clones new))
-        (clones_with_fork lists.old.clones new clone) result lists.old lists.new }
+    requires planned { ArePlanned model.now lists.old.clones }
+    ensures reply { IfOk result (λ r. HasReply model.now (first_row (fork_rows lists.old.clones new))
+        (clones_with_fork lists.old.clones new clone) r lists.old lists.new) }
+    ensures err { OnErr result (lists.new ≡ lists.old) }
+    ensures reserved { HaveRoom lists.old → IsOk result }
 {
     if lists.find(&new).is_some() {
-        return Reply::NameTaken;
+        return Ok(Reply::NameTaken);
     }
     if lists.len() >= MAX_CLONES {
-        return Reply::TooManyClones;
+        return Ok(Reply::TooManyClones);
     }
-    lists.fork_in_reserved(new, clone);
-    Reply::Accepted
+    lists.fork(alloc, new, clone)?;
+    Ok(Reply::Accepted)
 }
 
 fn time_reply(model: &Model, front: u64, at: u64) -> Reply
@@ -64,24 +83,26 @@ fn decide_set(
     at: u64,
     station: &Name,
     change: &Change,
-) -> Reply
+) -> Result<Reply, NoMemory>
     requires in_range { clone < length lists.old.clones }
-    requires lists { AreBookLists model.now lists.old }
-    ensures reply { HasReply model.now
+    requires planned { ArePlanned model.now lists.old.clones }
+    ensures reply { IfOk result (λ r. HasReply model.now
         (first_row (set_rows model.now lists.old.clones front clone at station.now change.now))
         (clones_with_plan lists.old.clones clone (plan_of_set model.now at station.now change.now))
-        result lists.old lists.new }
+        r lists.old lists.new) }
+    ensures err { OnErr result (lists.new ≡ lists.old) }
+    ensures reserved { HaveRoom lists.old → IsOk result }
 {
     let Some(s) = model.find(station) else {
-        return Reply::UnknownStation;
+        return Ok(Reply::UnknownStation);
     };
     match accepts(model, s, change) {
-        Err(ChangeFault::WrongParameter) => return Reply::WrongParameter,
-        Err(ChangeFault::OutOfRange) => return Reply::OutOfRange,
+        Err(ChangeFault::WrongParameter) => return Ok(Reply::WrongParameter),
+        Err(ChangeFault::OutOfRange) => return Ok(Reply::OutOfRange),
         Ok(()) => {}
     }
     if lists.list(clone).len() >= MAX_DECISIONS as usize {
-        return Reply::ListFull;
+        return Ok(Reply::ListFull);
     }
     let reply = time_reply(model, front, at);
     if reply == Reply::Accepted {
@@ -90,50 +111,52 @@ fn decide_set(
             station: s,
             change: *change,
         };
-        let Ok(()) = lists.add(clone, plan) else {
-            unreachable!()
-        };
+        lists.add(clone, plan)?;
     }
-    reply
+    Ok(reply)
 }
 
-/// Returns the reply of the table, and carries the decision out on the lists.
+/// Returns the reply of the table, and carries the decision out on the lists. Allocates nothing if these have memory
+/// reserved; if out of memory, changes nothing.
 pub fn decide_by_table(
+    alloc: Global,
     model: &Model,
     lists: &mut Lists,
     front: u64,
     calls: usize,
     d: &Decision,
-) -> Reply
-    requires lists { AreBookLists model.now lists.old }
+) -> Result<Reply, NoMemory>
+    requires planned { ArePlanned model.now lists.old.clones }
     // the first row of the whole table whose condition holds, and the lists after it
-    ensures reply { HasReply model.now (reply_of (record {
+    ensures reply { IfOk result (λ r. HasReply model.now (reply_of (record {
       net = model.now;
       clones = lists.old.clones;
       front = front;
       calls = calls;
-    }) d.now) (clones_after model.now lists.old.clones d.now) result lists.old lists.new }
+    }) d.now) (clones_after model.now lists.old.clones d.now) r lists.old lists.new) }
+    ensures err { OnErr result (lists.new ≡ lists.old) }
+    ensures reserved { HaveRoom lists.old → IsOk result }
 {
     if calls >= MAX_CALLS {
-        return Reply::Full;
+        return Ok(Reply::Full);
     }
     if front == model.horizon() {
-        return Reply::Closed;
+        return Ok(Reply::Closed);
     }
     let Some(clone) = lists.find(&d.subject()) else {
-        return Reply::UnknownClone;
+        return Ok(Reply::UnknownClone);
     };
     if let Some(at) = lists.end_of(clone) {
-        return Reply::Ended { at };
+        return Ok(Reply::Ended { at });
     }
     match d {
-        Decision::Fork { new, .. } => decide_fork(model, lists, clone, *new),
+        Decision::Fork { new, .. } => decide_fork(alloc, model, lists, clone, *new),
         Decision::Set {
             at,
             station,
             change,
             ..
         } => decide_set(model, lists, front, clone, *at, station, change),
-        Decision::End { at, .. } => decide_end(model, lists, front, clone, *at),
+        Decision::End { at, .. } => Ok(decide_end(model, lists, front, clone, *at)),
     }
 }
