@@ -18,11 +18,14 @@ use Rattle.decision_book.specs.Right.{journal_with}
 use Rattle.decision_book.specs.Scripts.{Question, after_all, first_refusal, journal_of_script}
 use Rattle.decision_book.specs.declared.call.Reply.TheVariants.{Accepted}
 use Rattle.decision_book.proofs.Scripts.{accepted_leaves_no_refusal, refused_is_first, situation_of_script}
+use Rattle.cloner_top.specs.declared.refusal.Refusal.{Refusal}
+use Rattle.cloner_top.specs.declared.refusal.Refusal.TheVariants.{OutOfMemory, Stopped}
 use Rattle.cloner_top.specs.declared.stop.Stop.{Stop}
 use Rattle.cloner_top.specs.declared.stop.Stop.TheVariants.{BadDecision}
 use Rattle.study_run.proofs.Accepting.{none_asked}
 use Rattle.study_run.specs.Accepted.{IsAcceptedJournal}
 use Rattle.cloner_top.specs.Deciding.{AcceptsAct, IsDecided, IsRefusal, RefusesAct, by_line, decision_lines}
+use Rattle.cloner_top.specs.Refusals.{IsMemoryOrStop}
 use Rattle.cloner_top.specs.Deciding.{journal_after, lines_onto, questions, questions_onto, script_journal}
 
 -- ---- items before others
@@ -205,11 +208,19 @@ module _ (net : Net) (is : List Item) (i : ℕ) (item : Item) (old : BookView) (
   }
 
   -- if the item is a refused decision, it is the first one of the script, and the stop reports it
-  pub refused_here : (stated : ScriptView) (stop : Stop) → stated.items ≡ is
+  refused_here : (stated : ScriptView) (stop : Stop) → stated.items ≡ is
       → RefusesAct (after old.net old.events) item.line item.act stop → IsRefusal net stated stop
   refused_here stated stop e h =
       refused_at net (take i is) (drop (i + 1) is) item stop stated (e ∙ sym (all_are is i item there)) at.none
       (subst (λ s. RefusesAct s item.line item.act stop) journal_is h)
+
+  -- out of memory stays out of memory
+  pub refused_or_memory : (stated : ScriptView) (r : Refusal) → stated.items ≡ is
+      → IsMemoryOrStop (RefusesAct (after old.net old.events) item.line item.act) r
+      → IsMemoryOrStop (IsRefusal net stated) r
+  refused_or_memory stated OutOfMemory e h = tt
+  refused_or_memory stated (Stopped stop) e h = refused_here stated stop e h
+  refused_or_memory stated r e h = absurd h
 
 -- at the end all decisions were accepted
 pub IsAt-end : (net : Net) (stated : ScriptView) (i : ℕ) (book : BookView) → length stated.items ≤ i

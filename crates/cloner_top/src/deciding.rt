@@ -8,18 +8,19 @@ ghost use Rattle.cloner_top.specs.Refusals.{IsMemoryOrStop};
 
 use crate::refusal::Refusal;
 use crate::stop::Stop;
-use decision_book::{Book, Reply};
+use decision_book::{Reply, ScriptBook};
 use decision_script::{Act, Item, Script};
 use net_model::Model;
 use std::alloc::Global;
 use std::sync::Arc;
 
 // Makes the decision of an item, or skips a look. A refused decision stops the study.
-fn decide_item(book: &mut Book, item: &Item) -> Result<(), Stop>
-    ensures events { book.new.events ≡ journal_after book.old.net book.old.events item.now.analyst item.now.act }
+fn decide_item(book: &mut ScriptBook, item: &Item) -> Result<(), Refusal>
+    ensures events { OnOk result (
+        book.new.events ≡ journal_after book.old.net book.old.events item.now.analyst item.now.act) }
     ensures ok { OnOk result (AcceptsAct (after book.old.net book.old.events) item.now.act) }
-    ensures err { IfErr result (λ stop. RefusesAct (after book.old.net book.old.events) item.now.line item.now.act
-        stop) }
+    ensures err { IfErr result (λ r. IsMemoryOrStop
+        (RefusesAct (after book.old.net book.old.events) item.now.line item.now.act) r) }
     ensures accepted { OnOk result (IsAcceptedJournal book.old.net book.old.events
         → IsAcceptedJournal book.new.net book.new.events) }
     ensures net { book.new.net ≡ book.old.net }
@@ -27,12 +28,15 @@ fn decide_item(book: &mut Book, item: &Item) -> Result<(), Stop>
     let Act::Decide(decision) = item.act else {
         return Ok(());
     };
-    match book.decide(item.analyst, decision) {
+    let Ok(reply) = book.decide(item.analyst, decision) else {
+        return Err(Refusal::OutOfMemory);
+    };
+    match reply {
         Reply::Accepted => Ok(()),
-        reply => Err(Stop::BadDecision {
+        reply => Err(Refusal::Stopped(Stop::BadDecision {
             reply,
             line: item.line,
-        }),
+        })),
     }
 }
 
@@ -42,18 +46,18 @@ pub(crate) fn decide_script(
     alloc: Global,
     model: Arc<Model>,
     script: &Script,
-) -> Result<Book, Refusal>
+) -> Result<ScriptBook, Refusal>
     ensures ok { IfOk result (λ book. IsDecided model.value script.now book) }
     ensures err { IfErr result (λ r. IsMemoryOrStop (IsRefusal model.value script.now) r) }
     ensures valid { OnOk result (IsScript script.now) }
 {
-    let Ok(mut book) = Book::begin(alloc, model) else {
+    let Ok(mut book) = ScriptBook::begin(alloc, model) else {
         return Err(Refusal::OutOfMemory);
     };
     for i in 0..script.len() {
         match decide_item(&mut book, &script.item(i)) {
             Ok(()) => {}
-            Err(stop) => return Err(Refusal::Stopped(stop)),
+            Err(refusal) => return Err(refusal),
         }
     }
     Ok(book)

@@ -3,7 +3,7 @@ ghost use Rattle.std.specs.Prelude.{◌≡◌};
 
 use checkpoint::Snapshot;
 use command_words::Mode;
-use decision_book::Book;
+use decision_book::ScriptBook;
 use decision_script::Script;
 use net_model::Model;
 use std::sync::Arc;
@@ -20,7 +20,7 @@ pub(crate) struct Study {
 #[derive(Drop)]
 pub(crate) struct Plan {
     pub(crate) model: Arc<Model>,
-    pub(crate) book: Book,
+    pub(crate) book: ScriptBook,
     ghost net_is: { book.net ≡ model.value },
 }
 
