@@ -1,7 +1,7 @@
 pub mod Pairs
 pub mod OneTurn
+pub mod Turning
 pub mod ToFront
 pub mod Starting
-pub mod Merging
-pub mod Events
+pub mod Firsts
 pub mod Resuming

@@ -28,7 +28,8 @@ use Rattle.stations.specs.Sends.{AreSends}
 use Rattle.stations.specs.declared.sender.TheConstants.{MAX_EVENT_TIMES}
 use Rattle.stations.proofs.Lawful.{handles-fitting}
 use Rattle.stations.proofs.GoodLaws.{lawful-stations}
-use Rattle.solo_run.specs.EventLists.{IsForStation, EventListView}
+use Rattle.solo_run.specs.EventLists.{IsForStation, all_messages}
+use Rattle.solo_run.specs.declared.event_list.EventList.{EventList}
 use Rattle.solo_run.specs.Limit.{receiver, first_beyond}
 use Rattle.solo_run.specs.SoloView.{Entries, SoloView, IsSoloAfter, IsStateAfter}
 use Rattle.solo_run.specs.SoloView.{state_of, with_due}
@@ -37,8 +38,8 @@ use Rattle.solo_run.specs.Turns.{HandlesAt, HasTurned}
 -- ---- SoloView
 
 -- the view of a run with these parts
-abbrev pub solo_view : List StateView → List (Entry Msg Line) → EventListView → SoloView
-solo_view states trace pending = record { states = states; pending = pending.messages; trace = trace }
+abbrev pub solo_view : List StateView → List (Entry Msg Line) → EventList → SoloView
+solo_view states trace pending = record { states = states; pending = all_messages pending; trace = trace }
 
 -- ---- sum_by
 
@@ -226,11 +227,6 @@ module _ (net : Net) (valid : IsNet net) (past : Entries) (v : SoloView) (m : Ms
       subst (AllByRecursion (IsForStation (length net.sites))) (ap (λ d. d.sends) h.gives)
       (sends_for net m.key.time h.before.sender.station h.before.sender.next
       (handle net h.before m).sends well.sends)
-
-  -- and may be pending if there are as many lists as states
-  pub sends_may_be_pending : (n : ℕ) → n ≡ length v.states → AllByRecursion (IsForStation n) sends
-  sends_may_be_pending n is =
-      subst (λ n. AllByRecursion (IsForStation n) sends) (sym (is ∙ solo.count)) sends_for_stations
 
   -- after the turn it is still a run of the network after its past, with no log beyond the limit
   pub is_solo : next ≡ insert_all msg_cmp sends v.pending

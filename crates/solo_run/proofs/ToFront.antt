@@ -26,7 +26,7 @@ use Rattle.stations.proofs.Lawful.{site_is}
 use Rattle.stations.proofs.GoodLaws.{lawful-stations}
 use Rattle.solo_run.specs.Limit.{receiver, first_beyond}
 use Rattle.solo_run.specs.SoloView.{Entries, SoloView, IsSoloAfter, IsStateAfter, config_of, state_of, with_due}
-use Rattle.solo_run.specs.Turns.{GoesBeyondAfter, IsStationFull, StopsAfter, StopsAt, HasTurned, run_from, step_of}
+use Rattle.solo_run.specs.Turns.{GoesBeyondAfter, IsStationFull, StopsAfter, StopsBefore, run_from, step_of}
 use Rattle.solo_run.specs.Turns.{IsReached}
 use Rattle.solo_run.specs.declared.turn.SoloFault.{SoloFault}
 use Rattle.solo_run.specs.declared.turn.SoloFault.TheVariants.{NoMemory, Limit}
@@ -101,12 +101,6 @@ module _ (net : Net) (valid : IsNet net) (past : Entries) where
       run_is law.order (world_lawful law) front (config_of net v) (config_of net w) (fine_solo v from) ran
       none
 
-  -- a turn of a message before the front
-  pub next_turn : (front : ℕ) (w : SoloView) (m : Msg) (new : SoloView) → m.key.time < front
-      → HasTurned net w m new
-      → Next msg_cmp (λ m. m.key.time) (step_of net) front (config_of net (with_due m w)) (config_of net new)
-  next_turn front w m new early t = record { m = m; q = w.pending; pending = refl; time_max = early; is = t }
-
   -- the least message is before the front, and its station has handled as many as it may
   goes_beyond : (front : ℕ) (v w : SoloView) (m : Msg) (at_start at_end now station kept : ℕ)
       → IsSoloAfter net past v → IsSoloAfter net past (with_due m w) → IsReached net front v (with_due m w)
@@ -158,11 +152,13 @@ module _ (net : Net) (valid : IsNet net) (past : Entries) where
       }
 
   -- why the turns stop
-  pub Stops-StopsAt : (front : ℕ) (v w : SoloView) (m : Msg) (at_start at_end now : ℕ) (fault : SoloFault)
-      → IsSoloAfter net past v → IsSoloAfter net past (with_due m w) → IsReached net front v (with_due m w)
-      → m.key.time < front → StopsAt net (m.to - 1) w.states now at_end fault
-      → now + length v.trace ≡ at_start + length w.trace
+  pub Stops-StopsBefore : (front : ℕ) (v w : SoloView) (at_start at_end now : ℕ) (fault : SoloFault)
+      → IsSoloAfter net past v → IsSoloAfter net past w → IsReached net front v w
+      → StopsBefore net front w now at_end fault → now + length v.trace ≡ at_start + length w.trace
       → StopsAfter net past v front at_start at_end fault
-  Stops-StopsAt front v w m at_start at_end now NoMemory from here ran early at count = tt
-  Stops-StopsAt front v w m at_start at_end now (Limit station kept) from here ran early at count =
-      goes_beyond front v w m at_start at_end now station kept from here ran early at count
+  Stops-StopsBefore front v w at_start at_end now NoMemory from here ran at count = tt
+  Stops-StopsBefore front v w at_start at_end now (Limit station kept) from here ran at count =
+      let view : List Msg → SoloView = λ q. record { states = w.states; pending = q; trace = w.trace } in
+      goes_beyond front v (view at.rest) at.message at_start at_end now station kept from
+      (subst (λ q. IsSoloAfter net past (view q)) at.is here)
+      (subst (λ q. IsReached net front v (view q)) at.is ran) at.time_max at.full count

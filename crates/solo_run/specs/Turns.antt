@@ -1,10 +1,11 @@
 -- One turn of a one-thread run, and its end at the limit.
-use Rattle.std.specs.Prelude.{◌≡◌, ℕ, ◌+◌, ◌*◌, ◌≤◌, ◌<◌, List, [], ◌∷◌, ◌++◌, length, Some, None, slice_get, slice_set}
+use Rattle.std.specs.Prelude.{◌≡◌, ℕ, ◌+◌, ◌-◌, ◌*◌, ◌≤◌, ◌<◌, List, [], ◌∷◌, ◌++◌, length, Some, None, slice_get, slice_set}
+use Rattle.std.specs.List.{AllByRecursion}
 use Rattle.sim_base.specs.Order.{msg_cmp}
 use Rattle.sim_base.specs.declared.message.Msg.{Msg}
 use Rattle.sim_base.specs.declared.entry.Entry.{Entry}
 use Rattle.sim_base.specs.declared.entry.Line.{Line}
-use Rattle.run_laws.specs.Machine.{Config, config_after, Reach}
+use Rattle.run_laws.specs.Machine.{Config, config_after, Next, Reach}
 use Rattle.run_laws.specs.Runs as runs
 use Rattle.run_laws.specs.World.{World, world_step}
 use Rattle.net_model.specs.Net.{Net, HasStation}
@@ -12,7 +13,7 @@ use Rattle.stations.specs.Fits.{FitsState, SuitsNet}
 use Rattle.stations.specs.Handling.{StateView, handle}
 use Rattle.stations.specs.Runs.{simulation}
 use Rattle.solo_run.specs.Limit.{first_beyond}
-use Rattle.solo_run.specs.SoloView.{Entries, SoloView, config_of}
+use Rattle.solo_run.specs.SoloView.{Entries, SoloView, IsSoloAfter, config_of}
 use Rattle.solo_run.specs.declared.turn.SoloFault.{SoloFault}
 use Rattle.solo_run.specs.declared.turn.SoloFault.TheVariants.{NoMemory, Limit}
 
@@ -59,6 +60,34 @@ StopsAt net i states old_steps new_steps (Limit station kept) =
 -- a due message is handled: the run reaches the state after the turn
 abbrev pub HasTurned : Net → SoloView → Msg → SoloView → Type 0
 HasTurned net v m new = config_of net new ≡ config_after msg_cmp (step_of net) (config_of net v).at m v.pending
+
+-- the run has handled its first message, which is before the front, and counted a step
+pub record HasTurnedBefore (net : Net) (past : Entries) (front : ℕ) (v w : SoloView) (old_steps new_steps : ℕ) :
+    Type 0 where
+  pub next : Next msg_cmp (λ m. m.key.time) (step_of net) front (config_of net v) (config_of net w)
+  pub solo : IsSoloAfter net past w
+  pub counted : new_steps ≡ old_steps + 1
+  pub longer : length w.trace ≡ length v.trace + 1
+
+-- the run has not changed, and has no message before the front
+pub record HasEnded (front : ℕ) (v w : SoloView) (old_steps new_steps : ℕ) : Type 0 where
+  pub same : w ≡ v
+  pub uncounted : new_steps ≡ old_steps
+  pub none : AllByRecursion (λ m. front ≤ m.key.time) v.pending
+
+-- the run's first message is before the front, and its station is full
+pub record IsFirstFull (net : Net) (front : ℕ) (v : SoloView) (old_steps new_steps station kept : ℕ) : Type 0 where
+  pub message : Msg
+  pub rest : List Msg
+  pub is : v.pending ≡ message ∷ rest
+  pub time_max : message.key.time < front
+  pub full : IsStationFull net (message.to - 1) v.states old_steps new_steps station kept
+
+-- why the first turn before a front fails
+abbrev pub StopsBefore : Net → ℕ → SoloView → ℕ → ℕ → SoloFault → Type 0
+StopsBefore net front v old_steps new_steps NoMemory = Unit {0}
+StopsBefore net front v old_steps new_steps (Limit station kept) =
+    IsFirstFull net front v old_steps new_steps station kept
 
 -- the run to a front goes beyond the limit, and past entries count. All entries before the first one beyond it were
 -- handled, one step for each, and no station has handled more than the limit

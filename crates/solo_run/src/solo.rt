@@ -32,14 +32,12 @@ pub struct Solo {
 }
 
 impl std::marker::Model for Solo {
-    ghost use Rattle.std.specs.Prelude.{◌≡◌, length};
+    ghost use Rattle.solo_run.specs.EventLists.{all_messages};
     ghost use Rattle.solo_run.specs.SoloView.{SoloView};
 
     ghost Value = { SoloView };
 
-    ghost view = { λ s. record { states = s.states.items; pending = s.pending.messages; trace = s.trace } };
-
-    ghost invariant = { λ s. s.pending.stations ≡ length s.states.items };
+    ghost view = { λ s. record { states = s.states.items; pending = all_messages s.pending; trace = s.trace } };
 }
 
 impl Solo {
@@ -51,7 +49,7 @@ impl Solo {
         ensures begins { IfOk result (λ solo. config_of model.now solo ≡ first_world (simulation model.now) list.now) }
         ensures solo { IfOk result (λ solo. IsSolo model.now solo) }
     {
-        let mut pending = EventList::new(alloc, model.len())?;
+        let mut pending = EventList::new(alloc);
         let states = open_all(alloc, model, &mut pending)?;
         put_decisions(&mut pending, list)?;
         Ok(Solo {
@@ -76,7 +74,7 @@ impl Solo {
           trace = [];
         }) }
     {
-        let mut pending = EventList::new(alloc, model.len())?;
+        let mut pending = EventList::new(alloc);
         put_all(&mut pending, due)?;
         Ok(Solo {
             states,
@@ -133,12 +131,7 @@ impl Solo {
         ensures stops { IfErr result (λ e. StopsAfter model.now past self front steps.old steps.new e) }
     {
         let mut out = ArrayVec::new();
-        while let Some(due) = self.pending.take_before(front) {
-            match self.turn(model, &due, &mut out, steps) {
-                Ok(()) => {}
-                Err(fault) => return Err(fault),
-            }
-        }
+        while self.next_turn(model, front, &mut out, steps)? {}
         Ok(self)
     }
 

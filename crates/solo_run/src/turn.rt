@@ -1,17 +1,18 @@
 //! Event execution in a one-thread run, called a turn: the least pending message is handled at its station, and the
-//! sends become pending.
+//! sends become pending. A message that fits 16 bytes is handled packed if possible.
 ghost use Rattle.std.specs.Prelude.{◌≡◌, ◌+◌, ◌-◌, ◌≤◌, ◌<◌, ℕ};
-ghost use Rattle.std.specs.Prelude.{length, IfErr, IfOk, OnOk, slice_get, Some};
-ghost use Rattle.std.specs.List.{AllByRecursion};
+ghost use Rattle.std.specs.Prelude.{length, IfErr, IfOk, OnOk, slice_get, Some, true, false};
 ghost use Rattle.arrayvec.specs.ArrayVec.{array_vec_len};
 ghost use Rattle.sim_base.specs.Order.{msg_cmp};
 ghost use Rattle.run_laws.specs.Queue.{insert_all};
+ghost use Rattle.net_model.specs.Rules.{IsNet};
 ghost use Rattle.stations.specs.Fits.{SuitsNet};
 ghost use Rattle.stations.specs.Handling.{StateView};
 ghost use Rattle.stations.specs.declared.sender.TheConstants.{MAX_EVENT_TIMES};
-ghost use Rattle.solo_run.specs.EventLists.{IsForStation};
+ghost use Rattle.solo_run.specs.EventLists.{IsForStation, all_messages};
 ghost use Rattle.solo_run.specs.SoloView.{Entries, IsSoloAfter, with_due};
-ghost use Rattle.solo_run.specs.Turns.{HandlesAt, StopsAt, HasTurned};
+ghost use Rattle.solo_run.specs.Turns.{HandlesAt, HasEnded, HasTurned, HasTurnedBefore, StopsAt, StopsBefore};
+ghost use Rattle.solo_run.specs.declared.turn.SoloFault.TheVariants.{Limit};
 
 use crate::event_list::EventList;
 use crate::solo::Solo;
@@ -33,12 +34,27 @@ pub enum SoloFault {
 
 // Makes messages for stations pending.
 pub(crate) fn put_all(pending: &mut EventList, sends: &[Msg]) -> Result<(), NoMemory>
-    requires all { AllByRecursion (IsForStation pending.old.stations) sends.now }
-    ensures ok { OnOk result (pending.new.messages ≡ insert_all msg_cmp sends.now pending.old.messages) }
-    ensures stations { pending.new.stations ≡ pending.old.stations }
+    ensures ok { OnOk result (all_messages pending.new ≡ insert_all msg_cmp sends.now (all_messages pending.old)) }
 {
     for msg in sends {
         pending.insert(*msg)?;
+    }
+    Ok(())
+}
+
+// The fault that stops the run, if a station has already handled as many messages as it may.
+#[inline(always)]
+pub(crate) fn may_handle(state: &State, model: &Model, station: u32) -> Result<(), SoloFault>
+    ensures ok { OnOk result (state.now.handled < model.now.limit) }
+    ensures full { IfErr result (λ e. (e ≡ Limit station model.now.limit) × (model.now.limit ≤ state.now.handled)) }
+    ensures valid { IsNet model.now }
+{
+    let limit = model.limit();
+    if state.handled() >= limit {
+        return Err(SoloFault::Limit {
+            station,
+            kept: limit,
+        });
     }
     Ok(())
 }
@@ -70,13 +86,7 @@ fn handle_at<L: Ledger>(
     ensures full { IfErr result (λ e. StopsAt model.now (msg.now.to - 1) states.old.items steps.old steps.new e) }
 {
     let state = &mut states[msg.to as usize - 1];
-    let limit = model.limit();
-    if state.handled() >= limit {
-        return Err(SoloFault::Limit {
-            station: msg.to,
-            kept: limit,
-        });
-    }
+    may_handle(state, model, msg.to)?;
     match handle(state, model, msg, out, steps) {
         Ok(line) => Ok(line),
         Err(_) => Err(SoloFault::NoMemory),
@@ -84,10 +94,58 @@ fn handle_at<L: Ledger>(
 }
 
 impl Solo {
-    /// Executes one event: the due message is handled at its station.
+    /// Executes the first event before a front, which is at most the horizon. Returns whether there was one.
     ///
-    /// `out` is a buffer for the sends; it is emptied first. Counts a step.
-    pub(crate) fn turn<L: Ledger>(
+    /// `out` is a buffer for the sends.
+    #[inline(always)]
+    pub(crate) fn next_turn<L: Ledger>(
+        &mut self,
+        model: &Model,
+        front: u64,
+        out: &mut ArrayVec<Msg, MAX_SENDS>,
+        steps: &mut Steps<L>,
+    ) -> Result<bool, SoloFault>
+        ghost past: { Entries }
+        requires solo { IsSoloAfter model.now past self.old }
+        requires time_max { front ≤ model.now.horizon }
+        ensures turned { IfOk result (λ more. more ≡ true →
+            HasTurnedBefore model.now past front self.old self.new steps.old steps.new) }
+        ensures ended { IfOk result (λ more. more ≡ false → HasEnded front self.old self.new steps.old steps.new) }
+        ensures stops { IfErr result (λ e. StopsBefore model.now front self.old steps.old steps.new e) }
+    {
+        if self.turn_packed(model, front, steps)? {
+            return Ok(true);
+        }
+        self.turn_whole(model, front, out, steps)
+    }
+
+    // The same for messages of any size.
+    fn turn_whole<L: Ledger>(
+        &mut self,
+        model: &Model,
+        front: u64,
+        out: &mut ArrayVec<Msg, MAX_SENDS>,
+        steps: &mut Steps<L>,
+    ) -> Result<bool, SoloFault>
+        ghost past: { Entries }
+        requires solo { IsSoloAfter model.now past self.old }
+        requires time_max { front ≤ model.now.horizon }
+        ensures turned { IfOk result (λ more. more ≡ true →
+            HasTurnedBefore model.now past front self.old self.new steps.old steps.new) }
+        ensures ended { IfOk result (λ more. more ≡ false → HasEnded front self.old self.new steps.old steps.new) }
+        ensures stops { IfErr result (λ e. StopsBefore model.now front self.old steps.old steps.new e) }
+    {
+        let Some(due) = self.pending.take_before(front) else {
+            return Ok(false);
+        };
+        self.turn(model, &due, out, steps)?;
+        Ok(true)
+    }
+
+    // Executes one event: the due message is handled at its station.
+    //
+    // `out` is a buffer for the sends; it is emptied first. Counts a step.
+    fn turn<L: Ledger>(
         &mut self,
         model: &Model,
         msg: &Msg,

@@ -13,5 +13,4 @@ loop-s-preserved c =
           (ap (λ o. o.state) s.opened) s.fits s.suits);
       first = c.in_ok-put_first.ensures.ok ∙ first_more net c.loop-s.s _ _ c.in_ok-state.first inv.first
           (ap (λ o. o.first) s.opened);
-      stations = c.in_ok-put_first.ensures.stations ∙ inv.stations;
     }

@@ -6,7 +6,7 @@ use Rattle.sim_base.specs.declared.message.Param.TheVariants.{Every}
 use Rattle.run_laws.specs.Queue.{insert, insert_all}
 use Rattle.run_laws.specs.World.{set_messages}
 use Rattle.stations.specs.Runs.{simulation, set_message}
-use Rattle.solo_run.specs.EventLists.{EventListView}
+use Rattle.solo_run.specs.EventLists.{all_messages}
 use Rattle.solo_run.proofs.opening.put_decisions.Goals as goal
 
 pub loop-k-preserved : goal.loop-k-preserved
@@ -16,14 +16,10 @@ loop-k-preserved c =
     let plan = get_or c.args.list.now k none in
     let more = drop_more c.args.list.now k none c.loop-k-test.true in
     let number : suc k ≡ k + 1 = omega arith in
-    let e : c.insert.new.self.messages ≡ insert msg_cmp (set_message k plan) c.loop-k.pending.messages =
-    ap (λ (v : EventListView). v.messages) c.in_ok-insert.ensures.ok
-    ∙ ap (λ m. insert msg_cmp m c.loop-k.pending.messages) c.set_message.ensures.value in
-    record {
-      added = λ net. let sim = simulation net in
-          rw e (ap (λ j. insert_all msg_cmp (set_messages sim j (drop (k + 1) c.args.list.now))
-          (insert msg_cmp (set_message k plan) c.loop-k.pending.messages)) (sym number)
-          ∙ (ap (λ l. insert_all msg_cmp (set_messages sim k l) c.loop-k.pending.messages) (sym more)
-          ∙ c.loop-k.invariant.added net));
-      stations = ap (λ (v : EventListView). v.stations) c.in_ok-insert.ensures.ok ∙ c.loop-k.invariant.stations;
-    }
+    let before = all_messages c.loop-k.pending in
+    let e : all_messages c.insert.new.self ≡ insert msg_cmp (set_message k plan) before =
+    c.in_ok-insert.ensures.ok ∙ ap (λ m. insert msg_cmp m before) c.set_message.ensures.value in
+    λ net. let sim = simulation net in
+    rw e (ap (λ j. insert_all msg_cmp (set_messages sim j (drop (k + 1) c.args.list.now))
+    (insert msg_cmp (set_message k plan) before)) (sym number)
+    ∙ (ap (λ l. insert_all msg_cmp (set_messages sim k l) before) (sym more) ∙ c.loop-k.invariant net))

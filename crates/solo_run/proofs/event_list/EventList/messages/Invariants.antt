@@ -1,12 +1,9 @@
 use Rattle.std.proofs.Common.{◌≡◌, ◌++◌, length}
-use Rattle.solo_run.specs.EventLists.{AreStationLists, all_messages}
+use Rattle.solo_run.specs.EventLists.{all_messages}
 use Rattle.solo_run.proofs.event_list.EventList.messages.Given as goal
 
-abbrev pub invariant-loop-i : goal.invariant-loop-i
-invariant-loop-i l = record {
-  own : AreStationLists l.lists.items;
-  added : l.all.items ++ all_messages l.lists.items ≡ l.self.messages;
-}
+abbrev pub invariant-loop-msg : goal.invariant-loop-msg
+invariant-loop-msg l = l.all.items ++ all_messages l.list ≡ all_messages l.self
 
-abbrev pub decreases-loop-i : goal.decreases-loop-i
-decreases-loop-i l = length (all_messages l.lists.items)
+abbrev pub decreases-loop-msg : goal.decreases-loop-msg
+decreases-loop-msg l = length (all_messages l.list)

@@ -1,7 +1,8 @@
-use Rattle.std.proofs.Common.{subst, sym, []}
+use Rattle.std.proofs.Common.{subst, sym}
+use Rattle.solo_run.specs.EventLists.{all_messages}
 use Rattle.solo_run.specs.SoloView.{SoloView, IsSoloAfter, with_due}
 use Rattle.solo_run.specs.Turns.{HasTurned}
-use Rattle.solo_run.proofs.OneTurn.{sends_may_be_pending, is_solo, has_turned, solo_view}
+use Rattle.solo_run.proofs.OneTurn.{is_solo, has_turned, solo_view}
 use Rattle.solo_run.proofs.solo.Solo.turn.Goals as goal
 
 pub handle_at-requires-clause-suits : goal.handle_at-requires-clause-suits
@@ -16,18 +17,6 @@ handle_at-requires-clause-numbers g c i st is =
     (sym c.self.view_is) c.requires.1.0 in
     (solo.states i st is).station
 
-pub put_all-requires : goal.put_all-requires
-put_all-requires g c =
-    let net = c.args.model.now in
-    let m = c.args.msg.now in
-    let v = solo_view c.self.inside.states.items c.self.inside.trace c.self.inside.pending in
-    let solo = subst (λ (w : SoloView). IsSoloAfter net g.past (with_due m w)) (sym c.self.view_is) c.requires.1.0 in
-    record {
-      all = rw c.as_slice.ensures.value
-          (sends_may_be_pending net solo.valid g.past v m c.handle_at.new.states.items [] _ _ c.requires.1.1 solo
-          c.in_ok-line.ensures.ok c.self.inside.pending.stations c.self.invariant);
-    }
-
 pub returns-clause-turned : goal.returns-clause-turned
 returns-clause-turned g c =
     let net = c.args.model.now in
@@ -37,7 +26,7 @@ returns-clause-turned g c =
     let new = solo_view c.handle_at.new.states.items c.push.new.self c.put_all.new.pending in
     subst (λ (w : SoloView). HasTurned net w m new) c.self.view_is
     (rw c.in-Ok-push.ensures.ok
-    (has_turned net solo.valid g.past v m c.handle_at.new.states.items c.put_all.new.pending.messages _ _
+    (has_turned net solo.valid g.past v m c.handle_at.new.states.items (all_messages c.put_all.new.pending) _ _
     c.requires.1.1 solo c.in_ok-line.ensures.ok (rw c.as_slice.ensures.value at c.in-Ok.ensures.ok)))
 
 pub returns-clause-solo : goal.returns-clause-solo
@@ -47,5 +36,5 @@ returns-clause-solo g c =
     let v = solo_view c.self.inside.states.items c.self.inside.trace c.self.inside.pending in
     let solo = subst (λ (w : SoloView). IsSoloAfter net g.past (with_due m w)) (sym c.self.view_is) c.requires.1.0 in
     rw c.in-Ok-push.ensures.ok
-    (is_solo net solo.valid g.past v m c.handle_at.new.states.items c.put_all.new.pending.messages _ _
+    (is_solo net solo.valid g.past v m c.handle_at.new.states.items (all_messages c.put_all.new.pending) _ _
     c.requires.1.1 solo c.in_ok-line.ensures.ok (rw c.as_slice.ensures.value at c.in-Ok.ensures.ok))
