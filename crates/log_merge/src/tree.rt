@@ -66,17 +66,6 @@ impl Tree {
         }
     }
 
-    /// Replaces a word, as `set` does, but does nothing if it does not change.
-    #[inline(always)]
-    pub fn update(&mut self, i: usize, word: u64)
-        requires in_range { i < length self.old }
-        ensures value { self.new ≡ slice_set self.old i word }
-    {
-        if self.nodes[self.count + i] != word {
-            self.set(i, word);
-        }
-    }
-
     /// The least word.
     #[inline(always)]
     pub fn least(&self) -> u64
