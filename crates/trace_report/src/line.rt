@@ -4,7 +4,6 @@
 ghost use Rattle.std.specs.Prelude.{◌≡◌, ◌+◌, ◌≤◌, ◌++◌, length, codes};
 ghost use Rattle.sim_base.specs.declared.entry.Line.TheVariants.{Server};
 ghost use Rattle.trace_report.specs.Slots.{AreNames};
-ghost use Rattle.log_chain.specs.Packing.{unpacked_entry};
 ghost use Rattle.log_chain.specs.Stored.{entry_in};
 ghost use Rattle.sim_base.specs.Params.{param_word};
 ghost use Rattle.trace_report.specs.TraceText.{station_name, class_text, job_text, values_text};
@@ -17,8 +16,9 @@ ghost use Rattle.trace_report.specs.declared.lengths.TheConstants.{MAX_VALUES_LE
 ghost use Rattle.trace_report.specs.declared.lengths.TheConstants.{MAX_COUNTS_LEN, MAX_KEY_LEN, MAX_END_LEN};
 
 use crate::names::Names;
+use crate::packed_line::write_packed;
 use crate::pieces::{put, put_count, put_name, put_number};
-use log_chain::{PackedEntry, StoredEntry};
+use log_chain::StoredEntry;
 use net_model::Model;
 use sim_base::{Change, Entry, Job, Key, Line, Param, Payload};
 
@@ -89,9 +89,9 @@ fn put_change(bytes: &mut [u8], at: usize, change: &Change) -> usize
     put_values(bytes, at, change)
 }
 
-// Writes the payload of a message.
+/// Writes the payload of a message.
 #[inline(always)]
-fn put_payload(
+pub fn put_payload(
     bytes: &mut [u8],
     at: usize,
     model: &Model,
@@ -196,26 +196,6 @@ pub fn write_line(bytes: &mut [u8], at: usize, model: &Model, names: &Names, ent
     let at = put_payload(bytes, at, model, names, &entry.msg.payload);
     let at = put(bytes, at, b" ");
     put_end(bytes, at, &entry.line)
-}
-
-// Writes the line of a packed entry as `write_line` does, and reads each of its parts once.
-fn write_packed(
-    bytes: &mut [u8],
-    at: usize,
-    model: &Model,
-    names: &Names,
-    packed: &PackedEntry,
-) -> usize
-    requires names { AreNames model.now names.now }
-    requires free { at + MAX_LINE ≤ length bytes.old }
-    ensures written { WritesExactly (entry_line model.now (unpacked_entry packed.now)) at result bytes.old bytes.new }
-{
-    // a copy, which no written byte can change, so that each part is read once
-    let packed = *packed;
-    let at = put_key(bytes, at, model, names, &packed.key(), packed.to());
-    let at = put_payload(bytes, at, model, names, &packed.payload());
-    let at = put(bytes, at, b" ");
-    put_end(bytes, at, &packed.counts())
 }
 
 /// Writes the line of an entry, as a log stores it, at a place. Returns the place after it, as `write_line` does.
