@@ -1,10 +1,10 @@
 //! Worked books, the table of refusals in its order, and full books.
 
 use crate::lines::decision;
-use decision_book::{Book, Reply};
+use decision_book::{Book, Reply, ScriptBook};
 use net_model::read_model;
 use sample_models::ONE_DESK;
-use sim_base::{Decision, Name, NoMemory};
+use sim_base::{Decision, Lists, Name, NoMemory};
 use std::alloc::Global;
 use std::sync::Arc;
 use std::test::Fail;
@@ -230,5 +230,70 @@ fn a_book_full_of_refusals(rt: HostRuntime) -> Result<(), Fail> {
     let mut book = begin_book(rt.alloc()).ok_or(NoMemory)?;
     assert!(rt; repeat(&mut book, &unknown, 4096, Reply::UnknownClone));
     assert!(rt; is_full(&mut book, &fork) && book.lists().len() == 1);
+    Ok(())
+}
+
+/// The decisions of a small script.
+const SCRIPT: &[Row] = &[
+    ("set base at 5 desk service 2 2", Reply::Accepted),
+    ("fork fast from base", Reply::Accepted),
+    ("set fast at 10 desk service 2 2", Reply::Accepted),
+    ("fork late from fast", Reply::Accepted),
+    ("fork late from base", Reply::NameTaken),
+    ("set base at 7 desk service 3 3", Reply::Accepted),
+    ("end base at 15", Reply::Accepted),
+    ("set base at 16 desk service 2 2", Reply::Ended { at: 15 }),
+];
+
+/// The book of a script of one desk, with no call.
+fn begin_script(alloc: Global) -> Option<ScriptBook> {
+    let model = read_model(alloc, ONE_DESK.as_bytes()).ok()?;
+    let model = Arc::new(alloc, model).ok()?;
+    ScriptBook::begin(alloc, model).ok()
+}
+
+/// The place of the first decision of a script with another reply than its row has, or the number of rows.
+fn first_wrong_in_script(alloc: Global, book: &mut ScriptBook, rows: &[Row]) -> usize {
+    for (i, (line, reply)) in rows.iter().enumerate() {
+        let Some(decision) = decision(alloc, line) else {
+            return i;
+        };
+        if book.decide(1, decision) != Ok(*reply) {
+            return i;
+        }
+    }
+    rows.len()
+}
+
+/// Whether a clone has the same name, decisions and end in both.
+fn has_same(lists: &Lists, others: &Lists, c: u32) -> bool {
+    c < lists.len()
+        && c < others.len()
+        && lists.name(c) == others.name(c)
+        && lists.list(c) == others.list(c)
+        && lists.end_of(c) == others.end_of(c)
+}
+
+/// Whether the same clones are in both.
+fn are_same(lists: &Lists, others: &Lists) -> bool {
+    for c in 0..lists.len() {
+        if !has_same(lists, others, c) {
+            return false;
+        }
+    }
+    lists.len() == others.len()
+}
+
+#[test]
+fn a_book_of_a_script_has_the_same_lists(rt: HostRuntime) -> Result<(), Fail> {
+    let mut book = begin_book(rt.alloc()).ok_or(NoMemory)?;
+    assert_eq!(rt; first_wrong(rt.alloc(), &mut book, SCRIPT), SCRIPT.len());
+    let mut script = begin_script(rt.alloc()).ok_or(NoMemory)?;
+    assert_eq!(rt;
+        first_wrong_in_script(rt.alloc(), &mut script, SCRIPT),
+        SCRIPT.len()
+    );
+    assert!(rt; book.lists().len() == 3 && are_same(script.lists(), book.lists()));
+    assert!(rt; script.calls() == book.calls());
     Ok(())
 }

@@ -5,14 +5,15 @@
 //!
 //! ```text
 //! sim_base_lists, sim_base_messages, sim_base_pending    sim_base
-//! clone_sets_tests         log_merge_tests          stations_tests
-//! decision_book_tests      msg_route_tests          study_generator_tests
-//! decision_script_tests    net_model_tests          trace_report_tests
-//! journal_text_tests       sim_outer_tests
-//! log_chain_tests          solo_run_tests
+//! packed_limits                                          msg_heap and log_chain
+//! clone_sets_tests         log_merge_tests          solo_run_tests
+//! decision_book_tests      msg_heap_tests           stations_tests
+//! decision_script_tests    msg_route_tests          study_generator_tests
+//! journal_text_tests       net_model_tests          trace_report_tests
+//! log_chain_tests          sim_outer_tests
 //! ```
 //!
-//! `counts` and `lines` test no crate. Three modules write their tables with `counts`, and two read their decisions
+//! `counts` and `lines` test no crate. Five modules write their tables with `counts`, and two read their decisions
 //! with `lines`.
 //!
 //! They show what is not proved: that calls find memory, and that contracts mean what they should, against values
@@ -38,9 +39,13 @@ mod log_chain_tests;
 #[cfg(test)]
 mod log_merge_tests;
 #[cfg(test)]
+mod msg_heap_tests;
+#[cfg(test)]
 mod msg_route_tests;
 #[cfg(test)]
 mod net_model_tests;
+#[cfg(test)]
+mod packed_limits;
 #[cfg(test)]
 mod sim_base_lists;
 #[cfg(test)]

@@ -5,6 +5,7 @@ ghost use Rattle.base_tests.specs.States.{IsStateOf};
 mod models;
 mod rows;
 mod saving;
+mod waiting;
 
 use arrayvec::ArrayVec;
 use models::FIVE_KINDS;

@@ -3,7 +3,9 @@ ghost use Rattle.std.specs.Prelude.{◌≡◌, ◌<◌};
 
 mod branches;
 mod failures;
+mod great_numbers;
 mod kinds;
+mod last_station;
 mod links;
 mod live;
 mod many;
@@ -188,6 +190,14 @@ fn is_both(output: &[u8], traces: &str, report: &str) -> bool {
         (Some(first), Some(rest)) => first == traces.as_bytes() && rest == report.as_bytes(),
         _ => false,
     }
+}
+
+/// What follows `begin` in the output; None if it begins in another way.
+fn rest_of<'a>(output: &'a [u8], begin: &[u8]) -> Option<&'a [u8]> {
+    if !output.starts_with(begin) {
+        return None;
+    }
+    output.get(begin.len()..)
 }
 
 /// Whether these are first bytes of some traces and a report.

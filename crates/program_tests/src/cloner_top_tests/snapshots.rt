@@ -164,18 +164,18 @@ fn snapshots_are_written_and_resumed(rt: HostRuntime) -> Result<(), Fail> {
 
 /// A clone of a study. In the model the first `old` is replaced by `new`.
 #[derive(Clone, Copy)]
-struct Branch<'a> {
-    shows: &'a str,
-    model: &'a str,
-    old: &'a str,
-    new: &'a str,
-    script: &'a str,
-    clone: &'a str,
+pub(super) struct Branch<'a> {
+    pub(super) shows: &'a str,
+    pub(super) model: &'a str,
+    pub(super) old: &'a str,
+    pub(super) new: &'a str,
+    pub(super) script: &'a str,
+    pub(super) clone: &'a str,
 }
 
 impl<'a> Branch<'a> {
     /// Whether the clone's run is saved at this time, and goes on as `solo` runs it.
-    fn goes_on<R: Threads + Wait + Sync>(
+    pub(super) fn goes_on<R: Threads + Wait + Sync>(
         &self,
         rt: &R,
         alloc: Global,
