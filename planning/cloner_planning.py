@@ -6,9 +6,9 @@ The tools read what the proved program writes. They are plain Python, and nothin
 import os
 import sys
 
-sys.path.insert(0, os.path.dirname(os.path.realpath(__file__)))
+sys.path.insert(0, os.path.join(os.path.dirname(os.path.realpath(__file__)), "src"))
 
-from planner.command_line import main  # noqa: E402  (the path comes first)
+from cloner_planning.command_line import main  # noqa: E402  (the path comes first)
 
 if __name__ == "__main__":
     sys.exit(main(sys.argv[1:]))

@@ -8,15 +8,15 @@ import tempfile
 import unittest
 
 HERE = os.path.dirname(os.path.abspath(__file__))
-sys.path.insert(0, os.path.join(HERE, ".."))
+sys.path.insert(0, os.path.join(HERE, "..", "src"))
 
-from planner.check import Study, size  # noqa: E402
-from planner.check_flow import Clock, Flow, initial, messages, time_of_limit, with_way_out  # noqa: E402
-from planner.command_line import main  # noqa: E402
-from planner.errors import PlanningError  # noqa: E402
-from planner.models import parse_model  # noqa: E402
-from planner.places import Places  # noqa: E402
-from planner.scripts import parse_script  # noqa: E402
+from cloner_planning.check import Study, size  # noqa: E402
+from cloner_planning.check_flow import Clock, Flow, initial, messages, time_of_limit, with_way_out  # noqa: E402
+from cloner_planning.command_line import main  # noqa: E402
+from cloner_planning.errors import PlanningError  # noqa: E402
+from cloner_planning.models import parse_model  # noqa: E402
+from cloner_planning.places import Places  # noqa: E402
+from cloner_planning.scripts import parse_script  # noqa: E402
 
 EXAMPLES = os.path.join(HERE, "..", "..", "examples")
 # the total `alone` of the report that cloner writes for an example

@@ -5,10 +5,10 @@ import sys
 import unittest
 
 PLANNING = os.path.realpath(os.path.join(os.path.dirname(os.path.abspath(__file__)), ".."))
-sys.path.insert(0, PLANNING)
+sys.path.insert(0, os.path.join(PLANNING, "src"))
 
-from planner.errors import PlanningError  # noqa: E402
-from planner.models import parse_model  # noqa: E402
+from cloner_planning.errors import PlanningError  # noqa: E402
+from cloner_planning.models import parse_model  # noqa: E402
 
 ENTRY = os.path.join(PLANNING, "cloner_planning.py")
 

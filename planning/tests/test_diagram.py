@@ -9,11 +9,11 @@ import tempfile
 import unittest
 
 HERE = os.path.dirname(os.path.abspath(__file__))
-sys.path.insert(0, os.path.join(HERE, ".."))
+sys.path.insert(0, os.path.join(HERE, "..", "src"))
 
-from planner.command_line import main  # noqa: E402
-from planner.diagram import dot_lines, percent, quoted  # noqa: E402
-from planner.models import parse_model  # noqa: E402
+from cloner_planning.command_line import main  # noqa: E402
+from cloner_planning.diagram import dot_lines, percent, quoted  # noqa: E402
+from cloner_planning.models import parse_model  # noqa: E402
 
 MODEL = """format = 2
 lookahead = 1

@@ -10,14 +10,14 @@ import unittest
 from unittest import mock
 
 PLANNING = os.path.realpath(os.path.join(os.path.dirname(os.path.abspath(__file__)), ".."))
-sys.path.insert(0, PLANNING)
+sys.path.insert(0, os.path.join(PLANNING, "src"))
 sys.path.insert(0, os.path.join(PLANNING, "tests"))
 
 from explain_mistakes import MODEL, MODEL_MISTAKES, SCRIPT, SCRIPT_MISTAKES, spoiled  # noqa: E402
-from planner import explain, explain_model  # noqa: E402
-from planner.command_line import main  # noqa: E402
-from planner.errors import PlanningError  # noqa: E402
-from planner.explain_tables import (  # noqa: E402
+from cloner_planning import explain, explain_model  # noqa: E402
+from cloner_planning.command_line import main  # noqa: E402
+from cloner_planning.errors import PlanningError  # noqa: E402
+from cloner_planning.explain_tables import (  # noqa: E402
     Rule, Tables, has_type, in_range, read_tables, rule_of, type_of, unlinked)
 
 class Folder(unittest.TestCase):

@@ -6,14 +6,14 @@ import tempfile
 import unittest
 
 PLANNING = os.path.realpath(os.path.join(os.path.dirname(os.path.abspath(__file__)), ".."))
-sys.path.insert(0, PLANNING)
+sys.path.insert(0, os.path.join(PLANNING, "src"))
 sys.path.insert(0, os.path.join(PLANNING, "tests"))
 
 from explain_mistakes import MODEL, spoiled  # noqa: E402
-from planner import explain  # noqa: E402
-from planner.errors import PlanningError  # noqa: E402
-from planner.explain_snapshots import GONE  # noqa: E402
-from planner.explain_tables import Tables, read_tables  # noqa: E402
+from cloner_planning import explain  # noqa: E402
+from cloner_planning.errors import PlanningError  # noqa: E402
+from cloner_planning.explain_snapshots import GONE  # noqa: E402
+from cloner_planning.explain_tables import Tables, read_tables  # noqa: E402
 
 SNAPSHOT = """snapshot night front 14 end 90
 station 1 next 5 drawn 3 handled 2 source 3 5 2

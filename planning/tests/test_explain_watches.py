@@ -6,13 +6,13 @@ import tempfile
 import unittest
 
 PLANNING = os.path.realpath(os.path.join(os.path.dirname(os.path.abspath(__file__)), ".."))
-sys.path.insert(0, PLANNING)
+sys.path.insert(0, os.path.join(PLANNING, "src"))
 sys.path.insert(0, os.path.join(PLANNING, "tests"))
 
 from explain_mistakes import MODEL, SCRIPT, spoiled  # noqa: E402
-from planner import explain  # noqa: E402
-from planner.errors import PlanningError  # noqa: E402
-from planner.explain_tables import Tables, read_tables  # noqa: E402
+from cloner_planning import explain  # noqa: E402
+from cloner_planning.errors import PlanningError  # noqa: E402
+from cloner_planning.explain_tables import Tables, read_tables  # noqa: E402
 
 WATCHES = """# A third clerk as soon as two wait
 watch base desk wait 2 fork third set desk servers 3

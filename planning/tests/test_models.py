@@ -7,12 +7,12 @@ import unittest
 from unittest import mock
 
 HERE = os.path.dirname(os.path.abspath(__file__))
-sys.path.insert(0, os.path.join(HERE, ".."))
+sys.path.insert(0, os.path.join(HERE, "..", "src"))
 
-from planner import models  # noqa: E402
-from planner.errors import PlanningError  # noqa: E402
-from planner.models import Link, parse_model, read_model  # noqa: E402
-from planner.toml_reader import TomlError, read_toml  # noqa: E402
+from cloner_planning import models  # noqa: E402
+from cloner_planning.errors import PlanningError  # noqa: E402
+from cloner_planning.models import Link, parse_model, read_model  # noqa: E402
+from cloner_planning.toml_reader import TomlError, read_toml  # noqa: E402
 
 EXAMPLES = sorted(glob.glob(os.path.join(HERE, "..", "..", "examples", "*.toml")))
 SMALL = """lookahead = 2

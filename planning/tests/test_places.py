@@ -5,11 +5,11 @@ import sys
 import unittest
 
 HERE = os.path.dirname(os.path.abspath(__file__))
-sys.path.insert(0, os.path.join(HERE, ".."))
+sys.path.insert(0, os.path.join(HERE, "..", "src"))
 
-from planner.errors import PlanningError  # noqa: E402
-from planner.places import Places, printable, read_places  # noqa: E402
-from planner.toml_lines import Other  # noqa: E402
+from cloner_planning.errors import PlanningError  # noqa: E402
+from cloner_planning.places import Places, printable, read_places  # noqa: E402
+from cloner_planning.toml_lines import Other  # noqa: E402
 
 try:
     import tomllib

@@ -8,13 +8,13 @@ import tempfile
 import unittest
 
 PLANNING = os.path.realpath(os.path.join(os.path.dirname(os.path.abspath(__file__)), ".."))
-sys.path.insert(0, PLANNING)
+sys.path.insert(0, os.path.join(PLANNING, "src"))
 
-from planner.command_line import main  # noqa: E402
-from planner.errors import PlanningError  # noqa: E402
-from planner.series import Series, StationReader, read_series, shown, thin  # noqa: E402
-from planner.shares import BINS, Shares  # noqa: E402
-from planner.traces import branches  # noqa: E402
+from cloner_planning.command_line import main  # noqa: E402
+from cloner_planning.errors import PlanningError  # noqa: E402
+from cloner_planning.series import Series, StationReader, read_series, shown, thin  # noqa: E402
+from cloner_planning.shares import BINS, Shares  # noqa: E402
+from cloner_planning.traces import branches  # noqa: E402
 
 try:
     import matplotlib
@@ -227,8 +227,8 @@ class TestPlot(unittest.TestCase):
 
     def plot_apart(self, *words, before="", given=None):
         """Returns the same of a process of its own, after these statements and with this standard input."""
-        code = (f"import sys; {before}sys.path.insert(0, {PLANNING!r}); "
-                "from planner.command_line import main; sys.exit(main(sys.argv[1:]))")
+        code = (f"import sys; {before}sys.path.insert(0, {os.path.join(PLANNING, 'src')!r}); "
+                "from cloner_planning.command_line import main; sys.exit(main(sys.argv[1:]))")
         done = subprocess.run([sys.executable, "-c", code, "plot", *words], input=given, stdout=subprocess.PIPE,
                               stderr=subprocess.PIPE)
         return done.returncode, done.stdout, done.stderr.decode()

@@ -3,9 +3,9 @@ import os
 import sys
 import unittest
 
-sys.path.insert(0, os.path.join(os.path.dirname(os.path.abspath(__file__)), ".."))
+sys.path.insert(0, os.path.join(os.path.dirname(os.path.abspath(__file__)), "..", "src"))
 
-from planner.queues import ServerQueue  # noqa: E402
+from cloner_planning.queues import ServerQueue  # noqa: E402
 
 
 def line_of(time, payload, counts):

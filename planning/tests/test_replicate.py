@@ -8,14 +8,14 @@ import tempfile
 import unittest
 
 PLANNING = os.path.realpath(os.path.join(os.path.dirname(os.path.abspath(__file__)), ".."))
-sys.path.insert(0, PLANNING)
+sys.path.insert(0, os.path.join(PLANNING, "src"))
 
-from planner.errors import PlanningError  # noqa: E402
-from planner.models import parse_model  # noqa: E402
-from planner.replicate import DEFAULT_FIGURES, Progress, Spread, Table  # noqa: E402
-from planner.seed_runs import FIGURES  # noqa: E402
-from planner.seeds import parse_seeds, with_seed  # noqa: E402
-from planner.summary_rows import CSV_KEYS  # noqa: E402
+from cloner_planning.errors import PlanningError  # noqa: E402
+from cloner_planning.models import parse_model  # noqa: E402
+from cloner_planning.replicate import DEFAULT_FIGURES, Progress, Spread, Table  # noqa: E402
+from cloner_planning.seed_runs import FIGURES  # noqa: E402
+from cloner_planning.seeds import parse_seeds, with_seed  # noqa: E402
+from cloner_planning.summary_rows import CSV_KEYS  # noqa: E402
 
 MODEL = """lookahead = 2
 horizon = 20

@@ -4,10 +4,10 @@ import sys
 import tempfile
 import unittest
 
-sys.path.insert(0, os.path.join(os.path.dirname(os.path.abspath(__file__)), ".."))
+sys.path.insert(0, os.path.join(os.path.dirname(os.path.abspath(__file__)), "..", "src"))
 
-from planner.errors import PlanningError  # noqa: E402
-from planner.scripts import Decision, parse_script, read_script  # noqa: E402
+from cloner_planning.errors import PlanningError  # noqa: E402
+from cloner_planning.scripts import Decision, parse_script, read_script  # noqa: E402
 
 PLANS = """# two planners
 set base at 5 desk room 9

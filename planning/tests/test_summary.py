@@ -10,10 +10,10 @@ import unittest
 from contextlib import redirect_stderr, redirect_stdout
 
 HERE = os.path.dirname(os.path.abspath(__file__))
-sys.path.insert(0, os.path.join(HERE, ".."))
+sys.path.insert(0, os.path.join(HERE, "..", "src"))
 
-from planner.command_line import main  # noqa: E402
-from planner.station_figures import waits_of  # noqa: E402
+from cloner_planning.command_line import main  # noqa: E402
+from cloner_planning.station_figures import waits_of  # noqa: E402
 
 EXAMPLES = os.path.join(HERE, "..", "..", "examples")
 

@@ -5,10 +5,10 @@ import sys
 import tempfile
 import unittest
 
-sys.path.insert(0, os.path.join(os.path.dirname(os.path.abspath(__file__)), ".."))
+sys.path.insert(0, os.path.join(os.path.dirname(os.path.abspath(__file__)), "..", "src"))
 
-from planner.errors import PlanningError  # noqa: E402
-from planner.traces import Trace, branches, class_of, open_trace  # noqa: E402
+from cloner_planning.errors import PlanningError  # noqa: E402
+from cloner_planning.traces import Trace, branches, class_of, open_trace  # noqa: E402
 
 BASE = """clone base
 3 gate gate 0 tick sent=1

@@ -5,7 +5,7 @@ from typing import Any, Dict, List, NamedTuple, Optional, Tuple
 
 from .errors import PlanningError
 
-FORMATS = os.path.join(os.path.dirname(os.path.realpath(__file__)), "..", "..", "docs", "FORMATS.md")
+FORMATS = os.path.join(os.path.dirname(os.path.realpath(__file__)), "..", "..", "..", "docs", "FORMATS.md")
 KINDS = ("source", "server", "delay", "router", "sink")
 NAME = re.compile(r"[a-z][a-z0-9_]{0,15}\Z")
 LINK = re.compile(r"\[([^\]]*)\]\(([^)]*)\)")
