@@ -7,7 +7,8 @@
 First it compares the facts that scripts can make with the pages that state them. `--facts` stops there, and
 needs no built program. Then it runs each command of the pages at the top of the checkout, and compares what it
 prints with the page. A command is a block ```sh; what it prints is the block ```text right after it. `cloner`
-is the built program, crates/cloner_cli/out/cloner_cli if no other is named. The status is 1 if anything differs.
+is the built program, crates/cloner_cli/out/cloner_cli if no other is named; `cloner-planning` is the planners' tools
+of the checkout. The status is 1 if anything differs.
 """
 import argparse
 import os
@@ -23,6 +24,7 @@ import glossary
 from crate_list import TOP, read
 
 PROGRAM = os.path.join(TOP, "crates", "cloner_cli", "out", "cloner_cli")
+PLANNING = os.path.join(TOP, "planning", "src")
 PAGES = ["README.md", "examples/README.md", "docs/PLANNING.md", "docs/FORMATS.md"]
 NAMING_PAGES = ["docs/ARCHITECTURE.md", "docs/DECISIONS.md", "docs/EXTENDING.md", "docs/PROVED.md", "docs/THEORY.md"]
 
@@ -72,7 +74,7 @@ def broken_links(page):
 
 def pages():
     """All pages."""
-    for folder in ["", "bench", "docs", "examples", "tools"]:
+    for folder in ["", "bench", "docs", "examples", "planning", "tools"]:
         for file in sorted(os.listdir(os.path.join(TOP, folder))):
             if file.endswith(".md"):
                 yield os.path.join(folder, file)
@@ -134,6 +136,14 @@ def check(pages, path):
     return same, other
 
 
+def put_planning(folder):
+    """Puts the planners' tools of the checkout into a folder of the path."""
+    path = os.path.join(folder, "cloner-planning")
+    with open(path, "w", encoding="utf-8") as file:
+        file.write(f'#!/bin/sh\nPYTHONPATH="{PLANNING}" exec "{sys.executable}" -m cloner_planning "$@"\n')
+    os.chmod(path, 0o755)
+
+
 def main():
     """Checks the facts, and then the pages that are asked for; returns 1 if anything differs."""
     parser = argparse.ArgumentParser(description=__doc__, formatter_class=argparse.RawDescriptionHelpFormatter)
@@ -147,6 +157,7 @@ def main():
         return 1 if wrong else 0
     with tempfile.TemporaryDirectory() as folder:
         shutil.copy(told.bin, os.path.join(folder, "cloner"))
+        put_planning(folder)
         same, other = check(told.pages, folder + os.pathsep + os.environ["PATH"])
     print(f"{same} as shown, {other} otherwise")
     return 1 if other or wrong else 0

@@ -2,46 +2,22 @@
 import contextlib
 import io
 import os
-import re
-import sys
 import tempfile
 import unittest
 
-HERE = os.path.dirname(os.path.abspath(__file__))
-sys.path.insert(0, os.path.join(HERE, "..", "src"))
+from samples import DESK, EXAMPLES, GATE, OUT, model_text
 
-from cloner_planning.check import Study, size  # noqa: E402
-from cloner_planning.check_flow import Clock, Flow, initial, messages, time_of_limit, with_way_out  # noqa: E402
-from cloner_planning.command_line import main  # noqa: E402
-from cloner_planning.errors import PlanningError  # noqa: E402
-from cloner_planning.models import parse_model  # noqa: E402
-from cloner_planning.places import Places  # noqa: E402
-from cloner_planning.scripts import parse_script  # noqa: E402
+from cloner_planning.check import Study, size
+from cloner_planning.check_flow import Clock, Flow, initial, messages, time_of_limit, with_way_out
+from cloner_planning.command_line import main
+from cloner_planning.errors import PlanningError
+from cloner_planning.models import parse_model
+from cloner_planning.places import Places
+from cloner_planning.scripts import parse_script
 
-EXAMPLES = os.path.join(HERE, "..", "..", "examples")
 # the total `alone` of the report that cloner writes for an example
 ALONE = {"clinic": 104362, "emergency": 68753, "calls": 41479, "factory": 118358, "road": 38963, "motorway": 99534,
          "shop": 1656}
-KEYS = {"source": "every = [2, 4]\njobs = 1000000\n", "server": "servers = 2\nroom = 5\nservice = [4, 6]\n",
-        "delay": "hold = [5, 9]\n", "router": "by = \"weights\"\n", "sink": ""}
-
-
-def model_text(*stations, horizon=1000, top=""):
-    """Returns a model of stations (name, kind, ways, other keys).
-
-    Ways are names with weights. The other keys replace the usual ones.
-    """
-    lines = [f"lookahead = 1\nhorizon = {horizon}\n{top}"]
-    for name, kind, ways, *keys in stations:
-        usual = KEYS[kind]
-        for key in keys:
-            usual = re.sub(rf"(?m)^{key.split()[0]} = .*\n", "", usual)
-        links = ", ".join(f'{{ to = "{to}", delay = 1, weight = {weight} }}' for to, weight in ways.items())
-        lines.append(f'[[station]]\nname = "{name}"\nkind = "{kind}"\n{usual}' + "".join(key + "\n" for key in keys)
-                     + (f"link = [{links}]\n" if ways else ""))
-    return "".join(lines)
-
-
 def study_of(text, script=""):
     """Returns the study of a model and a script."""
     return Study(parse_model(text), Places("m", text.encode()), parse_script(script, "s"))
@@ -53,9 +29,6 @@ def warned(text, script="", about=""):
             for warn in study_of(text, script).warnings() if about in warn.text]
 
 
-GATE = ("gate", "source", {"desk": 1})
-DESK = ("desk", "server", {"out": 1})
-OUT = ("out", "sink", {})
 SIMPLE = model_text(GATE, DESK, OUT)
 
 

@@ -4,16 +4,13 @@ import io
 import os
 import shutil
 import subprocess
-import sys
 import tempfile
 import unittest
 
-HERE = os.path.dirname(os.path.abspath(__file__))
-sys.path.insert(0, os.path.join(HERE, "..", "src"))
-
-from cloner_planning.command_line import main  # noqa: E402
-from cloner_planning.diagram import dot_lines, percent, quoted  # noqa: E402
-from cloner_planning.models import parse_model  # noqa: E402
+import samples  # noqa: F401  (puts the package on the path)
+from cloner_planning.command_line import main
+from cloner_planning.diagram import dot_lines, percent, quoted
+from cloner_planning.models import parse_model
 
 MODEL = """format = 2
 lookahead = 1

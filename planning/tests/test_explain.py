@@ -3,21 +3,16 @@ import contextlib
 import io
 import os
 import re
-import subprocess
-import sys
 import tempfile
 import unittest
-from unittest import mock
 
-PLANNING = os.path.realpath(os.path.join(os.path.dirname(os.path.abspath(__file__)), ".."))
-sys.path.insert(0, os.path.join(PLANNING, "src"))
-sys.path.insert(0, os.path.join(PLANNING, "tests"))
+from samples import ended
 
-from explain_mistakes import MODEL, MODEL_MISTAKES, SCRIPT, SCRIPT_MISTAKES, spoiled  # noqa: E402
-from cloner_planning import explain, explain_model  # noqa: E402
-from cloner_planning.command_line import main  # noqa: E402
-from cloner_planning.errors import PlanningError  # noqa: E402
-from cloner_planning.explain_tables import (  # noqa: E402
+from explain_mistakes import MODEL, MODEL_MISTAKES, SCRIPT, SCRIPT_MISTAKES, spoiled
+from cloner_planning import explain, explain_model
+from cloner_planning.command_line import main
+from cloner_planning.errors import PlanningError
+from cloner_planning.explain_tables import (
     Rule, Tables, has_type, in_range, read_tables, rule_of, type_of, unlinked)
 
 class Folder(unittest.TestCase):
@@ -52,10 +47,6 @@ class Mistakes(Folder):
                 for part in wanted:
                     self.assertIn(part, text)
                 self.assertNotIn(explain_model.GONE, text)
-
-    def test_models_without_pythons_reader_of_toml(self):
-        with mock.patch.object(explain_model, "tomllib", None):
-            self.test_models()
 
     def test_scripts(self):
         for old, new, said, wanted in SCRIPT_MISTAKES:
@@ -155,9 +146,7 @@ class Statuses(Folder):
 class Entry(Folder):
     def ended(self, text, *words):
         """Returns status, output and error output of the entry script."""
-        entry = [sys.executable, os.path.join(PLANNING, "cloner_planning.py"), "explain", *words]
-        ended = subprocess.run(entry, input=text.encode(), stdout=subprocess.PIPE, stderr=subprocess.PIPE, check=False)
-        return ended.returncode, ended.stdout.decode(), ended.stderr.decode()
+        return ended("explain", *words, text=text)
 
     def test_explains_with_status_1(self):
         self.write(spoiled(MODEL, "servers = 2", "servers = 17"), SCRIPT.encode())
@@ -189,12 +178,12 @@ class Entry(Folder):
         for said, words in [("hello", []), ("cloner: model: refusal 8 at station 2 key servers", [self.model + "x"])]:
             status, output, errors = self.ended(said, *words)
             self.assertEqual((status, output), (2, ""))
-            self.assertRegex(errors, r"\Acloner_planning: [^\n]*\n\Z")
+            self.assertRegex(errors, r"\Acloner-planning: [^\n]*\n\Z")
 
     def test_unknown_letters_on_a_plain_terminal(self):
         self.write(MODEL.encode(), spoiled(SCRIPT, "# What", "# Wh\u00e4t"))
-        with mock.patch.dict(os.environ, {"PYTHONIOENCODING": "ascii"}):
-            status, output, _ = self.ended("cloner: script: refusal 2 at line 1", self.model, self.script)
+        status, output, _ = ended("explain", self.model, self.script, text="cloner: script: refusal 2 at line 1",
+                                  environment={"PYTHONIOENCODING": "ascii"})
         self.assertEqual(status, 1)
         self.assertIn("Wh\\xe4t", output)
 
@@ -202,7 +191,7 @@ class Entry(Folder):
         output = io.StringIO()
         with contextlib.redirect_stdout(output):
             self.assertEqual(main(["explain", "--help"]), 0)
-        self.assertIn("ERROR || cloner_planning.py explain", output.getvalue())
+        self.assertIn("ERROR || cloner-planning explain", output.getvalue())
 
 
 class TablesOfFormats(unittest.TestCase):

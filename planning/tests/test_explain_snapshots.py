@@ -1,19 +1,15 @@
 """explain: deliberate mistakes in a snapshot, with the error lines that docs/FORMATS.md states for them, as text."""
 import os
-import subprocess
-import sys
 import tempfile
 import unittest
 
-PLANNING = os.path.realpath(os.path.join(os.path.dirname(os.path.abspath(__file__)), ".."))
-sys.path.insert(0, os.path.join(PLANNING, "src"))
-sys.path.insert(0, os.path.join(PLANNING, "tests"))
+from samples import ended
 
-from explain_mistakes import MODEL, spoiled  # noqa: E402
-from cloner_planning import explain  # noqa: E402
-from cloner_planning.errors import PlanningError  # noqa: E402
-from cloner_planning.explain_snapshots import GONE  # noqa: E402
-from cloner_planning.explain_tables import Tables, read_tables  # noqa: E402
+from explain_mistakes import MODEL, spoiled
+from cloner_planning import explain
+from cloner_planning.errors import PlanningError
+from cloner_planning.explain_snapshots import GONE
+from cloner_planning.explain_tables import Tables, read_tables
 
 SNAPSHOT = """snapshot night front 14 end 90
 station 1 next 5 drawn 3 handled 2 source 3 5 2
@@ -215,10 +211,9 @@ class Mistakes(Folder):
 class Contents(Folder):
     def described(self):
         """Returns what the entry script prints with nothing on standard input."""
-        entry = [sys.executable, os.path.join(PLANNING, "cloner_planning.py"), "explain", *self.paths.values()]
-        ended = subprocess.run(entry, input=b"", stdout=subprocess.PIPE, stderr=subprocess.PIPE, check=False)
-        self.assertEqual((ended.returncode, ended.stderr), (0, b""))
-        return ended.stdout.decode().replace(self.paths["SNAPSHOT"], "SNAPSHOT").splitlines()
+        status, output, errors = ended("explain", *self.paths.values())
+        self.assertEqual((status, errors), (0, ""))
+        return output.replace(self.paths["SNAPSHOT"], "SNAPSHOT").splitlines()
 
     def test_each_station(self):
         self.assertEqual(self.described(), [

@@ -1,18 +1,14 @@
 """explain: deliberate mistakes in a file of watches, with the error lines that cloner wrote for them, as text."""
 import os
-import subprocess
-import sys
 import tempfile
 import unittest
 
-PLANNING = os.path.realpath(os.path.join(os.path.dirname(os.path.abspath(__file__)), ".."))
-sys.path.insert(0, os.path.join(PLANNING, "src"))
-sys.path.insert(0, os.path.join(PLANNING, "tests"))
+from samples import ended
 
-from explain_mistakes import MODEL, SCRIPT, spoiled  # noqa: E402
-from cloner_planning import explain  # noqa: E402
-from cloner_planning.errors import PlanningError  # noqa: E402
-from cloner_planning.explain_tables import Tables, read_tables  # noqa: E402
+from explain_mistakes import MODEL, SCRIPT, spoiled
+from cloner_planning import explain
+from cloner_planning.errors import PlanningError
+from cloner_planning.explain_tables import Tables, read_tables
 
 WATCHES = """# A third clerk as soon as two wait
 watch base desk wait 2 fork third set desk servers 3
@@ -136,10 +132,9 @@ class Mistakes(Folder):
 class Meanings(Folder):
     def described(self):
         """Returns what the entry script prints with nothing on standard input."""
-        entry = [sys.executable, os.path.join(PLANNING, "cloner_planning.py"), "explain", *self.paths.values()]
-        ended = subprocess.run(entry, input=b"", stdout=subprocess.PIPE, stderr=subprocess.PIPE, check=False)
-        self.assertEqual((ended.returncode, ended.stderr), (0, b""))
-        return ended.stdout.decode().replace(self.paths["WATCHES"], "WATCHES").splitlines()
+        status, output, errors = ended("explain", *self.paths.values())
+        self.assertEqual((status, errors), (0, ""))
+        return output.replace(self.paths["WATCHES"], "WATCHES").splitlines()
 
     def test_each_watch(self):
         lines = self.described()

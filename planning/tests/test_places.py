@@ -1,22 +1,20 @@
 """places and toml_lines: the line of each key of a model, in every form that TOML 1.1 has, and a text's first fault."""
 import glob
 import os
-import sys
 import unittest
 
-HERE = os.path.dirname(os.path.abspath(__file__))
-sys.path.insert(0, os.path.join(HERE, "..", "src"))
+from samples import EXAMPLES, TESTS
 
-from cloner_planning.errors import PlanningError  # noqa: E402
-from cloner_planning.places import Places, printable, read_places  # noqa: E402
-from cloner_planning.toml_lines import Other  # noqa: E402
+from cloner_planning.errors import PlanningError
+from cloner_planning.places import Places, printable, read_places
+from cloner_planning.toml_lines import Other
 
 try:
     import tomllib
 except ImportError:  # before Python 3.11
     tomllib = None
 
-EXAMPLES = sorted(glob.glob(os.path.join(HERE, "..", "..", "examples", "*.toml")))
+MODELS = sorted(glob.glob(os.path.join(EXAMPLES, "*.toml")))
 FORMS = """# [[station]]
 lookahead = 1 # = 2
 'horizon' = 0x1_0
@@ -151,7 +149,7 @@ class Lines(unittest.TestCase):
 
     def test_a_file_that_cannot_be_read(self):
         with self.assertRaises(PlanningError):
-            read_places(HERE)
+            read_places(TESTS)
 
     def test_a_file_that_is_too_long(self):
         places = Places("x", b"#" * 1_048_577)
@@ -190,25 +188,12 @@ class PythonsReader(unittest.TestCase):
         self.assertEqual((data["x"]["y"], data["a"]), ({"k": float("inf")}, [{"b": {"n": 1}}, {}]))
 
     @unittest.skipUnless(tomllib, "Python's reader of TOML is there from 3.11 on")
-    def test_the_earlier_form_of_valid_texts_is_read_alike(self):
-        texts = [FORMS, ZOO.replace("\\e", "").replace("07:32\n", "07:32:00\n")]
-        for path in EXAMPLES:
-            with open(path, encoding="utf-8") as file:
-                texts.append(file.read())
-        for text in texts:
-            places = places_of(text)
-            form = places.earlier_form()
-            self.assertIsNone(places.fault)
-            self.assertEqual(len(form), len(text))
-            self.assertEqual(repr(plain(tomllib.loads(form))), repr(plain(places.data)))
-
-    @unittest.skipUnless(tomllib, "Python's reader of TOML is there from 3.11 on")
     def test_the_faults_are_faults_there(self):
         for text, _, _, reason in FAULTS:
             if "64-bit" in reason or "80 deep" in reason:
                 continue
             with self.subTest(text=text), self.assertRaises(tomllib.TOMLDecodeError):
-                tomllib.loads(places_of(text).earlier_form())
+                tomllib.loads(text)
 
 
 if __name__ == "__main__":

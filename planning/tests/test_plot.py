@@ -7,65 +7,19 @@ import sys
 import tempfile
 import unittest
 
-PLANNING = os.path.realpath(os.path.join(os.path.dirname(os.path.abspath(__file__)), ".."))
-sys.path.insert(0, os.path.join(PLANNING, "src"))
+from samples import MODEL, SOURCES, TRACE
 
-from cloner_planning.command_line import main  # noqa: E402
-from cloner_planning.errors import PlanningError  # noqa: E402
-from cloner_planning.series import Series, StationReader, read_series, shown, thin  # noqa: E402
-from cloner_planning.shares import BINS, Shares  # noqa: E402
-from cloner_planning.traces import branches  # noqa: E402
+from cloner_planning.command_line import main
+from cloner_planning.errors import PlanningError
+from cloner_planning.series import Series, StationReader, read_series, shown, thin
+from cloner_planning.shares import BINS, Shares
+from cloner_planning.traces import branches
 
 try:
     import matplotlib
 except ImportError:
     matplotlib = None
 
-# the first example of docs/FORMATS.md
-TRACE = """clone base
-3 gate gate 0 tick sent=1
-5 desk gate 1 job gate.0 busy=1 wait=0 done=0 lost=0
-6 gate gate 2 tick sent=2
-8 desk gate 3 job gate.1 busy=1 wait=1 done=0 lost=0
-9 desk desk 0 done gate.0 busy=1 wait=0 done=1 lost=0
-11 out desk 1 job gate.0 got=1 stay=8
-13 desk desk 2 done gate.1 busy=0 wait=0 done=2 lost=0
-15 out desk 3 job gate.1 got=2 stay=17
-clone fast
-3 gate gate 0 tick sent=1
-5 desk gate 1 job gate.0 busy=1 wait=0 done=0 lost=0
-6 gate gate 2 tick sent=2
-8 desk analyst 0 set service 2 2 busy=1 wait=0 done=0 lost=0
-8 desk gate 3 job gate.1 busy=1 wait=1 done=0 lost=0
-9 desk desk 0 done gate.0 busy=1 wait=0 done=1 lost=0
-11 out desk 1 job gate.0 got=1 stay=8
-11 desk desk 2 done gate.1 busy=0 wait=0 done=2 lost=0
-13 out desk 3 job gate.1 got=2 stay=15
-report
-gate copies=1 handled=2 alone=4
-desk copies=2 handled=8 alone=9
-out copies=2 handled=3 alone=4
-total handled=13 alone=17
-"""
-MODEL = """lookahead = 2
-horizon = 20
-[[station]]
-name = "gate"
-kind = "source"
-every = [3, 3]
-jobs = 2
-link = [{ to = "desk", delay = 2 }]
-[[station]]
-name = "desk"
-kind = "server"
-servers = 1
-room = 5
-service = [4, 4]
-link = [{ to = "out", delay = 2 }]
-[[station]]
-name = "out"
-kind = "sink"
-"""
 JOURNAL = "journal 1 1\n# front 20\nanalyst main\nfork fast from base\nlooks 0\n"
 
 
@@ -227,7 +181,7 @@ class TestPlot(unittest.TestCase):
 
     def plot_apart(self, *words, before="", given=None):
         """Returns the same of a process of its own, after these statements and with this standard input."""
-        code = (f"import sys; {before}sys.path.insert(0, {os.path.join(PLANNING, 'src')!r}); "
+        code = (f"import sys; {before}sys.path.insert(0, {SOURCES!r}); "
                 "from cloner_planning.command_line import main; sys.exit(main(sys.argv[1:]))")
         done = subprocess.run([sys.executable, "-c", code, "plot", *words], input=given, stdout=subprocess.PIPE,
                               stderr=subprocess.PIPE)

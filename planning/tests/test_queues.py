@@ -1,11 +1,8 @@
 """The replay of one server's line, on sequences whose services are worked out by hand."""
-import os
-import sys
 import unittest
 
-sys.path.insert(0, os.path.join(os.path.dirname(os.path.abspath(__file__)), "..", "src"))
-
-from cloner_planning.queues import ServerQueue  # noqa: E402
+import samples  # noqa: F401  (puts the package on the path)
+from cloner_planning.queues import ServerQueue
 
 
 def line_of(time, payload, counts):

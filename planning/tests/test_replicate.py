@@ -2,42 +2,21 @@
 import csv
 import io
 import os
-import subprocess
 import sys
 import tempfile
 import unittest
 
-PLANNING = os.path.realpath(os.path.join(os.path.dirname(os.path.abspath(__file__)), ".."))
-sys.path.insert(0, os.path.join(PLANNING, "src"))
+import samples
+from samples import SCRIPT, ended
 
-from cloner_planning.errors import PlanningError  # noqa: E402
-from cloner_planning.models import parse_model  # noqa: E402
-from cloner_planning.replicate import DEFAULT_FIGURES, Progress, Spread, Table  # noqa: E402
-from cloner_planning.seed_runs import FIGURES  # noqa: E402
-from cloner_planning.seeds import parse_seeds, with_seed  # noqa: E402
-from cloner_planning.summary_rows import CSV_KEYS  # noqa: E402
+from cloner_planning.errors import PlanningError
+from cloner_planning.models import parse_model
+from cloner_planning.replicate import DEFAULT_FIGURES, Progress, Spread, Table
+from cloner_planning.seed_runs import FIGURES
+from cloner_planning.seeds import parse_seeds, with_seed
+from cloner_planning.summary_rows import CSV_KEYS
 
-MODEL = """lookahead = 2
-horizon = 20
-seed = 100 # not this: seed = 5
-[[station]]
-name = "gate"
-kind = "source"
-every = [3, 3]
-jobs = 2
-link = [{ to = "desk", delay = 2 }]
-[[station]]
-name = "desk"
-kind = "server"
-servers = 1
-room = 5
-service = [4, 9]
-link = [{ to = "out", delay = 2 }]
-[[station]]
-name = "out"
-kind = "sink"
-"""
-SCRIPT = "fork fast from base\nset fast at 8 desk service 2 2\n"
+MODEL = samples.MODEL.replace("[4, 4]", "[4, 9]").replace("= 20\n", "= 20\nseed = 100 # not this: seed = 5\n")
 
 # cloner's stand-in. With seed S the second service in base takes 3 + S, in fast 2. So the stays are 8 and 8 + S in
 # base, 8 and 7 in fast, and the desk is busy for 7 + S of 20 in base, for 6 in fast. Seed 7 is one that the model's
@@ -151,10 +130,7 @@ class TestReplicate(unittest.TestCase):
         return path
 
     def replicate(self, *words):
-        command = [sys.executable, os.path.join(PLANNING, "cloner_planning.py"), "replicate", self.model, self.script,
-                   "--bin", self.program, "--jobs", "2", *words]
-        done = subprocess.run(command, stdout=subprocess.PIPE, stderr=subprocess.PIPE, encoding="ascii")
-        return done.returncode, done.stdout, done.stderr
+        return ended("replicate", self.model, self.script, "--bin", self.program, "--jobs", "2", *words)
 
     def test_table(self):
         status, output, errors = self.replicate("--seeds", "1..3", "--figures", "stay,used", "--stations", "out,desk")
@@ -204,19 +180,19 @@ class TestReplicate(unittest.TestCase):
         status, output, errors = self.replicate("--seeds", "1,7,2")
         self.assertEqual((status, output), (2, ""))
         self.assertEqual(errors.split("\n")[-2],
-                         "cloner_planning: seed 7: cloner: limit 3 met at station desk in clone base")
+                         "cloner-planning: seed 7: cloner: limit 3 met at station desk in clone base")
 
     def test_a_trace_that_is_wrong(self):
         status, _, errors = self.replicate("--seeds", "8")
         self.assertEqual(status, 2)
-        self.assertRegex(errors, "^cloner_planning: seed 8: line 9 of the trace: .*\n$")
+        self.assertRegex(errors, "^cloner-planning: seed 8: line 9 of the trace: .*\n$")
 
     def test_a_program_that_writes_for_ever(self):
         self.program = self.file("endless", f"#!{sys.executable}\nwhile True:\n    print('y')\n")
         os.chmod(self.program, 0o755)
         status, _, errors = self.replicate("--seeds", "1")
         self.assertEqual(status, 2)
-        self.assertRegex(errors, "^cloner_planning: seed 1: line 1 of the trace: .*\n$")
+        self.assertRegex(errors, "^cloner-planning: seed 1: line 1 of the trace: .*\n$")
 
     def test_refusals(self):
         for words, part in ((["--figures", "p5"], "no figure p5"), (["--stations", "gate"], "no server or sink gate"),

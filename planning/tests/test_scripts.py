@@ -1,13 +1,11 @@
 """The reader of scripts: the grammar, and what each branch has of the decisions."""
 import os
-import sys
 import tempfile
 import unittest
 
-sys.path.insert(0, os.path.join(os.path.dirname(os.path.abspath(__file__)), "..", "src"))
-
-from cloner_planning.errors import PlanningError  # noqa: E402
-from cloner_planning.scripts import Decision, parse_script, read_script  # noqa: E402
+import samples  # noqa: F401  (puts the package on the path)
+from cloner_planning.errors import PlanningError
+from cloner_planning.scripts import Decision, parse_script, read_script
 
 PLANS = """# two planners
 set base at 5 desk room 9

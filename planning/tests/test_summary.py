@@ -2,20 +2,16 @@
 import csv
 import io
 import os
-import shutil
 import subprocess
-import sys
 import tempfile
 import unittest
 from contextlib import redirect_stderr, redirect_stdout
 
-HERE = os.path.dirname(os.path.abspath(__file__))
-sys.path.insert(0, os.path.join(HERE, "..", "src"))
+from samples import PROGRAM, example, needs_program
 
-from cloner_planning.command_line import main  # noqa: E402
-from cloner_planning.station_figures import waits_of  # noqa: E402
+from cloner_planning.command_line import main
+from cloner_planning.station_figures import waits_of
 
-EXAMPLES = os.path.join(HERE, "..", "..", "examples")
 
 MODEL = """lookahead = 1
 horizon = 20
@@ -305,7 +301,7 @@ class Refusals(Case):
         status, output, notes = self.call(*words)
         self.assertEqual((status, output), (2, ""))
         lines = notes.splitlines()
-        self.assertTrue(all(line.startswith("cloner_planning: ") for line in lines), notes)
+        self.assertTrue(all(line.startswith("cloner-planning: ") for line in lines), notes)
         return lines[-1]
 
     def test_spans(self):
@@ -358,11 +354,11 @@ class Percentiles(unittest.TestCase):
         self.assertIsNone(waits_of({}, 0))
 
 
-@unittest.skipUnless(shutil.which("cloner"), "there is no cloner on the path")
+@needs_program
 class Clinic(Case):
     def test_the_clinic(self):
-        model, script = (os.path.join(EXAMPLES, "clinic" + end) for end in (".toml", ".txt"))
-        trace = subprocess.run(["cloner", "run", model, script], check=True, stdout=subprocess.PIPE,
+        model, script = (example("clinic" + end) for end in (".toml", ".txt"))
+        trace = subprocess.run([PROGRAM, "run", model, script], check=True, stdout=subprocess.PIPE,
                                universal_newlines=True).stdout
         with open(model, encoding="utf-8") as file:
             rows = self.rows(trace, model=file.read())

@@ -1,14 +1,12 @@
 """The reader of traces: branches, journal, report, and what it refuses."""
 import io
 import os
-import sys
 import tempfile
 import unittest
 
-sys.path.insert(0, os.path.join(os.path.dirname(os.path.abspath(__file__)), "..", "src"))
-
-from cloner_planning.errors import PlanningError  # noqa: E402
-from cloner_planning.traces import Trace, branches, class_of, open_trace  # noqa: E402
+import samples  # noqa: F401  (puts the package on the path)
+from cloner_planning.errors import PlanningError
+from cloner_planning.traces import Trace, branches, class_of, open_trace
 
 BASE = """clone base
 3 gate gate 0 tick sent=1

@@ -12,7 +12,7 @@ import tempfile
 
 TOP = os.path.realpath(os.path.join(os.path.dirname(os.path.abspath(__file__)), "..", ".."))
 BUILT = os.path.join(TOP, "crates", "cloner_cli", "out", "cloner_cli")
-PLANNING = os.path.join(TOP, "planning", "cloner_planning.py")
+SOURCES = os.path.join(TOP, "planning", "src")
 
 
 def program():
@@ -41,7 +41,8 @@ def printed(command, **texts):
             with open(os.path.join(folder, name), "w", encoding="ascii") as file:
                 file.write(text)
         words = [os.path.join(folder, word[1:]) if word.startswith("@") else word for word in command]
-        return subprocess.run(words, stdout=subprocess.PIPE, encoding="ascii", check=True).stdout
+        environment = dict(os.environ, PYTHONPATH=SOURCES)
+        return subprocess.run(words, stdout=subprocess.PIPE, encoding="ascii", check=True, env=environment).stdout
 
 
 def run(model, script=""):
@@ -57,7 +58,7 @@ def traces(output):
 
 def summary(model, output):
     """Returns the rows of `summary` for each branch of a run: dicts by column, by station and class."""
-    command = [sys.executable, PLANNING, "summary", "--csv", "--by-class", "--model", "@model", "@output"]
+    command = [sys.executable, "-m", "cloner_planning", "summary", "--csv", "--by-class", "--model", "@model", "@output"]
     found = {}
     for row in csv.DictReader(printed(command, model=model, output=output).splitlines()):
         found.setdefault(row["branch"], {})[row["station"], row["class"]] = row

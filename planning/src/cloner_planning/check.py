@@ -2,7 +2,8 @@
 import argparse
 from typing import Dict, Iterable, List, NamedTuple, Optional, Tuple
 
-from .check_flow import Clock, Course, Flow, initial, messages, reached, refuse_unknown, setting_of, time_of_limit
+from .check_flow import (
+    Clock, Course, Flow, Values, initial, messages, reached, refuse_unknown, setting_of, time_of_limit)
 from .models import Model, Station, read_model
 from .places import Places, read_places
 from .scripts import Script, parse_script, read_script
@@ -155,7 +156,7 @@ def dry_sources(study: Study) -> List[Warn]:
             if course.branch == "base" and text:
                 line = own[-1].line if own else study.at(station, "jobs")
                 found.append(Warn(bool(own), line, f"source {station.name} {text}"))
-            elif text and own and text != said[study.script.parent(course.branch)]:
+            elif text and own and text != said[study.script.parent(course.branch) or "base"]:
                 found.append(Warn(True, own[-1].line, f"in branch {course.branch}: source {station.name} {text}"))
     return found
 
@@ -167,7 +168,7 @@ def effect_reasons(study: Study, course: Course) -> Dict[int, Optional[str]]:
     clocks = {name: SourceClock(study, name, course.end) for name in course.clocks}
     sets = sorted(study.script.sets(course.branch), key=lambda one: one.at)
     for place, one in enumerate(sets):
-        station, (setting, values) = model.station(one.station), setting_of(one)
+        station, (setting, values) = model.known(one.station), setting_of(one)
         later = [more.line for more in sets[place + 1:] if more.at == one.at and setting_of(more)[0] == setting]
         reason = None
         if one.station not in study.reached:
@@ -194,8 +195,8 @@ class SourceClock:
     """Follows one source from set to set, for the time of its next job."""
 
     def __init__(self, study: Study, name: str, end: int):
-        station = study.model.station(name)
-        self.every = station.every
+        station = study.model.known(name)
+        self.every: Values = station.every
         self.clock = Clock(station.jobs, station.every, end)
         self.at = 0
 
@@ -278,7 +279,7 @@ def overloads(study: Study) -> List[Warn]:
                 lines.setdefault(busy, set_line(course, busy))
     found = []
     for busy, names in branches.items():
-        server = study.model.station(busy.server)
+        server = study.model.known(busy.server)
         what = (f"server {busy.server} gets {busy.percent} per cent of the work that it can do, "
                 f"from {busy.start} to {busy.end}: ")
         what += ("its line grows until the room is full, then jobs are lost" if busy.percent > 100

@@ -5,6 +5,7 @@ The estimate knows means alone: no chance, no time on the way, and no line that 
 from typing import Dict, List, NamedTuple, Optional, Set, Tuple
 
 from .errors import PlanningError
+from .limits import RANGES
 from .models import Model, Station, read_model
 from .scripts import Decision, Script, parse_script, read_script
 
@@ -42,14 +43,11 @@ def initial(model: Model) -> Settings:
     """Returns all that sets may change, as the model states it."""
     settings: Settings = {}
     for station in model.stations:
-        for parameter in ("every", "service", "hold"):
-            value = getattr(station, parameter)
-            if value is not None:
-                settings[station.name, parameter] = value
-        for parameter in ("servers", "room"):
-            value = getattr(station, parameter)
-            if value is not None:
-                settings[station.name, parameter] = (value,)
+        for parameter in RANGES[station.kind]:
+            settings[station.name, parameter] = getattr(station, parameter)
+        if station.kind == "server":
+            settings[station.name, "servers"] = (station.servers,)
+            settings[station.name, "room"] = (station.room,)
         if station.by == "weights":
             for place, link in enumerate(station.links, 1):
                 settings[station.name, "weight", str(place)] = (link.weight,)
@@ -58,7 +56,7 @@ def initial(model: Model) -> Settings:
 
 def setting_of(decision: Decision) -> Tuple[Setting, Values]:
     """Returns what a set changes, and to what."""
-    station, parameter, values = decision.station or "", decision.parameter or "", decision.values or ()
+    station, parameter, values = decision.station, decision.parameter, decision.values
     if parameter == "weight":
         return (station, parameter, str(values[0])), values[1:]
     return (station, parameter), values

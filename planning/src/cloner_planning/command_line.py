@@ -3,16 +3,29 @@ import argparse
 import importlib
 import os
 import sys
-from typing import List, NoReturn, TextIO
+from typing import List, NoReturn, Protocol, TextIO, cast
 
+from . import __version__
 from .errors import PlanningError
 
-COMMANDS = ("summary", "replicate", "plot", "explain", "check", "diagram")
-PROGRAM = "cloner_planning"
+COMMANDS = ("summary", "replicate", "plot", "explain", "check", "diagram", "completion")
+PROGRAM = "cloner-planning"
 PURPOSE = ("Tools for planners, which read what cloner reads and writes. "
            "They are plain Python; nothing of them is proved.")
 WRONG_INPUT = 2
 INTERRUPTED = 130
+
+
+class Command(Protocol):
+    """The module of a subcommand."""
+
+    DESCRIPTION: str
+
+    def add_arguments(self, parser: argparse.ArgumentParser) -> None:
+        """Adds the words of the command line."""
+
+    def run(self, options: argparse.Namespace) -> int:
+        """Does what the options ask for and returns the status."""
 
 
 class Parser(argparse.ArgumentParser):
@@ -23,31 +36,21 @@ class Parser(argparse.ArgumentParser):
         raise PlanningError(f"{self.prog.split()[-1]}: {message}; --help says more")
 
 
-def module_of(command: str):
-    """Returns the module of a subcommand, or None if it is not installed."""
-    name = f"{__package__}.{command}"
-    try:
-        return importlib.import_module(name)
-    except ModuleNotFoundError as fault:
-        if fault.name == name:
-            return None
-        raise PlanningError(f"{command} needs the Python module {fault.name}, which is not installed") from fault
+def module_of(command: str) -> Command:
+    """Returns the module of a subcommand."""
+    return cast(Command, importlib.import_module(f"{__package__}.{command}"))
 
 
 def first_line(command: str) -> str:
     """Returns the first line of a subcommand's description, for the list of commands."""
-    try:
-        module = module_of(command)
-    except PlanningError as fault:
-        return str(fault)
-    return module.DESCRIPTION.strip().split("\n")[0] if module else "not installed"
+    return module_of(command).DESCRIPTION.strip().split("\n")[0]
 
 
 def overview() -> str:
     """Returns the text of `--help`."""
     rows = [f"  {command:<10} {first_line(command)}" for command in COMMANDS]
     return "\n".join([
-        f"usage: {PROGRAM} COMMAND ..., {PROGRAM} COMMAND --help",
+        f"usage: {PROGRAM} COMMAND ..., {PROGRAM} COMMAND --help, {PROGRAM} --version",
         "",
         PURPOSE,
         "",
@@ -57,17 +60,22 @@ def overview() -> str:
     ])
 
 
-def run_command(command: str, words: List[str]) -> int:
-    """Runs a subcommand with its words and returns its status."""
+def parser_of(command: str) -> Parser:
+    """Returns the parser of a subcommand's words."""
     module = module_of(command)
-    if module is None:
-        raise PlanningError(f"{command} is not installed")
     parser = Parser(
         prog=f"{PROGRAM} {command}", description=module.DESCRIPTION,
         formatter_class=argparse.RawDescriptionHelpFormatter, allow_abbrev=False)
     module.add_arguments(parser)
+    return parser
+
+
+def run_command(command: str, words: List[str]) -> int:
+    """Runs a subcommand with its words and returns its status."""
+    module, parser = module_of(command), parser_of(command)
     try:
-        options = parser.parse_args(words)
+        intermixed = getattr(module, "INTERMIXED", False)
+        options = parser.parse_intermixed_args(words) if intermixed else parser.parse_args(words)
     except SystemExit:  # after --help; whatever is wrong raises PlanningError
         return 0
     return module.run(options)
@@ -77,6 +85,9 @@ def dispatch(words: List[str]) -> int:
     """Runs what the words ask for and returns the status."""
     if words and words[0] in ("-h", "--help"):
         print(overview())
+        return 0
+    if words == ["--version"]:
+        print(f"{PROGRAM} {__version__}")
         return 0
     if not words:
         raise PlanningError(f"no command; one of {', '.join(COMMANDS)}, or --help")
@@ -133,3 +144,8 @@ def main(words: List[str]) -> int:
         return report_error(": ".join(str(part) for part in (fault.filename, fault.strerror or fault) if part))
     except KeyboardInterrupt:
         return INTERRUPTED
+
+
+def entry() -> NoReturn:
+    """Runs the command line of the process, and ends it."""
+    sys.exit(main(sys.argv[1:]))

@@ -8,7 +8,7 @@ from .models import Model, Station, read_model
 
 DESCRIPTION = """Draws the stations and links of a model, in the language of Graphviz' dot.
 
-    cloner_planning.py diagram MODEL | dot -Tsvg > network.svg
+    cloner-planning diagram MODEL | dot -Tsvg > network.svg
 
 Each station has its name, kind and parameters, each link its delay. Where a job's link is drawn by chance,
 the link has its share in per cent."""

@@ -8,29 +8,31 @@ from typing import Any, Iterable, List, NamedTuple, Optional, Tuple
 from .check_flow import estimate_station
 from .errors import PlanningError
 from .explain_model import Explainer, Refusal
-from .explain_script import Decisions, Lines, explain_script, read_lines, some
+from .explain_script import Decisions, explain_script, some
 from .explain_snapshots import Snapshots
-from .explain_tables import Status, Tables, is_integer, read_tables
+from .explain_tables import Status, Tables, read_tables
 from .explain_watches import Watches, explain_watches
+from .limits import MAX_LIMIT
 from .names import did_you_mean
-from .places import Places, printable, read_bytes, read_places
+from .places import Places, is_integer, printable, read_bytes, read_places
+from .script_lines import Lines, read_lines
 
 DESCRIPTION = """Says what an error line of cloner means, and where.
 
 The error line is the last line of standard input, so the journal of `live` may precede it:
 
-    cloner run MODEL SCRIPT > TRACES 2> ERROR || cloner_planning.py explain MODEL SCRIPT < ERROR
+    cloner run MODEL SCRIPT > TRACES 2> ERROR || cloner-planning explain MODEL SCRIPT < ERROR
 
 Prints the meaning from docs/FORMATS.md, the line of the file, what is allowed there, and the nearest word. Ends with
 1 after an explanation, with 0 if standard input is empty, with 2 if its last line is no error line of cloner.
 
 With a file of watches and an empty standard input it says what each watch waits for and what its branch changes:
 
-    cloner_planning.py explain MODEL SCRIPT WATCHES < /dev/null
+    cloner-planning explain MODEL SCRIPT WATCHES < /dev/null
 
 For `resume` the second file is the snapshot. With an empty standard input it says what the snapshot holds:
 
-    cloner_planning.py explain MODEL SNAPSHOT < /dev/null"""
+    cloner-planning explain MODEL SNAPSHOT < /dev/null"""
 
 MODEL_LINE = re.compile(r"cloner: model: refusal (\d+) at station (\d+)(?: key ?(.*))?\Z")
 LINE_OF_TEXT = re.compile(r"cloner: (script|decision|watches|watch): refusal (\d+) at line (\d+)\Z")
@@ -38,9 +40,8 @@ SNAPSHOT_LINE = re.compile(r"cloner: snapshot: refusal (\d+) at (\d+)\Z")
 LIMIT_LINE = re.compile(r"cloner: limit (\d+) met at station (\w+) in clone (\w+)\Z")
 CLONE_LINE = re.compile(r"cloner: no clone (\S+)\Z")
 FRONT_LINE = re.compile(rb"# front (\d{1,10})\s*\Z")
-MAX_LINE_BYTES = 4096
+MAX_SAID = 4096
 SUBJECTS = {"script": "a script", "decision": "a decision", "watches": "watches", "watch": "a watch"}
-MAX_LIMIT = 65_536
 ROOM_TO_SPARE = 1.1
 
 
@@ -188,7 +189,7 @@ def explain_limit(groups: Tuple[str, ...], front: Optional[int], files: Files) -
 def needed(station: str, branch: str, limit: int, front: Optional[int], places: Places,
            files: Files) -> Optional[Needed]:
     """Returns what the station would need; from the front if there is one, else from mean rates; None if unknown."""
-    horizon = places.data.get("horizon")
+    horizon: Any = places.data.get("horizon")
     if not is_integer(horizon):
         return None
     if front:
@@ -259,17 +260,18 @@ def read_said(lines: Iterable[bytes]) -> Tuple[str, Optional[int]]:
         found = FRONT_LINE.match(line)
         front = int(found.group(1)) if found else front
         said = line.strip() or said
-    return said[:MAX_LINE_BYTES].decode("utf-8", errors="replace"), front
+    return said[:MAX_SAID].decode("utf-8", errors="replace"), front
 
 
 def described(files: Files) -> List[str]:
     """Returns what the watches wait for, or what the snapshot holds, whichever is named."""
-    if files.watches:
-        return Watches(files.watch_lines(), files.lines(), read_tables(), files.places()).described()
-    lines = files.snapshot_lines() if files.model else None
-    if lines is None or not lines.raw[0].startswith(b"snapshot "):
+    watches, places = files.watch_lines(), files.places()
+    if watches:
+        return Watches(watches, files.lines(), read_tables(), places).described()
+    lines = files.snapshot_lines()
+    if lines is None or places is None or not lines.raw[0].startswith(b"snapshot "):
         return []
-    return Snapshots(lines, read_tables(), files.places()).described()
+    return Snapshots(lines, read_tables(), places).described()
 
 
 def write(lines: List[str]) -> None:

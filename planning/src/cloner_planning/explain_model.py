@@ -2,18 +2,14 @@
 import re
 from typing import Any, Callable, Dict, List, NamedTuple, Optional, Tuple
 
-from .explain_tables import KINDS, Key, Tables, has_type, in_range, is_integer, rule_of, type_of
-from .names import did_you_mean, is_name, nearest, why_no_name
-from .places import Places, size_of
+from .explain_tables import Key, Tables, has_type, in_range, rule_of, type_of
+from .limits import KINDS, MAX_LINKS, MAX_STATIONS
+from .names import NAME_RULE, did_you_mean, is_name, nearest, why_no_name
+from .places import Places, is_integer, size_of
 from .toml_lines import Place
 
-try:
-    import tomllib
-except ImportError:  # before Python 3.11
-    tomllib = None  # type: ignore[assignment]
-
 GONE = "The file as it is now does not have this fault: was it changed after the run, or is it another file?"
-NAME_RULE = "A name has 1 to 16 of a-z, 0-9 and _, the first a letter; no station is called `analyst`."
+STATION_RULE = NAME_RULE.capitalize() + "; no station is called `analyst`."
 SHOWN_KEY = 32
 
 
@@ -128,14 +124,12 @@ class Explainer:
 
     def not_toml(self) -> List[str]:
         """Returns the lines of `NotToml`: where the text stops being TOML, and why."""
-        lines, fault = [], self.places.fault
+        fault = self.places.fault
+        lines: List[str] = []
         if fault:
-            lines = [self.places.shown(fault.opened)] if fault.opened not in (None, fault.line) else []
+            lines = [self.places.shown(fault.opened)] if fault.opened and fault.opened != fault.line else []
             lines += [self.places.shown(fault.line), f"Column {fault.column}: {fault.reason}."]
             lines += self.bracket_hint(fault.reason)
-        said = None if self.places.foreign else self.tomllib_says()
-        if said:
-            lines.append(f"Python's reader of TOML says: {said}")
         return lines or [GONE]
 
     def bracket_hint(self, reason: str) -> List[str]:
@@ -145,28 +139,6 @@ class Explainer:
             if f"`{name.split('.')[-1]}`" in reason and any(re.match(single, line) for line in self.places.lines):
                 return [f"Each begins with two brackets: `[[{name}]]`."]
         return []
-
-    def tomllib_says(self) -> Optional[str]:
-        """Returns the fault that Python's reader finds, with line and column of the file, or None."""
-        if tomllib is None:
-            return None
-        try:
-            tomllib.loads(self.places.earlier_form())
-        except tomllib.TOMLDecodeError as fault:
-            return self.mapped(str(fault))
-        except (RecursionError, ValueError):
-            pass
-        return None
-
-    def mapped(self, said: str) -> str:
-        """Returns what Python's reader says, its line and column turned into those of the file."""
-        found = re.search(r"at line (\d+), column (\d+)", said)
-        if not found:
-            return said
-        before = self.places.earlier_form().split("\n")[:int(found.group(1)) - 1]
-        offset = sum(len(line) + 1 for line in before) + int(found.group(2)) - 1
-        line, column = self.places.line_and_column(offset)
-        return said.replace(found.group(), f"at line {line}, column {column}")
 
     def missing(self) -> List[str]:
         """Returns the lines of `Missing`: the table without the key, and where the key may be instead."""
@@ -269,13 +241,13 @@ class Explainer:
         """Returns the lines of `BadName`: the name or the `to` that is none."""
         name = self.station().get("name")
         if isinstance(name, str) and not is_name(name):
-            return self.at(self.station_place() + ("name",)) + [NAME_RULE] + why_no_name(name)
+            return self.at(self.station_place() + ("name",)) + [STATION_RULE] + why_no_name(name)
         for place, link in self.places.links(self.refusal.station):
             to = link.get("to")
             if isinstance(to, str) and not is_name(to):
                 names = [name for name in self.names() if isinstance(name, str)]
-                return self.at(place + ("to",)) + [NAME_RULE] + why_no_name(to) + did_you_mean(to, names)
-        return self.begin() + [NAME_RULE, GONE]
+                return self.at(place + ("to",)) + [STATION_RULE] + why_no_name(to) + did_you_mean(to, names)
+        return self.begin() + [STATION_RULE, GONE]
 
     def name_twice(self) -> List[str]:
         """Returns the lines of `NameTwice`: both stations."""
@@ -290,7 +262,8 @@ class Explainer:
         """Returns the lines of `OutOfRange`: the value, and its range or words."""
         key = self.refusal.key or ""
         for table in self.tables_with(key):
-            rule, value = rule_of(table.keys[key].type), table.values.get(key)
+            rule = rule_of(table.keys[key].type)
+            value: Any = table.values.get(key)
             if key in table.values and has_type(rule, value) and not in_range(rule, value):
                 lines = self.at(table.place + (key,)) + self.about(key)
                 if rule.form == "pair" and value[0] > value[1]:
@@ -302,9 +275,10 @@ class Explainer:
         """Returns the number of the first refusal of the station's ways, and place and table of its link."""
         names = self.names()
         sources = [table.get("name") for table in self.places.stations() if table.get("kind") == "source"]
-        lookahead = self.places.data.get("lookahead")
+        lookahead: Any = self.places.data.get("lookahead")
         for place, link in self.places.links(self.refusal.station):
-            to, delay = link.get("to"), link.get("delay")
+            to = link.get("to")
+            delay: Any = link.get("delay")
             if to not in names:
                 return 9, place, link
             if to in sources:
@@ -351,10 +325,11 @@ class Explainer:
 
     def too_many(self) -> List[str]:
         """Returns the lines of `TooMany`: the first station or link that is too many."""
-        if self.refusal.station == 0:
-            count, place = len(self.places.stations()), ("station", 65)
-        else:
-            count, place = len(self.places.links(self.refusal.station)), self.station_place() + ("link", 17)
+        count = len(self.places.stations())
+        place: Place = ("station", MAX_STATIONS + 1)
+        if self.refusal.station:
+            count = len(self.places.links(self.refusal.station))
+            place = self.station_place() + ("link", MAX_LINKS + 1)
         here = self.at(place)
         return here + [f"There are {count}; this is the first that is too many."] if here else self.begin() + [GONE]
 
@@ -367,7 +342,7 @@ def near_station(places: Places, word: str) -> List[str]:
         return [f"The stations: {', '.join(names)}."]
     numbers = [number for number, table in enumerate(places.stations(), 1) if table.get("name") == near]
     line = places.line(("station", numbers[0], "name"))
-    return [places.shown(line)] * (line is not None) + [f"Did you mean `{near}`?"]
+    return ([places.shown(line)] if line else []) + [f"Did you mean `{near}`?"]
 
 
 def printed_key(name: str) -> str:

@@ -1,70 +1,15 @@
 """Explains the refusals of a script and of its decisions: which word breaks the rule, and what may have been meant."""
 import re
-from typing import Any, Dict, List, NamedTuple, Optional, Tuple
+from typing import Any, Dict, List, Optional, Tuple
 
 from .explain_model import near_station
-from .explain_tables import NAME, Tables
-from .names import did_you_mean, nearest, why_no_name
-from .places import MAX_FILE_BYTES, Places, printable, read_bytes, size_of
+from .explain_tables import Tables
+from .limits import MAX_ANALYSTS, MAX_BRANCHES, MAX_DECISIONS, MAX_NUMBER, MAX_SETS
+from .names import NAME, NAME_RULE, did_you_mean, nearest, why_no_name
+from .places import Places, printable, size_of
+from .script_lines import Lines, Word, is_number
 
-MAX_NUMBER = 4_294_967_295
-NUMBER = re.compile(r"(0|[1-9][0-9]{0,9})\Z")
-MAX_DECISIONS, MAX_ANALYSTS, MAX_BRANCHES, MAX_SETS = 4096, 16, 256, 256
-NAME_RULE = "a name has 1 to 16 of a-z, 0-9 and _, the first a letter"
 GONE = "This line as it is now does not have this fault: was the file changed after the run, or is it another one?"
-
-
-class Word(NamedTuple):
-    """A word of a line, and its column from 1."""
-
-    text: str
-    column: int
-
-
-class Lines:
-    """The lines of a script or a file of watches."""
-
-    def __init__(self, path: str, data: bytes):
-        self.path = path
-        self.raw = data[:MAX_FILE_BYTES].split(b"\n")
-
-    def text(self, number: int) -> str:
-        """Returns a line, each byte one character; empty if there is none."""
-        raw = self.raw[number - 1] if 1 <= number <= len(self.raw) else b""
-        return (raw[:-1] if raw.endswith(b"\r") else raw).decode("latin-1")
-
-    def shown(self, number: int) -> str:
-        """Returns a line as `PATH:LINE: TEXT`."""
-        text = self.text(number).encode("latin-1").decode("utf-8-sig", errors="replace")
-        return f"{self.path}:{number}: {printable(text)}"
-
-    def words(self, number: int) -> List[Word]:
-        """Returns the words of a line; none if it is empty or a comment."""
-        found = [Word(word.group(), word.start() + 1) for word in re.finditer(r"[^ \t]+", self.text(number))]
-        return [] if found and found[0].text.startswith("#") else found
-
-    def before(self, number: int) -> List[Tuple[int, List[str]]]:
-        """Returns number and words of each line before this one that says something."""
-        said = [(line, [word.text for word in self.words(line)]) for line in range(1, min(number, len(self.raw) + 1))]
-        return [(line, words) for line, words in said if words]
-
-    def forks(self) -> Dict[str, int]:
-        """Returns the line at which each branch is made, the first one if there are several; `base` at 0."""
-        made = {"base": 0}
-        for line, words in self.before(len(self.raw) + 1):
-            if words[0] == "fork" and len(words) == 4:
-                made.setdefault(words[1], line)
-        return made
-
-
-def read_lines(path: str, what: str = "script") -> Lines:
-    """Returns the lines of a script or a file of watches; PlanningError if it cannot be read."""
-    return Lines(path, read_bytes(path, what))
-
-
-def is_number(text: str) -> bool:
-    """Returns whether a word is a number of a script."""
-    return NUMBER.match(text) is not None and int(text) <= MAX_NUMBER
 
 
 def here(word: Word) -> str:
@@ -213,7 +158,8 @@ class Decisions:
     def __init__(self, lines: Lines, tables: Tables, places: Optional[Places]):
         self.lines = lines
         self.parameters = tables.parameters()
-        self.places = places
+        self.places = places or Places("", b"")
+        self.has_model = places is not None
 
     def explain(self, number: int, line: int) -> List[str]:
         """Returns the explanation of `decision: refusal NUMBER at line LINE`."""
@@ -233,7 +179,7 @@ class Decisions:
                             "cut the script by families of branches."]
         if number == 9:
             return shown + [f"`{branch}` has {MAX_SETS} sets at this line, those before its fork included."]
-        if self.places is None:
+        if not self.has_model:
             return shown + ["Give the model's file as well, and its lines are looked up."]
         if self.places.fault:
             return shown + [f"{self.places.path} as it is now is no TOML."]

@@ -2,22 +2,19 @@
 import re
 from typing import Any, Dict, List, NamedTuple, Optional, Tuple
 
-from .explain_script import GONE, MAX_NUMBER, Lines, Word, fault_of_number, here
-from .explain_tables import KINDS, NAME, Tables, in_range, is_integer, rule_of
-from .names import did_you_mean
-from .places import Places, printable, size_of
+from .explain_script import GONE, fault_of_number, here
+from .explain_tables import Tables, in_range, rule_of
+from .limits import (
+    DEFAULT_LIMIT, KINDS, MAX_JOBS, MAX_LINE_BYTES, MAX_NUMBER, MAX_ROOM, MAX_SENDS, MAX_SERVERS, MAX_SETS, MAX_STAY,
+    MAX_STAY_SUM, TIME_BOUND)
+from .names import NAME, did_you_mean
+from .places import Places, is_integer, printable, size_of
+from .script_lines import Lines, Word
 
-MAX_STAY = 2**64 - 1
-MAX_STAY_SUM = 2**48
-TIME_BOUND = 2**31
-MAX_JOBS = 1_000_000
-MAX_BUSY, MAX_WAITING, MAX_SENDS, MAX_SETS = 16, 4096, 16, 256
-MAX_LINE_BYTES = 200
-DEFAULT_LIMIT = 16_384
 NUMBER = re.compile(r"(0|[1-9][0-9]*)\Z")
 JOB = re.compile(r"([0-9]+)\.([0-9]+)\.([0-9]+)\Z")
 RANGES = {"source": "every", "server": "service", "delay": "hold"}
-PAYLOADS = {"tick": [], "job": ["J"], "done": ["J"]}
+PAYLOADS: Dict[str, List[str]] = {"tick": [], "job": ["J"], "done": ["J"]}
 ANOTHER_MODEL = "Is it the snapshot of another model?"
 
 
@@ -25,7 +22,7 @@ class Job(NamedTuple):
     """A job of a snapshot: the number of its source, its count there, and the time at which it was made."""
 
     source: int
-    count: int
+    number: int
     born: int
 
 
@@ -331,7 +328,7 @@ class Snapshots:
 
     def top(self, key: str, default: int) -> int:
         """Returns a number at the top of the model."""
-        found = self.places.data.get(key)
+        found: int = self.places.data.get(key, default)
         return found if is_integer(found) else default
 
     def model_lines(self, *places: Any) -> List[str]:
@@ -381,8 +378,8 @@ class Snapshots:
             return self.model_lines(("station", station, "kind")) + [
                 f"{name} is a {kind} in the model, and here a {said}. {ANOTHER_MODEL}"]
         found = self.unfit_parameters(kind, values, station) + self.unfit_counts(table, values)
-        if values.get("line", 0) > MAX_WAITING:
-            found.append(f"{values['line']:,} jobs wait, and the most are {MAX_WAITING:,}.")
+        if values.get("line", 0) > MAX_ROOM:
+            found.append(f"{values['line']:,} jobs wait, and the most are {MAX_ROOM:,}.")
         if values.get("line") and values["BUSY"] < values["SERVERS"]:
             found.append(f"Jobs wait while a server is free: BUSY is {values['BUSY']}, SERVERS {values['SERVERS']}.")
         return found + [fault for word in self.many(station, "J") for fault in self.unfit_job(job_in(word))]
@@ -405,25 +402,25 @@ class Snapshots:
     def unfit_counts(self, table: Dict[str, Any], values: Dict[str, int]) -> List[str]:
         """Returns the counts that are beyond their bounds."""
         handled, limit = values["handled"], self.top("limit", DEFAULT_LIMIT)
-        jobs = table.get("jobs")
+        jobs: Any = table.get("jobs")
         bounds = [("handled", limit, "the model's `limit`")]
         most_sent, said = MAX_SENDS * (handled + 1), f"{MAX_SENDS} times `handled` + 1"
         bounds += [("next", most_sent, said), ("drawn", most_sent, said)]
         bounds += [(name, handled, "`handled`") for name in ("DONE", "LOST", "PASSED", "GOT")]
         bounds += [("SENT", jobs if is_integer(jobs) else MAX_NUMBER, "the `jobs` of the source")]
-        bounds += [("BUSY", MAX_BUSY, "the most servers"), ("STAY", MAX_STAY_SUM - 1, "the greatest sum")]
+        bounds += [("BUSY", MAX_SERVERS, "the most servers"), ("STAY", MAX_STAY_SUM - 1, "the greatest sum")]
         return [f"{name if name.isupper() else f'`{name}`'} is {values[name]}, and at most {most} may be: {what}."
                 for name, most, what in bounds if values.get(name, 0) > most]
 
     def unfit_job(self, job: Job) -> List[str]:
         """Returns why a job cannot be one of the model's."""
-        said = f"The job {job.source}.{job.count}.{job.born}"
+        said = f"The job {job.source}.{job.number}.{job.born}"
         kind = self.stations[job.source - 1].get("kind") if 1 <= job.source <= len(self.stations) else None
         found = []
         if kind != "source":
             found.append(f"{said} has no source: station {job.source} is "
                          + (f"a {kind}." if kind else "not there."))
-        if job.count >= MAX_JOBS:
+        if job.number >= MAX_JOBS:
             found.append(f"{said} has a count that no source comes to: it is below {MAX_JOBS:,}.")
         horizon = self.top("horizon", TIME_BOUND)
         if job.born >= horizon:
@@ -434,7 +431,8 @@ class Snapshots:
         """Returns a message whose line is of the right form."""
         words = self.texts(self.pending_line + 1 + index)
         job = job_in(words[5]) if words[4] in ("job", "done") else None
-        return Message(*map(int, words[:4]), words[4], job)  # type: ignore[arg-type]
+        time, sender, number, receiver = map(int, words[:4])
+        return Message(time, sender, number, receiver, words[4], job)
 
     def bad_message(self, index: int) -> List[str]:
         """Returns the lines of `BadPending`: all that is wrong with the message."""

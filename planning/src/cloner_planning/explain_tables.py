@@ -1,13 +1,13 @@
 """Reads the tables of docs/FORMATS.md: refusals, statuses, keys, parameters, lines of scripts and of other files."""
 import os
 import re
-from typing import Any, Dict, List, NamedTuple, Optional, Tuple
+from typing import Any, Dict, List, Match, NamedTuple, Optional, Tuple
 
 from .errors import PlanningError
+from .limits import KINDS
+from .places import is_integer
 
-FORMATS = os.path.join(os.path.dirname(os.path.realpath(__file__)), "..", "..", "..", "docs", "FORMATS.md")
-KINDS = ("source", "server", "delay", "router", "sink")
-NAME = re.compile(r"[a-z][a-z0-9_]{0,15}\Z")
+FORMATS = os.path.join(os.path.dirname(os.path.realpath(__file__)), "formats.md")
 LINK = re.compile(r"\[([^\]]*)\]\(([^)]*)\)")
 
 
@@ -128,9 +128,9 @@ def unlinked(text: str) -> str:
     """Returns a text in which each link is its words and its page, or its page alone if there is nothing else."""
     alone = LINK.fullmatch(text)
 
-    def plain(found: Any) -> str:
+    def plain(found: Match[str]) -> str:
         """Returns one link as plain text."""
-        words, target = found.groups()
+        words, target = found.group(1), found.group(2)
         page = "docs/FORMATS.md" + target if target.startswith("#") else "docs/" + target
         return f"see {page}" if alone else page if words.endswith(".md") else f"{words} ({page})"
     return LINK.sub(plain, text)
@@ -174,11 +174,6 @@ def rule_of(text: str) -> Rule:
     return Rule("name" if text.startswith("string") else "other")
 
 
-def is_integer(value: Any) -> bool:
-    """Returns whether a value is a whole number."""
-    return isinstance(value, int) and not isinstance(value, bool)
-
-
 def has_type(rule: Rule, value: Any) -> bool:
     """Returns whether a value has the type of a rule."""
     if rule.form == "integer":
@@ -193,9 +188,9 @@ def has_type(rule: Rule, value: Any) -> bool:
 def in_range(rule: Rule, value: Any) -> bool:
     """Returns whether a value of the right type is in range."""
     if rule.form == "integer":
-        return rule.least <= value <= rule.greatest
+        return bool(rule.least <= value <= rule.greatest)
     if rule.form == "pair":
-        return rule.least <= value[0] <= value[1] <= rule.greatest
+        return bool(rule.least <= value[0] <= value[1] <= rule.greatest)
     if rule.form == "tables":
         return rule.least <= len(value) <= rule.greatest
     return rule.form != "words" or value in rule.words

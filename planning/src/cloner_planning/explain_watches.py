@@ -2,13 +2,13 @@
 from typing import Dict, List, Optional
 
 from .explain_model import near_station
-from .explain_script import (
-    GONE, MAX_BRANCHES, MAX_SETS, BadLine, Decisions, Lines, Word, faults_of_numbers, some, why_not_ascii)
-from .explain_tables import NAME, Tables, is_integer
-from .names import did_you_mean
-from .places import Places, size_of
+from .explain_script import GONE, BadLine, Decisions, faults_of_numbers, some, why_not_ascii
+from .explain_tables import Tables
+from .limits import MAX_BRANCHES, MAX_SETS, MAX_WATCHES
+from .names import NAME, did_you_mean
+from .places import Places, is_integer, size_of
+from .script_lines import Lines, Word
 
-MAX_WATCHES = 255
 SHORTEST_WATCH = 11
 
 
@@ -41,15 +41,17 @@ class Watches:
 
     def __init__(self, lines: Lines, script: Optional[Lines], tables: Tables, places: Optional[Places]):
         self.lines = lines
-        self.script = script
+        self.has_script = script is not None
+        self.script = script or Lines("", b"")
         self.tables = tables
-        self.places = places
+        self.has_model = places is not None
+        self.places = places or Places("", b"")
         self.decisions = Decisions(script or lines, tables, places)
 
     def described(self) -> List[str]:
         """Returns each line that says something, and what it means or why it is no watch."""
         found = []
-        for line, words in self.lines.before(len(self.lines.raw) + 1):
+        for line, words in self.lines.said():
             said = faults_of_line(self.lines.words(line), self.tables) or [self.meaning(line, words)]
             found += [self.lines.shown(line)] + [f"  {part}" for part in said]
         return found
@@ -60,7 +62,7 @@ class Watches:
         jobs = {"0": f"As soon as `{station}` handles a message", "1": f"As soon as a job waits at `{station}`"}
         when = jobs.get(least, f"As soon as {least} jobs wait at `{station}`")
         since = " from its own change on" if branch in self.earlier(line) else ""
-        lookahead = self.places.data.get("lookahead") if self.places and not self.places.fault else None
+        lookahead = None if self.places.fault else self.places.data.get("lookahead")
         later = f"one lookahead ({lookahead})" if is_integer(lookahead) else "one lookahead"
         return (f"{when} in `{branch}`{since}: a branch `{new}` of it is made, with the change "
                 f"`{target} {' '.join(change)}` {later} later.")
@@ -81,14 +83,14 @@ class Watches:
         shown = [self.lines.shown(line), self.meaning(line, words)]
         if number in (6, 7, 8):
             return shown + self.unfit_for_model(number, words)
-        if self.script is None:
+        if not self.has_script:
             return shown + ["Give the script's file as well, and its lines are looked up."]
         unfit = {3: self.unknown_branch, 4: self.name_taken, 5: self.too_many, 9: self.list_full, 12: self.ended}
         return shown + unfit[number](line, words)
 
     def unfit_for_model(self, number: int, words: List[str]) -> List[str]:
         """Returns the lines of `UnknownStation`, `WrongParameter` and `OutOfRange`."""
-        if self.places is None:
+        if not self.has_model:
             return ["Give the model's file as well, and its lines are looked up."]
         if self.places.fault:
             return [f"{self.places.path} as it is now is no TOML."]
@@ -128,7 +130,7 @@ class Watches:
 
     def ended(self, _line: int, words: List[str]) -> List[str]:
         """Returns the lines of `Ended`: the line of the end."""
-        ends = [at for at, said in self.script.before(len(self.script.raw) + 1) if said[:2] == ["end", words[1]]]
+        ends = [at for at, said in self.script.said() if said[:2] == ["end", words[1]]]
         return [f"{self.script.shown(ends[0])}   (its end)"] if ends else [GONE]
 
     def name_taken(self, line: int, words: List[str]) -> List[str]:
@@ -138,7 +140,7 @@ class Watches:
             return ["`base` is there from the start."]
         if made is None and earlier is None:
             return [GONE]
-        shown = self.script.shown(made) if made else self.lines.shown(earlier)
+        shown = self.script.shown(made) if made else self.lines.shown(earlier or 0)
         return [f"{shown}   (it is made here)"]
 
     def too_many(self, line: int, _words: List[str]) -> List[str]:

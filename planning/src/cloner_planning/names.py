@@ -3,7 +3,9 @@ import difflib
 import re
 from typing import Iterable, List, Optional
 
-from .explain_tables import NAME
+NAME_FORM = "[a-z][a-z0-9_]{0,15}"
+NAME = re.compile(NAME_FORM + r"\Z")
+NAME_RULE = "a name has 1 to 16 of a-z, 0-9 and _, the first a letter"
 
 
 def nearest(word: str, words: Iterable[str]) -> Optional[str]:

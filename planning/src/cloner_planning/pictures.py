@@ -1,5 +1,5 @@
 """Draws what series.py and shares.py read. This is the only module that needs matplotlib; plot.py imports it late."""
-from typing import List, Optional, Tuple
+from typing import Any, List, Optional, Tuple
 
 import matplotlib
 from matplotlib.colors import LinearSegmentedColormap
@@ -28,7 +28,7 @@ PALE_TO_SOLID = LinearSegmentedColormap.from_list("alone", ["#DCE7F3", "#6C9BC9"
 TALL_ROW, LOW_ROW, MAX_TALL_ROWS = 0.24, 0.1, 48
 
 
-def write(figure: Figure, output, kind: str) -> None:
+def write(figure: Figure, output: Any, kind: str) -> None:
     """Writes a picture into a file, without a date or the library's version."""
     facts = {"Date": None, "Creator": None} if kind == "svg" else {"Software": None}
     figure.savefig(output, format=kind, dpi=130, metadata=facts)
@@ -54,14 +54,14 @@ def draw_series(series: List[Series], what: str, station: str, span: Tuple[int, 
     return figure
 
 
-def whole_numbers(axes) -> None:
+def whole_numbers(axes: Any) -> None:
     """Labels the axes with whole numbers, written in full."""
     axes.ticklabel_format(style="plain", useOffset=False)
     for axis in (axes.xaxis, axes.yaxis):
         axis.get_major_locator().set_params(integer=True)
 
 
-def draw_branch(axes, one: Series, place: int, what: str, span: Tuple[int, int]) -> None:
+def draw_branch(axes: Any, one: Series, place: int, what: str, span: Tuple[int, int]) -> None:
     """Draws one branch. Earlier branches cover later ones."""
     points = shown(one, what, span[0], span[1], COLUMNS)
     times, values = [time for time, _ in points], [value for _, value in points]

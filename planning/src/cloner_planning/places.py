@@ -5,9 +5,9 @@ from bisect import bisect_right
 from typing import Any, Dict, List, NamedTuple, Optional, Tuple
 
 from .errors import PlanningError
+from .limits import MAX_FILE_BYTES
 from .toml_lines import Fault, Place, Reader
 
-MAX_FILE_BYTES = 1_048_576
 SHOWN = 160
 UNSHOWN = re.compile("[\x00-\x1f\x7f-\x9f]")
 
@@ -58,7 +58,6 @@ class Places:
         self.foreign = first_foreign(data)
         self.fault = self.foreign or self.fault
         self.data = reader.data
-        self._later = reader.later
         self.entries = {place: Entry(*self.line_and_column(offset), value)
                         for place, (offset, value) in reader.found.items()}
 
@@ -81,13 +80,6 @@ class Places:
         text = self.lines[line - 1] if 1 <= line <= len(self.lines) else ""
         return f"{self.path}:{line}: {printable(text)}"
 
-    def earlier_form(self) -> str:
-        """Returns the text with all blanked out that only TOML 1.1 has; every offset stays the same."""
-        letters = list(self.text)
-        for start, end in self._later:
-            letters[start:end] = " " * (end - start)
-        return "".join(letters)
-
     def stations(self) -> List[Dict[str, Any]]:
         """Returns the tables of the stations, the first one is number 1; without elements that are no tables."""
         found = self.data.get("station")
@@ -101,6 +93,11 @@ class Places:
             return []
         return [(("station", station, "link", number), link)
                 for number, link in enumerate(found, 1) if isinstance(link, dict)]
+
+
+def is_integer(value: Any) -> bool:
+    """Returns whether a value is a whole number; true and false are none."""
+    return isinstance(value, int) and not isinstance(value, bool)
 
 
 def printable(text: str) -> str:

@@ -1,7 +1,7 @@
 """plot: pictures of traces. One matplotlib makes the same SVG of the same trace, byte for byte."""
 import argparse
 import sys
-from typing import Optional, Tuple
+from typing import Any, Callable, Iterator, Optional, Tuple, TypeVar
 
 from . import models, traces
 from .choices import whole_number
@@ -24,6 +24,8 @@ plot TRACE --alone [BRANCH ..]
   is the share of all the branch's messages. A trace does not show when a job was made, so the sum can be a little
   below `handled` in the report."""
 
+Read = TypeVar("Read")
+INTERMIXED = True  # options may come between the words
 NO_MATPLOTLIB = ("plot draws with matplotlib, which this Python does not have: apt-get install python3-matplotlib, "
                  "then run plot with /usr/bin/python3")
 
@@ -42,10 +44,9 @@ def add_arguments(parser: argparse.ArgumentParser) -> None:
     parser.add_argument("--model", metavar="FILE", help="the model: the picture ends at its horizon, and a dotted line "
                         "shows the station's servers or room, if any branch reaches them")
     parser.add_argument("--output", default="-", metavar="FILE", help="a file .svg or .png; - is the standard output")
-    parser.parse_args = parser.parse_intermixed_args  # options may come between the words
 
 
-def pictures_module():
+def pictures_module() -> Any:
     """Returns the module that draws, if there is matplotlib."""
     try:
         import matplotlib.figure  # noqa: F401  (late: only plot needs it)
@@ -63,7 +64,7 @@ def kind_of_file(output: str) -> str:
     return kind
 
 
-def read_trace(path: str, read):
+def read_trace(path: str, read: Callable[[Iterator[Tuple[str, Iterator[str]]]], Read]) -> Read:
     """Returns what `read` makes of the trace's branches, and takes the standard input to its end."""
     with traces.open_trace(path) as file:
         result = read(traces.branches(file))
@@ -90,7 +91,7 @@ def capacity(station: models.Station, figure: str) -> Optional[Tuple[int, str]]:
     return (station.room, f"model: room {station.room}") if figure == "line" else None
 
 
-def station_picture(options: argparse.Namespace, model: Optional[models.Model], pictures):
+def station_picture(options: argparse.Namespace, model: Optional[models.Model], pictures: Any) -> Any:
     """Returns the picture of one figure of a station."""
     name, branches = options.words[0], options.words[1:]
     station = model.station(name) if model else None
@@ -107,7 +108,7 @@ def station_picture(options: argparse.Namespace, model: Optional[models.Model], 
     return pictures.draw_series(series, reader.figure, name, span, limit)
 
 
-def alone_picture(options: argparse.Namespace, model: Optional[models.Model], pictures):
+def alone_picture(options: argparse.Namespace, model: Optional[models.Model], pictures: Any) -> Any:
     """Returns the picture of what each branch computed alone."""
     if options.what:
         raise PlanningError("--alone and --what exclude each other")

@@ -6,7 +6,7 @@ import os
 import shutil
 import sys
 import tempfile
-from typing import Dict, Iterator, List, Optional, Sequence, TextIO, Tuple
+from typing import Dict, Iterable, Iterator, List, Optional, Sequence, TextIO, Tuple
 
 from .choices import chosen, names_in, whole_number
 from .errors import PlanningError
@@ -97,8 +97,8 @@ class Spread:
         """Adds a value; None is none."""
         if value is None:
             return
-        self.least = value if self.count == 0 else min(self.least, value)
-        self.greatest = value if self.count == 0 else max(self.greatest, value)
+        self.least = value if self.least is None else min(self.least, value)
+        self.greatest = value if self.greatest is None else max(self.greatest, value)
         self.count += 1
         self.total += value
         self.above += value > 0
@@ -141,6 +141,17 @@ def row_of(station: str, figure: str, branch: str, own: Spread, more: Spread) ->
             "above": f"{more.above} of {more.count}" if more.count else None}
 
 
+class Writer:
+    """Writes lines of CSV."""
+
+    def __init__(self, output: TextIO) -> None:
+        self._writer = csv.writer(output, lineterminator="\n")
+
+    def rows(self, rows: Iterable[Sequence[object]]) -> None:
+        """Writes a line for each row."""
+        self._writer.writerows(rows)
+
+
 class Progress:
     """Says on standard error how many runs are done: in one line at a terminal, else at each tenth."""
 
@@ -166,14 +177,17 @@ class Progress:
 
 
 @contextlib.contextmanager
-def csv_output(name: Optional[str]):
+def csv_output(name: Optional[str]) -> Iterator[Optional[Writer]]:
     """Yields a writer of the CSV after writing its head; None without a file."""
     if name is None:
         yield None
         return
-    with contextlib.nullcontext(sys.stdout) if name == "-" else open(name, "w", encoding="ascii", newline="") as output:
-        writer = csv.writer(output, lineterminator="\n")
-        writer.writerow(CSV_HEAD)
+    with contextlib.ExitStack() as stack:
+        output: TextIO = sys.stdout
+        if name != "-":
+            output = stack.enter_context(open(name, "w", encoding="ascii", newline=""))
+        writer = Writer(output)
+        writer.rows([CSV_HEAD])
         yield writer
 
 
@@ -212,7 +226,7 @@ def replicate(plan: Plan, options: argparse.Namespace) -> Table:
             for seed, values in run_seeds(plan, options.seeds, jobs):
                 table.add(values)
                 if writer:
-                    writer.writerows((seed, *names, shown(value, 4, ""))
+                    writer.rows((seed, *names, shown(value, 4, ""))
                                      for *names, value in values if names[0] in options.branches)
                 progress.step()
     finally:

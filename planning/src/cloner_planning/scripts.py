@@ -4,31 +4,29 @@ The grammar is that of docs/FORMATS.md, and a line that breaks it is refused her
 those are made that branches depend on: a branch that is unknown, there already, or ended. They are made when a branch
 is asked for.
 """
-import re
 from typing import Dict, List, NamedTuple, Optional, Tuple
 
 from .errors import PlanningError
+from .limits import VALUES
+from .names import NAME
+from .script_lines import Lines, is_number, read_ascii_lines, refuse_foreign
 
 SHOWN = 8
-MAX_NUMBER = 4_294_967_295
-NAME = re.compile(r"[a-z][a-z0-9_]{0,15}\Z")
-NUMBER = re.compile(r"(?:0|[1-9][0-9]{0,9})\Z")
-VALUES = {"every": 2, "service": 2, "hold": 2, "weight": 2, "servers": 1, "room": 1}
 
 
 class Decision(NamedTuple):
-    """One fork, set, end or look of a script. Fields that its kind does not have are None."""
+    """One fork, set, end or look of a script. Fields that its kind does not have are empty or 0."""
 
     line: int
     analyst: str
     kind: str
     clone: str
-    new: Optional[str] = None
-    old: Optional[str] = None
-    at: Optional[int] = None
-    station: Optional[str] = None
-    parameter: Optional[str] = None
-    values: Optional[Tuple[int, ...]] = None
+    new: str = ""
+    old: str = ""
+    at: int = 0
+    station: str = ""
+    parameter: str = ""
+    values: Tuple[int, ...] = ()
 
 
 class Branch:
@@ -109,7 +107,7 @@ def name_in(word: str) -> str:
 
 def number_in(word: str) -> int:
     """Returns the number that a word is; ValueError otherwise."""
-    if not NUMBER.match(word) or int(word) > MAX_NUMBER:
+    if not is_number(word):
         raise ValueError(f"{word} is no number")
     return int(word)
 
@@ -131,40 +129,28 @@ def decision_in(words: List[str], line: int, analyst: str) -> Decision:
     raise ValueError("no fork, set, end, look or analyst line")
 
 
-def words_of(line: str) -> List[str]:
-    """Returns the words of a line: only spaces and tabs part them, and one CR at the end is dropped."""
-    if line.endswith("\r"):
-        line = line[:-1]
-    return [word for word in line.replace("\t", " ").split(" ") if word]
-
-
 def parse_script(text: str, path: str = "script") -> Script:
     """Returns the script that a text says; PlanningError for the first line that has no known form."""
+    data = text.encode("utf-8", "surrogatepass")
+    refuse_foreign(data, path, "script")
+    return script_in(Lines(path, data))
+
+
+def script_in(lines: Lines) -> Script:
+    """Returns the script that these lines say; PlanningError for the first one that has no known form."""
     decisions = []
     analyst = "main"
-    for number, line in enumerate(text.split("\n"), 1):
-        words = words_of(line)
-        if not words or words[0].startswith("#"):
-            continue
+    for number, words in lines.said():
         try:
             if words[0] == "analyst" and len(words) == 2:
                 analyst = name_in(words[1])
             else:
                 decisions.append(decision_in(words, number, analyst))
         except ValueError as fault:
-            raise PlanningError(f"{path}: line {number}: {fault}: {' '.join(words)[:80]}") from None
-    return Script(decisions, path)
+            raise PlanningError(f"{lines.path}: line {number}: {fault}: {' '.join(words)[:80]}") from None
+    return Script(decisions, lines.path)
 
 
 def read_script(path: str) -> Script:
     """Returns the script in a file; PlanningError if it cannot be read or breaks the grammar."""
-    try:
-        with open(path, "rb") as file:
-            text = file.read()
-    except OSError as fault:
-        raise PlanningError(f"cannot read the script {path}: {fault.strerror}") from None
-    try:
-        return parse_script(text.decode("ascii"), path)
-    except UnicodeDecodeError as fault:
-        line = text.count(b"\n", 0, fault.start) + 1
-        raise PlanningError(f"{path}: line {line}: a script is plain ASCII") from None
+    return script_in(read_ascii_lines(path, "script"))

@@ -4,10 +4,10 @@ import signal
 import subprocess
 import threading
 from collections import deque
-from concurrent.futures import ProcessPoolExecutor
+from concurrent.futures import Future, ProcessPoolExecutor
 from concurrent.futures.process import BrokenProcessPool
 from multiprocessing import connection, parent_process
-from typing import Iterable, Iterator, List, NamedTuple, Sequence, Tuple, Union
+from typing import IO, Deque, Iterable, Iterator, List, NamedTuple, Optional, Sequence, TextIO, Tuple, Union, cast
 
 from .errors import PlanningError
 from .models import Model
@@ -72,34 +72,48 @@ def run_seed(plan: Plan, seed: int) -> List[Value]:
     with open(path + ".errors", "w+", encoding="utf-8", errors="replace") as errors:
         command = [plan.program, "run", "--", path + ".toml", plan.script_path]
         try:
-            process = subprocess.Popen(command, stdin=subprocess.DEVNULL, stdout=subprocess.PIPE, stderr=errors,
-                                       encoding="latin-1")
-        except OSError as fault:
-            raise PlanningError(f"cannot run {plan.program}: {fault.strerror}") from None
-        fault, killed, values = None, False, []
-        with process:
-            try:
-                values = values_of(plan, process.stdout)
-            except PlanningError as error:
-                fault = error
-                killed = process.stdout.read(1) != ""  # what still writes is not waited for
-                if killed:
-                    process.kill()
-        errors.seek(0)
-        complaint = errors.readline().strip() or f"{plan.program} ended with status {process.returncode}"
-    if process.returncode and not killed:
-        raise PlanningError(f"seed {seed}: {complaint}")
-    if fault:
-        raise PlanningError(f"seed {seed}: {fault}")
+            values = read_run(plan, command, errors)
+        except PlanningError as fault:
+            raise PlanningError(f"seed {seed}: {fault}") from None
     os.remove(path + ".toml")
+    return values
+
+
+def read_run(plan: Plan, command: List[str], errors: TextIO) -> List[Value]:
+    """Runs the program and returns the values of its output; PlanningError if it fails or writes something else."""
+    try:
+        process = subprocess.Popen(command, stdin=subprocess.DEVNULL, stdout=subprocess.PIPE, stderr=errors,
+                                   encoding="latin-1")
+    except OSError as fault:
+        raise PlanningError(f"cannot run {plan.program}: {fault.strerror}") from None
+    wrong: Optional[PlanningError] = None
+    killed = False
+    values: List[Value] = []
+    output = cast(IO[str], process.stdout)
+    with process:
+        try:
+            values = values_of(plan, output)
+        except PlanningError as fault:
+            wrong = fault
+            killed = output.read(1) != ""  # what still writes is not waited for
+            if killed:
+                process.kill()
+    errors.seek(0)
+    complaint = errors.readline().strip() or f"{plan.program} ended with status {process.returncode}"
+    if process.returncode and not killed:
+        raise PlanningError(complaint)
+    if wrong:
+        raise wrong
     return values
 
 
 def end_with_parent() -> None:
     """Makes a process of the pool end quietly when it is interrupted, or when the process that started it is gone."""
     def wait_for_end() -> None:
-        connection.wait([parent_process().sentinel])
-        os._exit(1)
+        parent = parent_process()
+        if parent:
+            connection.wait([parent.sentinel])
+            os._exit(1)
 
     if signal.getsignal(signal.SIGINT) is signal.default_int_handler:
         signal.signal(signal.SIGINT, signal.SIG_DFL)
@@ -109,7 +123,7 @@ def end_with_parent() -> None:
 def run_seeds(plan: Plan, seeds: Sequence[int], jobs: int) -> Iterator[Tuple[int, List[Value]]]:
     """Yields each seed with its values, in order; at most `jobs` runs go on at a time."""
     with ProcessPoolExecutor(max_workers=min(jobs, len(seeds)), initializer=end_with_parent) as pool:
-        runs: deque = deque()
+        runs: Deque[Tuple[int, "Future[List[Value]]"]] = deque()
         try:
             for seed in seeds:
                 runs.append((seed, pool.submit(run_seed, plan, seed)))

@@ -1,9 +1,9 @@
 """Seeds: reads lists of seeds, and puts a seed into the text of a model."""
 import re
-from typing import List, Optional, Tuple
+from typing import List, Match, Optional, Tuple
 
 from .errors import PlanningError
-from .models import MAX_WORD
+from .limits import MAX_WORD
 
 MAX_SEEDS = 100_000
 
@@ -33,11 +33,17 @@ def parse_seeds(text: str) -> List[int]:
     return seeds
 
 
+def must(found: Optional[Match[str]]) -> Match[str]:
+    """Returns a match of a pattern that matches everywhere."""
+    assert found is not None
+    return found
+
+
 def value_end(text: str, start: int) -> int:
     """Returns where the value ends that starts here: at the end of its line, or before a comment."""
     depth, place = 0, start
     while place < len(text):
-        piece = PIECE.match(text, place).group()
+        piece = must(PIECE.match(text, place)).group()
         if piece in "[{":
             depth += 1
         elif piece in "]}":
@@ -50,7 +56,7 @@ def value_end(text: str, start: int) -> int:
 
 def find_seed(text: str) -> Optional[Tuple[int, int]]:
     """Returns where the value of the model's own `seed` begins and ends in a model file, or None if there is none."""
-    place = GAP.match(text, 1 if text.startswith("\ufeff") else 0).end()
+    place = must(GAP.match(text, 1 if text.startswith("\ufeff") else 0)).end()
     while place < len(text) and text[place] != "[":
         key = KEY.match(text, place)
         if not key or text[key.end():key.end() + 1] != "=":
@@ -59,7 +65,7 @@ def find_seed(text: str) -> Optional[Tuple[int, int]]:
         end = value_end(text, start)
         if key.group().strip().strip("\"'") == "seed":
             return start, end
-        place = GAP.match(text, end).end()
+        place = must(GAP.match(text, end)).end()
     return None
 
 

@@ -58,7 +58,7 @@ class Row:
         self.handled, self.own = paired(self.handled), paired(self.own)
 
 
-def paired(counts: array) -> array:
+def paired(counts: "array[int]") -> "array[int]":
     """Returns the sums of neighbours, filled up with zeros."""
     sums = [counts[place] + counts[place + 1] for place in range(0, BINS, 2)]
     return array("q", sums + [0] * (BINS - len(sums)))

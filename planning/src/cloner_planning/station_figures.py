@@ -5,6 +5,7 @@ from .queues import CLASSES, ServerQueue
 from .traces import class_of
 
 ALL = 0
+NO_QUEUE = ServerQueue()
 
 
 class Waits(NamedTuple):
@@ -23,7 +24,7 @@ class Tally:
 
     __slots__ = ("arrived", "lost", "begun", "done", "counts", "waits")
 
-    def __init__(self):
+    def __init__(self) -> None:
         self.arrived = self.lost = self.begun = self.done = 0
         self.counts: Dict[int, int] = {}
         self.waits: Optional[Waits] = None
@@ -75,7 +76,7 @@ class ServerFigures:
     def __init__(self, start: int, by_class: bool, order: str = "arrival", servers: Optional[int] = None):
         self.start = start
         self.by_class = by_class
-        self.queue: Optional[ServerQueue] = ServerQueue(order)
+        self.queue = ServerQueue(order)
         self.busy = self.wait = 0
         self.misfit: Optional[str] = None
         places = 1 + CLASSES if by_class else 1
@@ -128,7 +129,7 @@ class ServerFigures:
     def close(self, over: int) -> None:
         """Computes the figures of the waits, and drops what only further messages would need."""
         self.busy, self.wait, self.misfit = self.queue.busy, self.queue.wait, self.queue.misfit
-        self.queue = None
+        self.queue = NO_QUEUE
         for tallies in (self.before, self.within):
             for tally in tallies[1:]:
                 tallies[ALL].add(tally)
@@ -172,7 +173,7 @@ class Leaving:
 
     __slots__ = ("got", "stay", "longest")
 
-    def __init__(self):
+    def __init__(self) -> None:
         self.got = self.stay = 0
         self.longest: Optional[int] = None
 

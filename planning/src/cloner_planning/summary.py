@@ -1,7 +1,7 @@
 """summary: what each server, sink and branch of a trace came to in a span of time."""
 import argparse
 import sys
-from typing import Dict, Iterator, List, Optional
+from typing import Dict, Iterator, List, Optional, Tuple
 
 from .choices import chosen, names_in, whole_number
 from .errors import PlanningError
@@ -179,12 +179,12 @@ def add_arguments(parser: argparse.ArgumentParser) -> None:
 
 def note(text: str) -> None:
     """Writes a note on standard error."""
-    print(f"cloner_planning: note: {text}", file=sys.stderr)
+    print(f"cloner-planning: note: {text}", file=sys.stderr)
 
 
 def read_branches(trace: Trace, study: Study) -> List[Branch]:
     """Reads all branches of a trace and returns their figures."""
-    branches = []
+    branches: List[Branch] = []
     for name, lines in trace.branches():
         if trace.journal and not branches:
             study.script = parse_script("\n".join(trace.script_lines()), "the journal")
@@ -252,7 +252,7 @@ def station_names(trace: Trace, study: Study, branches: List[Branch], kind: str)
         return [station.name for station in study.model.stations if station.kind == kind]
     seen: Dict[str, None] = {}
     for branch in branches:
-        seen.update(dict.fromkeys(branch.servers if kind == "server" else branch.sinks))
+        seen.update(dict.fromkeys(list(branch.servers) if kind == "server" else list(branch.sinks)))
     reported = [row[0] for row in trace.report if row[0] in seen]
     return reported if len(reported) == len(seen) else list(seen)
 
@@ -273,7 +273,8 @@ def rows_of(branch: Branch, study: Study, servers: List[str], sinks: List[str]) 
     return rows
 
 
-def choose(options: argparse.Namespace, branches: List[Branch], servers: List[str], sinks: List[str]):
+def choose(options: argparse.Namespace, branches: List[Branch], servers: List[str],
+           sinks: List[str]) -> Tuple[List[Branch], List[str], List[str]]:
     """Returns the branches, servers and sinks that are asked for; all if none is named."""
     names = chosen("branch", options.branches, [branch.name for branch in branches])
     stations = chosen("server or sink", options.stations, servers + sinks)

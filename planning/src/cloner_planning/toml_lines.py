@@ -4,10 +4,11 @@ All that it read before a fault is kept. A place is a tuple of keys and of numbe
 `("station", 2, "link", 1, "to")`.
 """
 import re
-from typing import Any, Dict, List, NamedTuple, Optional, Tuple
+from typing import Any, Dict, List, Match, NamedTuple, Optional, Set, Tuple
+
+from .limits import MAX_WORD
 
 DEEPEST = 80
-MAX_INTEGER = 2**63 - 1
 Place = Tuple[Any, ...]
 
 BARE = re.compile(r"[A-Za-z0-9_-]+")
@@ -52,10 +53,10 @@ class Reader:
         self.depth = 0
         self.data: Dict[str, Any] = {}
         self.found: Dict[Place, Tuple[int, Any]] = {}
-        self.table, self.place = self.data, ()
-        self.closed: set = set()
-        self.headed: set = set()
-        self.later: List[Tuple[int, int]] = []  # what TOML 1.0 does not have: from which offset to which
+        self.table: Dict[str, Any] = self.data
+        self.place: Place = ()
+        self.closed: Set[int] = set()
+        self.headed: Set[int] = set()
 
     def read(self) -> None:
         """Reads the whole text; Fault at the first place that is no TOML."""
@@ -150,7 +151,8 @@ class Reader:
         if not self.text.startswith("]" * brackets, self.at):
             raise Fault(self.at, f"`{']' * brackets}` is missing after the table's name")
         self.at += brackets
-        table, place = self.data, ()
+        table = self.data
+        place: Place = ()
         for key, offset in parts[:-1]:
             table, place = self.step(table, place, key, offset)
         key = parts[-1][0]
@@ -185,7 +187,7 @@ class Reader:
         key, offset = parts[-1]
         place += (key,)
         if key in table:
-            earlier, line = self.found.get(place, (None,))[0], self.line_of(place)
+            earlier, line = self.found[place][0] if place in self.found else None, self.line_of(place)
             raise Fault(offset, f"the key `{key}` is defined twice in one table (first in line {line})", earlier)
         self.skip_space()
         self.keep(place, first, None)
@@ -213,7 +215,8 @@ class Reader:
 
     def read_array(self, place: Place) -> List[Any]:
         """Returns the array that begins here."""
-        opened, values = self.at, []
+        opened = self.at
+        values: List[Any] = []
         self.at += 1
         while True:
             if not self.skip_blank():
@@ -233,28 +236,21 @@ class Reader:
 
     def read_inline(self, place: Place) -> Dict[str, Any]:
         """Returns the inline table that begins here."""
-        opened, table = self.at, {}
+        opened = self.at
+        table: Dict[str, Any] = {}
         self.keep(place, opened, table)
         self.at += 1
-        comma = None
         while True:
-            start, more = self.at, self.skip_blank()
-            self.later.append((start, self.at))
-            if not more:
+            if not self.skip_blank():
                 raise self.unclosed(opened, "table", "}")
             if self.text[self.at] == "}":
                 break
             if not BARE.match(self.text, self.at) and self.text[self.at] not in "\"'":
                 raise self.unclosed(opened, "table", "}")
             self.read_pair(table, place)
-            start, more = self.at, self.skip_blank()
-            self.later.append((start, self.at))
-            if not more or self.text[self.at] not in ",}":
+            if not self.skip_blank() or self.text[self.at] not in ",}":
                 raise self.unclosed(opened, "table", "}")
-            comma = self.at if self.text[self.at] == "," else None
-            self.at += comma is not None
-        if comma is not None:
-            self.later.append((comma, comma + 1))
+            self.at += self.text[self.at] == ","
         self.at += 1
         return table
 
@@ -317,14 +313,20 @@ class Reader:
             if joined:
                 at = joined.end()
             elif found:
-                code = found.group(2) or found.group(3) or found.group(4)
-                parts.append(ESCAPED[found.group(1)] if found.group(1) else chr(min(int(code, 16), 0x10FFFF)))
-                if found.group(1) == "e" or found.group(2):
-                    self.later.append((at, found.end()))
+                parts.append(self.escaped(found))
                 at = found.end()
             else:
                 raise Fault(at, f"`{self.text[at:at + 2]}` is no escape in a string; a backslash is written `\\\\`")
         return "".join(parts)
+
+    def escaped(self, found: Match[str]) -> str:
+        """Returns the character that an escape says; Fault if there is none."""
+        if found.group(1):
+            return ESCAPED[found.group(1)]
+        code = int(found.group(2) or found.group(3) or found.group(4), 16)
+        if code > 0x10FFFF or 0xD800 <= code <= 0xDFFF:
+            raise Fault(found.start(), f"`{found.group()}` is no character")
+        return chr(code)
 
 
 def scalar(text: str, offset: int) -> Any:
@@ -333,8 +335,8 @@ def scalar(text: str, offset: int) -> Any:
         return text == "true"
     if INTEGER.match(text):
         digits = text.replace("_", "")
-        number = int(digits, 0) if len(digits) <= 20 or digits[1] in "xob" else MAX_INTEGER + 1
-        if not -MAX_INTEGER - 1 <= number <= MAX_INTEGER:
+        number = int(digits, 0) if len(digits) <= 20 or digits[1] in "xob" else MAX_WORD + 1
+        if not -MAX_WORD - 1 <= number <= MAX_WORD:
             raise Fault(offset, f"the number `{text[:40]}` is outside the signed 64-bit range")
         return number
     if FLOAT.match(text):

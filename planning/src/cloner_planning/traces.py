@@ -7,9 +7,10 @@ import sys
 from typing import Iterable, Iterator, List, Optional, TextIO, Tuple
 
 from .errors import PlanningError
+from .names import NAME_FORM
 
 NUMBER = "[0-9]{1,18}"
-STATION = "[a-z][a-z0-9_]{0,15}"
+STATION = NAME_FORM
 JOB = rf"{STATION}\.{NUMBER}(?::[1-4])?"
 PAYLOAD = rf"(?:job {JOB}|done {JOB}|tick|set [a-z]+ {NUMBER}(?: {NUMBER})?)"
 COUNTS = (rf"(?:busy={NUMBER} wait={NUMBER} done={NUMBER} lost={NUMBER}|passed={NUMBER}|sent={NUMBER}"
@@ -110,7 +111,7 @@ class Trace:
                 raise self.fault(f"no line of a report: {shown(line)}")
             elif row:
                 self.report.append((row.group(1), int(row.group(2)), int(row.group(3)), int(row.group(4))))
-            else:
+            elif total:
                 self.total = (int(total.group(1)), int(total.group(2)))
             line = self._next()
 
