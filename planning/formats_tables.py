@@ -33,7 +33,7 @@ def main() -> int:
     with open(COPY, encoding="utf-8") as file:
         if file.read() == wanted:
             return 0
-    print("planning/src/cloner_planning/formats.md is older than docs/FORMATS.md: run planning/formats_tables.py --write")
+    print("the package's formats.md is older than docs/FORMATS.md: run planning/formats_tables.py --write")
     return 1
 
 

@@ -7,8 +7,9 @@ import unittest
 
 from samples import DESK, EXAMPLES, GATE, OUT, model_text
 
-from cloner_planning.check import Study, size
+from cloner_planning.check import size, warnings_of
 from cloner_planning.check_flow import Clock, Flow, initial, messages, time_of_limit, with_way_out
+from cloner_planning.check_study import Study
 from cloner_planning.command_line import main
 from cloner_planning.errors import PlanningError
 from cloner_planning.models import parse_model
@@ -26,7 +27,7 @@ def study_of(text, script=""):
 def warned(text, script="", about=""):
     """Returns the warnings that have a text, each as (m or s, line, text)."""
     return [("s" if warn.of_script else "m", warn.line, warn.text)
-            for warn in study_of(text, script).warnings() if about in warn.text]
+            for warn in warnings_of(study_of(text, script)) if about in warn.text]
 
 
 SIMPLE = model_text(GATE, DESK, OUT)

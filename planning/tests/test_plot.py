@@ -13,7 +13,7 @@ from cloner_planning.command_line import main
 from cloner_planning.errors import PlanningError
 from cloner_planning.series import Series, StationReader, read_series, shown, thin
 from cloner_planning.shares import BINS, Shares
-from cloner_planning.traces import branches
+from cloner_planning.traces import Trace
 
 try:
     import matplotlib
@@ -25,7 +25,7 @@ JOURNAL = "journal 1 1\n# front 20\nanalyst main\nfork fast from base\nlooks 0\n
 
 def trace_of(text):
     """Returns the branches of a trace."""
-    return branches(io.StringIO(text))
+    return Trace(io.StringIO(text)).branches()
 
 
 def series_of(station, what=None, names=(), text=TRACE):

@@ -2,12 +2,15 @@
 import csv
 import io
 import os
+import signal
+import subprocess
 import sys
 import tempfile
+import time
 import unittest
 
 import samples
-from samples import SCRIPT, ended
+from samples import ENTRY, ENVIRONMENT, SCRIPT, ended
 
 from cloner_planning.errors import PlanningError
 from cloner_planning.models import parse_model
@@ -43,8 +46,17 @@ for name, service in (("base", 3 + seed % 8), ("fast", 2)):
     text = text.replace("SUM", str(13 + service if seed != 8 else 3))
     decision = "8 desk analyst 0 set service 2 2 busy=1 wait=0 done=0 lost=0\n" if name == "fast" else ""
     print(text.replace("8 SET\n", decision), end="")
-print("report")
+print("report\ntotal handled=9 alone=9")
 """
+
+
+def is_running(process):
+    """Returns whether a process is there."""
+    try:
+        os.kill(process, 0)
+        return True
+    except ProcessLookupError:
+        return False
 
 
 class TestSeeds(unittest.TestCase):
@@ -193,6 +205,31 @@ class TestReplicate(unittest.TestCase):
         status, _, errors = self.replicate("--seeds", "1")
         self.assertEqual(status, 2)
         self.assertRegex(errors, "^cloner-planning: seed 1: line 1 of the trace: .*\n$")
+
+    def test_signals_leave_no_folder(self):
+        self.program = self.file("endless", "#!/bin/sh\necho $$ > PLACE\nexec sleep 60\n".replace(
+            "PLACE", os.path.join(self.folder.name, "id")))
+        os.chmod(self.program, 0o755)
+        temporary = os.path.join(self.folder.name, "temporary")
+        os.mkdir(temporary)
+        command = [*ENTRY, "replicate", self.model, self.script, "--bin", self.program, "--seeds", "1..4",
+                   "--jobs", "2"]
+        for number, status in ((signal.SIGTERM, 143), (signal.SIGINT, 130)):
+            process = subprocess.Popen(command, stderr=subprocess.PIPE, env=dict(ENVIRONMENT, TMPDIR=temporary))
+            while not os.listdir(temporary) or not os.path.exists(os.path.join(self.folder.name, "id")):
+                time.sleep(0.01)
+            time.sleep(0.2)
+            process.send_signal(number)
+            errors = process.communicate()[1]
+            self.assertEqual((process.returncode, os.listdir(temporary), errors), (status, [], b""))
+            with open(os.path.join(self.folder.name, "id"), encoding="ascii") as file:
+                self.assertFalse(is_running(int(file.read())))
+            os.remove(os.path.join(self.folder.name, "id"))
+
+    def test_nothing_is_selected(self):
+        status, output, errors = self.replicate("--seeds", "1", "--stations", "out", "--figures", "lost,wait")
+        self.assertEqual((status, output), (2, ""))
+        self.assertEqual(errors, "cloner-planning: nothing is selected: out has no lost or wait_mean\n")
 
     def test_refusals(self):
         for words, part in ((["--figures", "p5"], "no figure p5"), (["--stations", "gate"], "no server or sink gate"),

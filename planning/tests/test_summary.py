@@ -121,6 +121,7 @@ class Case(unittest.TestCase):
         words = [self.file("trace", trace), "--csv", *words]
         words += ["--model", self.file("model", model)] if model else []
         words += ["--script", self.file("script", script)] if script else []
+        words += [] if "\nreport\n" in trace else ["--solo"]
         status, output, self.notes = self.call(*words)
         self.assertEqual(status, 0, self.notes)
         return {(row["branch"], row["station"], row["class"]): row for row in csv.DictReader(io.StringIO(output))}
@@ -274,9 +275,9 @@ Sinks
 branch station got  stay longest
 base   out       2 15.00      19
 
-Branches
-branch from to made left lost inside
-base      0 20    4    2    1      1
+Branches, from time 0 on
+branch to made left lost inside
+base   20    4    2    1      1
 """)
 
     def test_chosen_stations_and_branches(self):
@@ -297,7 +298,7 @@ base      0 20    4    2    1      1
 
 class Refusals(Case):
     def refused(self, trace, *words, model=MODEL):
-        words = [self.file("t", trace), *words] + (["--model", self.file("m", model)] if model else [])
+        words = [self.file("t", trace), "--solo", *words] + (["--model", self.file("m", model)] if model else [])
         status, output, notes = self.call(*words)
         self.assertEqual((status, output), (2, ""))
         lines = notes.splitlines()

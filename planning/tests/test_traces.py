@@ -6,7 +6,7 @@ import unittest
 
 import samples  # noqa: F401  (puts the package on the path)
 from cloner_planning.errors import PlanningError
-from cloner_planning.traces import Trace, branches, class_of, open_trace
+from cloner_planning.traces import Trace, class_of, open_trace
 
 BASE = """clone base
 3 gate gate 0 tick sent=1
@@ -70,8 +70,8 @@ class Reading(unittest.TestCase):
         self.assertEqual(trace.script_lines(), JOURNAL.splitlines()[1:7])
 
     def test_lines_that_the_caller_leaves_are_passed_over(self):
-        self.assertEqual([name for name, _ in branches(io.StringIO(BASE + FAST))], ["base", "fast"])
-        firsts = [next(lines) for _, lines in branches(io.StringIO(BASE + FAST))]
+        self.assertEqual([name for name, _ in Trace(io.StringIO(BASE + FAST)).branches()], ["base", "fast"])
+        firsts = [next(lines) for _, lines in Trace(io.StringIO(BASE + FAST)).branches()]
         self.assertEqual(firsts, ["3 gate gate 0 tick sent=1\n"] * 2)
 
     def test_a_branch_may_be_empty_and_lines_need_no_end(self):

@@ -1,22 +1,22 @@
 """Warns of what cloner accepts and a planner may not want, and estimates loads and sizes of a study without a run."""
 import argparse
-from typing import Dict, Iterable, List, NamedTuple, Optional, Tuple
+from typing import Dict, List, NamedTuple, Optional, Tuple
 
-from .check_flow import (
-    Clock, Course, Flow, Values, initial, messages, reached, refuse_unknown, setting_of, time_of_limit)
-from .models import Model, Station, read_model
-from .places import Places, read_places
-from .scripts import Script, parse_script, read_script
+from .check_flow import Clock, Course, Values, initial, messages, setting_of, time_of_limit
+from .check_script import script_traps
+from .check_study import Study, Warn, in_branches, is_active, listed
+from .models import Station, read_model_places
+from .scripts import parse_script, read_script
 
 DESCRIPTION = """Warns of what cloner accepts and you may not want, and estimates loads and sizes.
 
 Of the model: stations that nothing reaches, sources that run dry, servers with more work than they can do,
-unlike servers after a router, messages above `limit`. Of the script: sets without effect, and the same for each
-branch. The estimate comes from mean rates alone, without a run. Ends with 1 if there is a warning, with 0 if
-there is none."""
+unlike servers after a router, links that a server picks by chance, messages above `limit`. Of the script: sets
+without effect, sets that come after a fork, branches that are the same, servers that are stopped by a long service
+and opened again, and the same as of the model for each branch. The estimate comes from mean rates alone, without a
+run. Ends with 1 if there is a warning, with 0 if there is none."""
 
 FULL, NEARLY_FULL = 1.005, 0.95
-MAX_NAMES = 5
 BYTES_OF_A_LINE = (50, 75)
 
 
@@ -26,56 +26,11 @@ def add_arguments(parser: argparse.ArgumentParser) -> None:
     parser.add_argument("script", nargs="?", metavar="SCRIPT", help="a script that cloner accepts with it")
 
 
-class Warn(NamedTuple):
-    """A warning: of the script or not, its line (0 if there is none), and its text."""
-
-    of_script: bool
-    line: int
-    text: str
-
-
-class Study:
-    """A model and a script, and what each branch probably does."""
-
-    def __init__(self, model: Model, places: Places, script: Script):
-        refuse_unknown(model, script)
-        self.model = model
-        self.places = places
-        self.script = script
-        self.flow = Flow(model)
-        begin = {station.name for station in model.stations if is_active(station, model)}
-        self.reached = reached(model, begin)
-        self.courses = [self.flow.course(script, branch) for branch in script.branches()]
-
-    def at(self, station: Station, key: str = "name") -> int:
-        """Returns the line of a station's key, or of its beginning."""
-        place = ("station", station.number)
-        return self.places.line(place + (key,)) or self.places.line(place) or 0
-
-    def warnings(self) -> List[Warn]:
-        """Returns all warnings: those of the model by line, then those of the script by line."""
-        found = [*unreached(self), *trapped(self), *unlike_servers(self), *dry_sources(self), *without_effect(self),
-                 *overloads(self), *above_limit(self)]
-        return sorted(found, key=lambda warn: (warn.of_script, warn.line))
-
-
-def is_active(station: Station, model: Model) -> bool:
-    """Returns whether a station is a source that may make a job before the horizon."""
-    return station.kind == "source" and station.jobs > 0 and station.every[0] < model.horizon
-
-
-def listed(names: Iterable[str]) -> str:
-    """Returns names as a list, cut if there are many."""
-    names = list(names)
-    more = f" and {len(names) - MAX_NAMES} more" if len(names) > MAX_NAMES else ""
-    return ", ".join(names[:MAX_NAMES]) + more
-
-
-def in_branches(branches: List[str]) -> str:
-    """Returns in which branches something holds, as the beginning of a sentence; nothing for `base` alone or first."""
-    if branches[0] == "base":
-        return ""
-    return f"in branch{'es' if len(branches) > 1 else ''} {listed(branches)}: "
+def warnings_of(study: Study) -> List[Warn]:
+    """Returns all warnings: those of the model by line, then those of the script by line."""
+    found = [*unreached(study), *trapped(study), *unlike_servers(study), *shared_streams(study), *dry_sources(study),
+             *without_effect(study), *overloads(study), *above_limit(study), *script_traps(study)]
+    return sorted(found, key=lambda warn: (warn.of_script, warn.line))
 
 
 def unreached(study: Study) -> List[Warn]:
@@ -127,6 +82,17 @@ def unlike_servers(study: Study) -> List[Warn]:
                               f"router {router.name} leads to servers that are not alike: {said}. "
                               "A router does not look at lines, and one line before unequal machines cannot be said"))
     return found
+
+
+def shared_streams(study: Study) -> List[Warn]:
+    """Returns the servers that pick a link by chance: their services and their links draw from one stream."""
+    return [Warn(False, study.at(station, "link"),
+                 f"server {station.name} picks a link by chance, from the stream of its services: a branch with other "
+                 "services gets other links too. Behind it, a router by weights draws from a stream of its own, and "
+                 "branches stay comparable")
+            for station in study.model.stations
+            if station.kind == "server" and len({link.to for link in station.links}) > 1
+            and station.name in study.reached]
 
 
 def dry_text(station: Station, course: Course, horizon: int) -> Optional[str]:
@@ -351,10 +317,10 @@ def station_row(study: Study, counts: Dict[str, Dict[str, float]], station: Stat
 
 def run(options: argparse.Namespace) -> int:
     """Prints warnings and the estimate; returns 1 if there is a warning."""
-    model = read_model(options.model)
+    model, places = read_model_places(options.model)
     script = read_script(options.script) if options.script else parse_script("")
-    study = Study(model, read_places(options.model), script)
-    found = study.warnings()
+    study = Study(model, places, script)
+    found = warnings_of(study)
     for warn in found:
         path = options.script if warn.of_script else options.model
         print(f"{path}:{warn.line}: warning: {warn.text}" if warn.line else f"{path}: warning: {warn.text}")

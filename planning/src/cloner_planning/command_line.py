@@ -2,18 +2,19 @@
 import argparse
 import importlib
 import os
+import signal
 import sys
-from typing import List, NoReturn, Protocol, TextIO, cast
+from types import FrameType
+from typing import List, NoReturn, Optional, Protocol, TextIO, cast
 
 from . import __version__
-from .errors import PlanningError
+from .errors import PlanningError, Terminated
 
 COMMANDS = ("summary", "replicate", "plot", "explain", "check", "diagram", "completion")
 PROGRAM = "cloner-planning"
 PURPOSE = ("Tools for planners, which read what cloner reads and writes. "
            "They are plain Python; nothing of them is proved.")
-WRONG_INPUT = 2
-INTERRUPTED = 130
+INTERRUPTED, TERMINATED = 130, 143
 
 
 class Command(Protocol):
@@ -56,7 +57,8 @@ def overview() -> str:
         "",
         *rows,
         "",
-        "exit status: 0 done; 1 something was explained or found; 2 a wrong command line or bad input",
+        "exit status: 0 done; 1 something was explained or found; 2 a wrong command line or bad input;",
+        "  3 a trace is cut; 130 and 143 interrupted or terminated",
     ])
 
 
@@ -96,14 +98,14 @@ def dispatch(words: List[str]) -> int:
     return run_command(words[0], words[1:])
 
 
-def report_error(message: str) -> int:
-    """Writes one error line and returns the status of bad input."""
+def report_error(message: str, status: int = PlanningError.status) -> int:
+    """Writes one error line and returns the status."""
     line = " ".join(message.split())
     try:
         print(f"{PROGRAM}: {line}", file=sys.stderr, flush=True)
     except OSError:  # nobody can be told; the status is left
         drop(sys.stderr)
-    return WRONG_INPUT
+    return status
 
 
 def open_closed_streams() -> None:
@@ -135,7 +137,7 @@ def main(words: List[str]) -> int:
         sys.stdout.flush()
         return status
     except PlanningError as fault:
-        return report_error(str(fault))
+        return report_error(str(fault), fault.status)
     except BrokenPipeError:
         drop(sys.stdout)
         return 0
@@ -144,8 +146,16 @@ def main(words: List[str]) -> int:
         return report_error(": ".join(str(part) for part in (fault.filename, fault.strerror or fault) if part))
     except KeyboardInterrupt:
         return INTERRUPTED
+    except Terminated:
+        return TERMINATED
+
+
+def terminate(number: int, frame: Optional[FrameType]) -> NoReturn:
+    """Ends the process by an exception, so that files and folders are cleaned up."""
+    raise Terminated
 
 
 def entry() -> NoReturn:
     """Runs the command line of the process, and ends it."""
+    signal.signal(signal.SIGTERM, terminate)
     sys.exit(main(sys.argv[1:]))

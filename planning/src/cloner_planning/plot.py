@@ -1,12 +1,12 @@
 """plot: pictures of traces. One matplotlib makes the same SVG of the same trace, byte for byte."""
 import argparse
 import sys
-from typing import Any, Callable, Iterator, Optional, Tuple, TypeVar
+from typing import Any, Callable, Optional, Tuple, TypeVar
 
 from . import models, traces
 from .choices import whole_number
-from .errors import PlanningError
-from .series import MAX_BRANCHES, StationReader, read_series
+from .errors import CutTrace, PlanningError
+from .series import MAX_BRANCHES, Branches, StationReader, read_series
 from .shares import Shares
 
 DESCRIPTION = f"""Pictures of a trace: a station over time in several branches, or what each branch computed alone.
@@ -22,7 +22,10 @@ plot TRACE --alone [BRANCH ..]
   A row for each branch, from pale to solid: the share of its messages that no earlier branch has. An earlier
   branch has a message if its lines of that station are the same, from the first line up to this one. On the right
   is the share of all the branch's messages. A trace does not show when a job was made, so the sum can be a little
-  below `handled` in the report."""
+  below `handled` in the report.
+
+If no report follows the traces, they are cut: the picture is drawn, and the status is 3. `solo` and `resume` write no
+report: say --solo."""
 
 Read = TypeVar("Read")
 INTERMIXED = True  # options may come between the words
@@ -43,6 +46,8 @@ def add_arguments(parser: argparse.ArgumentParser) -> None:
                         help="the time at which the picture ends")
     parser.add_argument("--model", metavar="FILE", help="the model: the picture ends at its horizon, and a dotted line "
                         "shows the station's servers or room, if any branch reaches them")
+    parser.add_argument("--solo", action="store_true",
+                        help="the traces are those of `solo` or `resume`, which write no report")
     parser.add_argument("--output", default="-", metavar="FILE", help="a file .svg or .png; - is the standard output")
 
 
@@ -64,11 +69,16 @@ def kind_of_file(output: str) -> str:
     return kind
 
 
-def read_trace(path: str, read: Callable[[Iterator[Tuple[str, Iterator[str]]]], Read]) -> Read:
-    """Returns what `read` makes of the trace's branches, and takes the standard input to its end."""
-    with traces.open_trace(path) as file:
-        result = read(traces.branches(file))
-        if path == "-":
+def read_trace(options: argparse.Namespace, read: Callable[[Branches], Read]) -> Read:
+    """Returns what `read` makes of the trace's branches, and takes the standard input to its end.
+
+    Notes in `options.cut` whether a branch that was read may not be whole.
+    """
+    with traces.open_trace(options.trace) as file:
+        trace = traces.Trace(file)
+        result = read(trace.branches())
+        options.cut = traces.is_cut(trace, options.solo)
+        if options.trace == "-":
             for _ in file:
                 pass
     return result
@@ -100,7 +110,7 @@ def station_picture(options: argparse.Namespace, model: Optional[models.Model], 
         raise PlanningError(f"the model has no station {name}: it has {', '.join(one.name for one in model.stations)}")
     if station:
         reader.settle(station.kind)
-    series = read_trace(options.trace, lambda trace: read_series(trace, reader, branches))
+    series = read_trace(options, lambda trace: read_series(trace, reader, branches))
     if reader.figure is None:
         raise PlanningError(f"the branches have no message at a station {name}")
     span = span_of(options, model, max(one.end for one in series))
@@ -113,7 +123,7 @@ def alone_picture(options: argparse.Namespace, model: Optional[models.Model], pi
     if options.what:
         raise PlanningError("--alone and --what exclude each other")
     shares = Shares(options.begin, options.stop)
-    read_trace(options.trace, lambda trace: shares.read(trace, options.words))
+    read_trace(options, lambda trace: shares.read(trace, options.words))
     if not any(sum(row.handled) for row in shares.rows):
         raise PlanningError("the branches have no message in the time to draw")
     return pictures.draw_shares(shares, span_of(options, model, shares.last))
@@ -128,4 +138,4 @@ def run(options: argparse.Namespace) -> int:
     model = models.read_model(options.model) if options.model else None
     picture = (alone_picture if options.alone else station_picture)(options, model, pictures)
     pictures.write(picture, sys.stdout.buffer if options.output == "-" else options.output, kind)
-    return 0
+    return CutTrace.status if options.cut else 0

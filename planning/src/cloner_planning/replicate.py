@@ -212,9 +212,12 @@ def plan_of(options: argparse.Namespace, script: Script, folder: str) -> Plan:
     if parse_model(with_seed(text, options.seeds[0]).lstrip("\ufeff"), options.model).seed != options.seeds[0]:
         raise PlanningError(f"{options.model}: the key seed can't be replaced; write it as a line `seed = 1`")
     known = [station.name for station in model.stations if station.kind in FIGURES]
-    stations = chosen("server or sink", options.stations, known)
+    stations, figures = chosen("server or sink", options.stations, known), chosen_figures(options.figures)
+    if not any(figure in FIGURES[model.known(station).kind] for station in stations for figure in figures):
+        raise PlanningError(f"nothing is selected: {', '.join(stations)} "
+                            f"ha{'s' if len(stations) == 1 else 've'} no {' or '.join(figures)}")
     return Plan(program, text, model, options.script, script, *span_of(options, model), options.over,
-                ["base", *options.branches], stations, chosen_figures(options.figures), folder)
+                ["base", *options.branches], stations, figures, folder)
 
 
 def replicate(plan: Plan, options: argparse.Namespace) -> Table:

@@ -1,4 +1,5 @@
 """Runs a study once for each seed, several runs at a time, and yields the figures of each run, by seed."""
+import contextlib
 import os
 import signal
 import subprocess
@@ -7,9 +8,12 @@ from collections import deque
 from concurrent.futures import Future, ProcessPoolExecutor
 from concurrent.futures.process import BrokenProcessPool
 from multiprocessing import connection, parent_process
-from typing import IO, Deque, Iterable, Iterator, List, NamedTuple, Optional, Sequence, TextIO, Tuple, Union, cast
+from multiprocessing.process import BaseProcess
+from types import FrameType
+from typing import (
+    IO, Deque, Iterable, Iterator, List, NamedTuple, NoReturn, Optional, Sequence, TextIO, Tuple, Union, cast)
 
-from .errors import PlanningError
+from .errors import CutTrace, PlanningError
 from .models import Model
 from .scripts import Script
 from .seeds import with_seed
@@ -46,12 +50,19 @@ class Plan(NamedTuple):
     folder: str
 
 
+PATIENCE = 2.0  # seconds
+# the program that this process of the pool runs
+running: List["subprocess.Popen[str]"] = []
+
+
 def values_of(plan: Plan, lines: Iterable[str]) -> List[Value]:
     """Returns the values of one run, whose output these lines are."""
     study = Study(plan.start, plan.stop, plan.over)
     study.model, study.script, study.longest = plan.model, plan.script, plan.model.horizon
     trace = Trace(lines)
     branches = read_branches(trace, study)
+    if trace.cut:
+        raise CutTrace("no report follows the traces, so they are cut")
     check_orders(study, branches)
     names = [station_names(trace, study, branches, kind) for kind in FIGURES]
     values: List[Value] = []
@@ -74,7 +85,7 @@ def run_seed(plan: Plan, seed: int) -> List[Value]:
         try:
             values = read_run(plan, command, errors)
         except PlanningError as fault:
-            raise PlanningError(f"seed {seed}: {fault}") from None
+            raise type(fault)(f"seed {seed}: {fault}") from None
     os.remove(path + ".toml")
     return values
 
@@ -86,6 +97,7 @@ def read_run(plan: Plan, command: List[str], errors: TextIO) -> List[Value]:
                                    encoding="latin-1")
     except OSError as fault:
         raise PlanningError(f"cannot run {plan.program}: {fault.strerror}") from None
+    running[:] = [process]
     wrong: Optional[PlanningError] = None
     killed = False
     values: List[Value] = []
@@ -107,17 +119,42 @@ def read_run(plan: Plan, command: List[str], errors: TextIO) -> List[Value]:
     return values
 
 
+def end_now(number: int = 0, frame: Optional[FrameType] = None) -> NoReturn:
+    """Ends a process of the pool at once, and the program that it runs.
+
+    It takes no lock, since it may come while the process waits for that program.
+    """
+    for process in running:
+        with contextlib.suppress(OSError):
+            if process.returncode is None:
+                os.kill(process.pid, signal.SIGKILL)
+                os.waitpid(process.pid, 0)
+    os._exit(1)
+
+
 def end_with_parent() -> None:
     """Makes a process of the pool end quietly when it is interrupted, or when the process that started it is gone."""
     def wait_for_end() -> None:
         parent = parent_process()
         if parent:
             connection.wait([parent.sentinel])
-            os._exit(1)
+            end_now()
 
+    signal.signal(signal.SIGTERM, end_now)
     if signal.getsignal(signal.SIGINT) is signal.default_int_handler:
-        signal.signal(signal.SIGINT, signal.SIG_DFL)
+        signal.signal(signal.SIGINT, end_now)
     threading.Thread(target=wait_for_end, daemon=True).start()
+
+
+def stop(pool: ProcessPoolExecutor) -> None:
+    """Ends all processes of a pool, without waiting for their runs."""
+    processes: List[BaseProcess] = list((getattr(pool, "_processes", None) or {}).values())
+    for process in processes:
+        process.terminate()
+    for process in processes:
+        process.join(PATIENCE)
+        process.kill()
+    pool.shutdown(cancel_futures=True)
 
 
 def run_seeds(plan: Plan, seeds: Sequence[int], jobs: int) -> Iterator[Tuple[int, List[Value]]]:
@@ -135,6 +172,6 @@ def run_seeds(plan: Plan, seeds: Sequence[int], jobs: int) -> Iterator[Tuple[int
                 yield done, run.result()
         except BrokenProcessPool:
             raise PlanningError("a process that read a run was killed, perhaps because memory ran out") from None
-        finally:
-            for _, run in runs:
-                run.cancel()
+        except BaseException:
+            stop(pool)
+            raise

@@ -4,14 +4,14 @@ import sys
 from typing import Dict, Iterator, List, Optional, Tuple
 
 from .choices import chosen, names_in, whole_number
-from .errors import PlanningError
+from .errors import CutTrace, PlanningError, note
 from .models import Model, read_model
 from .scripts import Script, parse_script, read_script
 from .station_figures import ServerFigures, SinkFigures
 from .summary_rows import (
     BRANCH, CSV_KEYS, NAMES, branch_row, class_rows, head_of, server_columns, server_row, sink_columns, sink_rows)
 from .tables import Row, write_csv, write_table
-from .traces import Trace, open_trace
+from .traces import Trace, is_cut, open_trace
 
 DESCRIPTION = """Figures of each server, sink and branch of a trace, as tables or CSV.
 
@@ -36,9 +36,9 @@ servers:
 sinks:
   got                jobs that came
   stay, longest      mean and longest of their times in the network
-branches:
-  from, to           the branch's span
-  made, left, lost   jobs since time 0 that sources made, that reached a sink, that were lost
+branches, counted from time 0 on, also with --from:
+  to                 the end of the branch's span
+  made, left, lost   jobs that sources made, that reached a sink, that were lost
   inside             jobs in the network at the end of the span
 
 `-` marks a mean of nothing, and a figure that needs --model.
@@ -48,6 +48,9 @@ A trace alone does not show the horizon, the numbers of servers and the order of
 to be served by arrival.
 A trace alone does not show that a branch has an end. Without --script such a branch keeps its last
 state to the end of the span. The output of `live` needs no --script: its journal has the ends.
+
+If no report follows the traces, they are cut. The figures of what is there are written, and the status is 3.
+With --script it is 3 too if a branch of the script is absent. `solo` and `resume` write no report: say --solo.
 """
 
 FOREVER = 1 << 62
@@ -175,11 +178,8 @@ def add_arguments(parser: argparse.ArgumentParser) -> None:
                         help="write CSV: one row per branch and station, and one per branch")
     parser.add_argument("--by-class", action="store_true",
                         help="add a row for each class of jobs at each server and sink")
-
-
-def note(text: str) -> None:
-    """Writes a note on standard error."""
-    print(f"cloner-planning: note: {text}", file=sys.stderr)
+    parser.add_argument("--solo", action="store_true",
+                        help="the traces are those of `solo` or `resume`, which write no report")
 
 
 def read_branches(trace: Trace, study: Study) -> List[Branch]:
@@ -202,6 +202,15 @@ def read_branches(trace: Trace, study: Study) -> List[Branch]:
                                 f"and the horizon is {study.model.horizon}")
         branches.append(branch)
     return branches
+
+
+def lacks_branches(study: Study, branches: List[Branch]) -> bool:
+    """Returns whether branches of the script are absent from the trace, and names them in a note."""
+    there = {branch.name for branch in branches}
+    absent = [name for name in study.script.branches() if name not in there] if study.script else []
+    if absent:
+        note(f"the trace does not have all branches of the script; absent: {', '.join(absent)}")
+    return bool(absent)
 
 
 def settle_span(study: Study, branches: List[Branch]) -> None:
@@ -268,7 +277,7 @@ def rows_of(branch: Branch, study: Study, servers: List[str], sinks: List[str]) 
         rows["server"] += class_rows(branch.servers[name], head, study.over)
     for name in sinks:
         rows["sink"] += sink_rows(branch.sinks[name], head_of(branch.name, name, "sink", *span))
-    rows["branch"].append(branch_row(head_of(branch.name, None, "branch", *span), sum(branch.sent.values()),
+    rows["branch"].append(branch_row(head_of(branch.name, None, "branch", 0, span[1]), sum(branch.sent.values()),
                                      list(branch.sinks.values()), list(branch.servers.values())))
     return rows
 
@@ -286,7 +295,7 @@ def write_tables(study: Study, rows: List[Dict[str, List[Row]]]) -> None:
     """Writes the tables of servers, sinks and branches that have rows."""
     parts = (("Servers", "server", server_columns(study.over, study.by_class)),
              ("Sinks", "sink", sink_columns(study.by_class)),
-             ("Branches", "branch", BRANCH))
+             ("Branches, from time 0 on", "branch", BRANCH))
     shown = [part for part in parts if any(of_branch[part[1]] for of_branch in rows)]
     for place, (title, kind, columns) in enumerate(shown):
         print(("\n" if place else "") + title)
@@ -294,7 +303,7 @@ def write_tables(study: Study, rows: List[Dict[str, List[Row]]]) -> None:
 
 
 def run(options: argparse.Namespace) -> int:
-    """Writes the summary of a trace and returns 0."""
+    """Writes the summary of a trace and returns the status: 0, or 3 if the trace is cut."""
     if options.stop is not None and options.start >= options.stop:
         raise PlanningError(f"--from {options.start} is not below --to {options.stop}")
     study = Study(options.start, options.stop, options.over, options.by_class)
@@ -303,6 +312,7 @@ def run(options: argparse.Namespace) -> int:
     with open_trace(options.trace) as lines:
         trace = Trace(lines)
         branches = read_branches(trace, study)
+    cut = is_cut(trace, options.solo) | (not options.solo and lacks_branches(study, branches))
     settle_span(study, branches)
     check_orders(study, branches)
     servers, sinks = (station_names(trace, study, branches, kind) for kind in ("server", "sink"))
@@ -314,4 +324,4 @@ def run(options: argparse.Namespace) -> int:
         write_csv(sys.stdout, CSV_KEYS, (row for of_branch in rows for kind in of_branch.values() for row in kind))
     else:
         write_tables(study, rows)
-    return 0
+    return CutTrace.status if cut else 0

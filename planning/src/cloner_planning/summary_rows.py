@@ -9,8 +9,7 @@ NAMES = ("branch", "station")
 CLASS = ("class", "class")
 STATION = [("branch", "branch"), ("station", "station")]
 SINK_FIGURES = [("got", "got"), ("stay_mean", "stay"), ("stay_longest", "longest")]
-BRANCH = [("branch", "branch"), ("from", "from"), ("to", "to"), ("made", "made"), ("got", "left"), ("lost", "lost"),
-          ("inside", "inside")]
+BRANCH = [("branch", "branch"), ("to", "to"), ("made", "made"), ("got", "left"), ("lost", "lost"), ("inside", "inside")]
 CSV_KEYS = ["branch", "station", "kind", "class", "from", "to",
             "arrived", "lost", "begun", "done", "waiting", "serving",
             "wait_mean", "wait_median", "wait_90", "wait_99", "wait_longest", "over", "over_share",

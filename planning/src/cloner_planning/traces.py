@@ -6,7 +6,7 @@ import re
 import sys
 from typing import Iterable, Iterator, List, Optional, TextIO, Tuple
 
-from .errors import PlanningError
+from .errors import PlanningError, note
 from .names import NAME_FORM
 
 NUMBER = "[0-9]{1,18}"
@@ -31,6 +31,7 @@ class Trace:
     report: (station, copies, handled, alone) of each station (empty until all branches are read)
     total: (handled, alone) of the report, or None
     rounds: the rounds that `links` writes after the report, or None
+    cut: whether the lines have ended before the report did. `solo` and `resume` write no report.
     number: the number of the line that was read last
     """
 
@@ -41,6 +42,7 @@ class Trace:
         self.report: List[ReportRow] = []
         self.total: Optional[Tuple[int, int]] = None
         self.rounds: Optional[int] = None
+        self.cut = False
         self.number = 0
 
     def branches(self) -> Iterator[Tuple[str, Iterator[str]]]:
@@ -100,6 +102,7 @@ class Trace:
             else:
                 raise self.fault(f"no line of a trace: {shown(line)}")
             return
+        self.cut = True
 
     def _read_report(self) -> None:
         line = self._next()
@@ -114,6 +117,7 @@ class Trace:
             elif total:
                 self.total = (int(total.group(1)), int(total.group(2)))
             line = self._next()
+        self.cut = self.total is None
 
 
 def shown(line: str) -> str:
@@ -137,9 +141,12 @@ def open_trace(path: str) -> TextIO:
         raise PlanningError(f"cannot read the trace {path}: {reason}") from None
 
 
-def branches(lines: Iterable[str]) -> Iterator[Tuple[str, Iterator[str]]]:
-    """Yields (name, lines) of each branch of a trace, for callers that need neither journal nor report."""
-    return Trace(lines).branches()
+def is_cut(trace: Trace, solo: bool) -> bool:
+    """Returns whether a trace is cut, and says so in a note. One of `solo` or `resume` never counts as cut."""
+    if trace.cut and not solo:
+        note("no report follows the traces, so they are cut: the last branch is not whole, and others may be absent "
+             "(say --solo for traces of `solo` and `resume`, which have none)")
+    return trace.cut and not solo
 
 
 def class_of(job: str) -> int:
