@@ -10,7 +10,7 @@ from typing import List, NoReturn, Optional, Protocol, TextIO, cast
 from . import __version__
 from .errors import PlanningError, Terminated
 
-COMMANDS = ("summary", "replicate", "plot", "explain", "check", "diagram", "completion")
+COMMANDS = ("run", "summary", "replicate", "plot", "explain", "check", "diagram", "completion")
 PROGRAM = "cloner-planning"
 PURPOSE = ("Tools for planners, which read what cloner reads and writes. "
            "They are plain Python; nothing of them is proved.")
@@ -75,6 +75,8 @@ def parser_of(command: str) -> Parser:
 def run_command(command: str, words: List[str]) -> int:
     """Runs a subcommand with its words and returns its status."""
     module, parser = module_of(command), parser_of(command)
+    if getattr(module, "RAW", False) and words and words[0] not in ("-h", "--help"):
+        return module.run(argparse.Namespace(words=words))
     try:
         intermixed = getattr(module, "INTERMIXED", False)
         options = parser.parse_intermixed_args(words) if intermixed else parser.parse_args(words)

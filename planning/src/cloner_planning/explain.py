@@ -15,6 +15,7 @@ from .explain_watches import Watches, explain_watches
 from .limits import MAX_LIMIT
 from .names import did_you_mean
 from .places import Places, is_integer, printable, read_bytes, read_places
+from .recipes import of_branch
 from .script_lines import Lines, read_lines
 
 DESCRIPTION = """Says what an error line of cloner means, and where.
@@ -147,7 +148,7 @@ def explain_lines(subject: str, number: int, line: int, tables: Tables, files: F
     if lines is None:
         return meaning + ["Give the files of the model and the script as well, and the line is shown."]
     if subject == "script":
-        return meaning + explain_script(lines, tables, number, line)
+        return meaning + explain_script(lines, tables, number, line, files.places())
     return meaning + Decisions(lines, tables, files.places()).explain(number, line)
 
 
@@ -224,7 +225,7 @@ def more_of(said: str, row: Status, tables: Tables, files: Files) -> List[str]:
     if clone:
         lines = files.lines()
         made = list(lines.forks()) if lines else ["base"]
-        said_so = did_you_mean(clone.group(1), made)
+        said_so = of_branch(clone.group(1), files.places()) or did_you_mean(clone.group(1), made)
         return said_so + ([f"The branches of the script: {some(made)}."] if lines else [])
     if row.status == 2:
         return [f"Known: {form}" for form in tables.commands()]

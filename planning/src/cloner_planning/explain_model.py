@@ -6,6 +6,7 @@ from .explain_tables import Key, Tables, has_type, in_range, rule_of, type_of
 from .limits import KINDS, MAX_LINKS, MAX_STATIONS
 from .names import NAME_RULE, did_you_mean, is_name, nearest, why_no_name
 from .places import Places, is_integer, size_of
+from .recipes import of_servers, of_times
 from .toml_lines import Place
 
 GONE = "The file as it is now does not have this fault: was it changed after the run, or is it another file?"
@@ -190,7 +191,7 @@ class Explainer:
             return ["It is written `link = [{ to = .., delay = .. }]` or `[[station.link]]`."]
         if key == "station":
             return ["It is written `[[station]]`, with two brackets."]
-        lines = [f"Here it is {type_of(value)}."]
+        lines = [f"Here it is {type_of(value)}."] + of_times(key, value)
         if isinstance(value, str) and re.match(r"[\d_]+\Z", value):
             lines.append("A number has no quotes.")
         return lines
@@ -266,6 +267,7 @@ class Explainer:
             value: Any = table.values.get(key)
             if key in table.values and has_type(rule, value) and not in_range(rule, value):
                 lines = self.at(table.place + (key,)) + self.about(key)
+                lines += of_servers(value) if key == "servers" else []
                 if rule.form == "pair" and value[0] > value[1]:
                     lines.append(f"The first is the greater one: did you mean `[{value[1]}, {value[0]}]`?")
                 return lines + (did_you_mean(value, rule.words) if rule.form == "words" else [])

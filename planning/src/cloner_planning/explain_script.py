@@ -4,10 +4,11 @@ from typing import Any, Dict, List, Optional, Tuple
 
 from .explain_model import near_station
 from .explain_tables import Tables
-from .limits import MAX_ANALYSTS, MAX_BRANCHES, MAX_DECISIONS, MAX_NUMBER, MAX_SETS
+from .limits import MAX_ANALYSTS, MAX_BRANCHES, MAX_DECISIONS, MAX_SETS
 from .names import NAME, NAME_RULE, did_you_mean, nearest, why_no_name
 from .places import Places, printable, size_of
-from .script_lines import Lines, Word, is_number
+from .recipes import of_branch, of_servers
+from .script_lines import Lines, Word, fault_of_number, is_number
 
 GONE = "This line as it is now does not have this fault: was the file changed after the run, or is it another one?"
 
@@ -17,7 +18,8 @@ def here(word: Word) -> str:
     return f"Column {word.column}: `{printable(word.text)[:40]}`"
 
 
-def explain_script(lines: Lines, tables: Tables, number: int, line: int) -> List[str]:
+def explain_script(lines: Lines, tables: Tables, number: int, line: int,
+                   places: Optional[Places] = None) -> List[str]:
     """Returns the explanation of `script: refusal NUMBER at line LINE`."""
     if number == 1:
         return [size_of(lines.path)]
@@ -26,7 +28,8 @@ def explain_script(lines: Lines, tables: Tables, number: int, line: int) -> List
     if number == 2:
         return shown + why_not_ascii(lines, line)
     if number == 3:
-        return shown + (BadLine(words, tables.script_forms(), tables).lines() or [GONE])
+        found = BadLine(words, tables.script_forms(), tables).lines() or [GONE]
+        return shown + found + [hint for word in words[1:2] for hint in of_branch(word.text, places)]
     if number == 4:
         return shown + (why_no_number(words) or [GONE])
     if number == 5:
@@ -69,21 +72,6 @@ def why_no_number(words: List[Word]) -> List[str]:
 def faults_of_numbers(words: List[Word]) -> List[str]:
     """Returns which of these words are no number, and why."""
     return [f"{here(word)} is no number: {fault_of_number(word.text)}." for word in words if not is_number(word.text)]
-
-
-def fault_of_number(text: str) -> str:
-    """Returns why a word is no number."""
-    if re.match(r"0\d+\Z", text, re.A):
-        return "it has a leading zero"
-    if re.match(r"\d+\Z", text, re.A):
-        return f"the greatest is {MAX_NUMBER:,}"
-    if re.match(r"[+-]\d+\Z", text, re.A):
-        return "a number has no sign"
-    if re.match(r"\d+[.:]\d+\Z", text, re.A):
-        return "a time or value is a whole number of units, with no point and no colon"
-    if re.match(r"\d[\d,_']*\Z", text, re.A):
-        return "it has a separator between its digits" if text[-1].isdigit() else "something follows its digits"
-    return "digits alone make a number"
 
 
 class BadLine:
@@ -201,6 +189,9 @@ class Decisions:
         if branch == words[1] == words[-1] and words[0] == "fork":
             return ["A branch cannot be forked from itself before it is made."]
         near = nearest(branch, earlier)
+        station = of_branch(branch, self.places)
+        if station:
+            return station + [f"The branches before this line: {some(earlier)}."]
         made_at = [self.lines.shown(made[near])] if near and made[near] else []
         return made_at + did_you_mean(branch, earlier) + [f"The branches before this line: {some(earlier)}."]
 
@@ -261,6 +252,8 @@ class Decisions:
             return [GONE]
         values = [int(word) for word in words[6:] if is_number(word)]
         lines = [f"The range of `{parameter.form}`: {parameter.range.replace('`', '')}."]
+        if words[5] == "servers" and values:
+            lines += of_servers(values[0])
         if words[5] == "weight":
             links = table.get("link")
             count = len(links) if isinstance(links, list) else 0

@@ -2,16 +2,15 @@
 import re
 from typing import Any, Dict, List, NamedTuple, Optional, Tuple
 
-from .explain_script import GONE, fault_of_number, here
+from .explain_script import GONE, here
 from .explain_tables import Tables, in_range, rule_of
 from .limits import (
     DEFAULT_LIMIT, KINDS, MAX_JOBS, MAX_LINE_BYTES, MAX_NUMBER, MAX_ROOM, MAX_SENDS, MAX_SERVERS, MAX_SETS, MAX_STAY,
     MAX_STAY_SUM, TIME_BOUND)
 from .names import NAME, did_you_mean
 from .places import Places, is_integer, printable, size_of
-from .script_lines import Lines, Word
+from .script_lines import Lines, Word, fault_of_number
 
-NUMBER = re.compile(r"(0|[1-9][0-9]*)\Z")
 JOB = re.compile(r"([0-9]+)\.([0-9]+)\.([0-9]+)\Z")
 RANGES = {"source": "every", "server": "service", "delay": "hold"}
 PAYLOADS: Dict[str, List[str]] = {"tick": [], "job": ["J"], "done": ["J"]}
@@ -35,14 +34,6 @@ class Message(NamedTuple):
     receiver: int
     what: str
     job: Optional[Job]
-
-
-def number_fault(word: str, greatest: int = MAX_NUMBER) -> str:
-    """Returns why a word is no number of a snapshot; an empty text if it is one."""
-    if not NUMBER.match(word):
-        return fault_of_number(word)
-    fits = len(word) <= len(str(greatest)) and int(word) <= greatest
-    return "" if fits else f"the greatest is {greatest:,}"
 
 
 def job_in(word: str) -> Job:
@@ -69,7 +60,7 @@ class SnapshotForms:
         before = len(parts) + len(shape) - 2
         count = len(self.places.links(number))
         if shape[-2] == "J":
-            count = int(words[before - 1]) if before <= len(words) and not number_fault(words[before - 1]) else 0
+            count = int(words[before - 1]) if before <= len(words) and not fault_of_number(words[before - 1]) else 0
         return parts + shape[:-2] + [shape[-2]] * min(count, len(words) + 1)
 
     def message(self, words: List[str]) -> List[str]:
@@ -95,14 +86,14 @@ class SnapshotForms:
             return self.job_fault(word)
         if part == "E" and word == "-":
             return []
-        fault = number_fault(word, MAX_STAY if part == "STAY" else MAX_NUMBER)
+        fault = fault_of_number(word, MAX_STAY if part == "STAY" else MAX_NUMBER)
         return [f"is no number: {fault}."] if fault else []
 
     def job_fault(self, word: str) -> List[str]:
         """Returns why a word is no job."""
         if not JOB.match(word):
             return ["is no job: a job is SOURCE.COUNT.BORN, three numbers with dots, the source as its number."]
-        faults = [number_fault(part) for part in word.split(".")]
+        faults = [fault_of_number(part) for part in word.split(".")]
         return [f"is no job: {fault}." for fault in faults if fault][:1]
 
     def faults(self, words: List[Word], parts: List[str]) -> List[str]:
@@ -182,7 +173,7 @@ class Snapshots:
     def count(self, line: int) -> Optional[int]:
         """Returns the number in a line `pending N` or `trace N`; None if it has none."""
         words = self.texts(line)
-        return int(words[1]) if len(words) == 2 and not number_fault(words[1]) else None
+        return int(words[1]) if len(words) == 2 and not fault_of_number(words[1]) else None
 
     def trace_line(self) -> Optional[int]:
         """Returns the line at which `trace N` belongs; None if the messages are not counted."""

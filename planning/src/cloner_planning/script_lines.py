@@ -7,6 +7,7 @@ from .limits import MAX_FILE_BYTES, MAX_NUMBER
 from .places import printable, read_bytes
 
 NUMBER = re.compile(r"(0|[1-9][0-9]{0,9})\Z")
+DIGITS = re.compile(r"(0|[1-9][0-9]*)\Z")
 WORD = re.compile(r"[^ \t]+")
 
 
@@ -83,3 +84,20 @@ def refuse_foreign(data: bytes, path: str, what: str) -> None:
 def is_number(text: str) -> bool:
     """Returns whether a word is a number of a script."""
     return NUMBER.match(text) is not None and int(text) <= MAX_NUMBER
+
+
+def fault_of_number(text: str, greatest: int = MAX_NUMBER) -> str:
+    """Returns why a word is no number up to a greatest one; an empty text if it is one."""
+    if DIGITS.match(text) and len(text) <= len(str(greatest)) and int(text) <= greatest:
+        return ""
+    if re.match(r"0\d+\Z", text, re.A):
+        return "it has a leading zero"
+    if re.match(r"\d+\Z", text, re.A):
+        return f"the greatest is {greatest:,}"
+    if re.match(r"[+-]\d+\Z", text, re.A):
+        return "a number has no sign"
+    if re.match(r"\d+[.:]\d+\Z", text, re.A):
+        return "a time or value is a whole number of units, with no point and no colon"
+    if re.match(r"\d[\d,_']*\Z", text, re.A):
+        return "it has a separator between its digits" if text[-1].isdigit() else "something follows its digits"
+    return "digits alone make a number"
