@@ -14,9 +14,10 @@ from samples import ENTRY, ENVIRONMENT, SCRIPT, ended
 
 from cloner_planning.errors import PlanningError
 from cloner_planning.models import parse_model
-from cloner_planning.replicate import DEFAULT_FIGURES, Progress, Spread, Table
-from cloner_planning.seed_runs import FIGURES
+from cloner_planning.figures import DEFAULT_FIGURES, FIGURES, Value
+from cloner_planning.replicate import Progress
 from cloner_planning.seeds import parse_seeds, with_seed
+from cloner_planning.spreads import Spread, Table
 from cloner_planning.summary_rows import CSV_KEYS
 
 MODEL = samples.MODEL.replace("[4, 4]", "[4, 9]").replace("= 20\n", "= 20\nseed = 100 # not this: seed = 5\n")
@@ -107,11 +108,12 @@ class TestTable(unittest.TestCase):
     def test_differences_are_taken_within_a_run(self):
         table = Table()
         for base_lost, fast_lost, base_wait, fast_wait in ((10, 8, None, 1.0), (1, 4, 2.0, 3.0)):
-            table.add([("base", "desk", "lost", base_lost), ("fast", "desk", "lost", fast_lost),
-                       ("base", "desk", "wait_mean", base_wait), ("fast", "desk", "wait_mean", fast_wait)])
-        own, more = table.spreads["fast", "desk", "lost"]
+            table.add([Value("base", "desk", None, "lost", base_lost), Value("fast", "desk", None, "lost", fast_lost),
+                       Value("base", "desk", None, "wait_mean", base_wait),
+                       Value("fast", "desk", None, "wait_mean", fast_wait)])
+        own, more = table.spreads["fast", "desk", None, "lost"]
         self.assertEqual((own.mean(), more.mean(), more.least, more.greatest, more.above), (6.0, 0.5, -2, 3, 1))
-        own, more = table.spreads["fast", "desk", "wait_mean"]
+        own, more = table.spreads["fast", "desk", None, "wait_mean"]
         self.assertEqual((own.count, more.count, more.mean()), (2, 1, 1.0))
 
     def test_progress(self):
@@ -189,8 +191,16 @@ class TestReplicate(unittest.TestCase):
             "1,fast,desk,used_share,50.0000", "1,fast,out,got,1", "1,fast,out,stay_mean,8.0000"]))
 
     def test_a_run_that_fails(self):
-        status, output, errors = self.replicate("--seeds", "1,7,2")
+        status, output, errors = self.replicate("--seeds", "7,2")
         self.assertEqual((status, output), (2, ""))
+        status, output, errors = self.replicate("--seeds", "1,7,2", "--figures", "got")
+        self.assertEqual((status, output), (2, """\
+1 seed, times from 0 on and before 20
+
+station figure branch seeds mean least greatest minus base least greatest above 0
+out     got    base       1 2.00     2        2          -     -        -       -
+out     got    fast       1 2.00     2        2       0.00     0        0  0 of 1
+"""))
         self.assertEqual(errors.split("\n")[-2],
                          "cloner-planning: seed 7: cloner: limit 3 met at station desk in clone base")
 
@@ -205,6 +215,57 @@ class TestReplicate(unittest.TestCase):
         status, _, errors = self.replicate("--seeds", "1")
         self.assertEqual(status, 2)
         self.assertRegex(errors, "^cloner-planning: seed 1: line 1 of the trace: .*\n$")
+
+    def test_a_csv_is_continued(self):
+        path, words = self.file("values.csv", ""), ("--figures", "stay,used")
+        os.remove(path)
+        self.assertEqual(self.replicate("--seeds", "1,7,2", *words, "--csv", path)[0], 2)
+        with open(path, encoding="ascii") as file:
+            self.assertEqual({line.split(",")[0] for line in file}, {"seed", "1"})
+        status, table, notes = self.replicate("--seeds", "1..3", *words, "--continue", path)
+        self.assertEqual(status, 0)
+        self.assertIn("note: 1 of 3 seeds are in", notes)
+        self.assertEqual(table, self.replicate("--seeds", "1..3", *words)[1])
+        with open(path, encoding="ascii") as file:
+            text = file.read()
+        self.assertEqual(text, self.replicate("--seeds", "1..3", *words, "--csv", "-")[1])
+        self.assertEqual(self.replicate("--seeds", "1..3", *words, "--continue", path)[1], table)
+        self.assertEqual(sorted(os.listdir(self.folder.name)), ["model", "script", "stand_in", "values.csv"])
+
+    def test_a_csv_that_cannot_be_continued(self):
+        words = ("--figures", "stay,used")
+        text = self.replicate("--seeds", "1..2", *words, "--csv", "-")[1]
+        lines = text.splitlines(True)
+        for wrong, part in ((text[:-3], "is cut"), ("".join(lines[:-1]), "seed 2 is cut"), ("a,b\n", "is no CSV of"),
+                            (text + lines[1], "line 10: seed 1 is there twice"), (text + "x\n", "line 10 is no value"),
+                            (text.replace("fast", "slow"), "other branches"), (b"\xff\n", "not UTF-8")):
+            path = os.path.join(self.folder.name, "old.csv")
+            with open(path, "wb") as file:
+                file.write(wrong if isinstance(wrong, bytes) else wrong.encode())
+            status, output, errors = self.replicate("--seeds", "1..3", *words, "--continue", path)
+            self.assertEqual((status, output, errors.count("\n")), (2, "", 1), wrong)
+            self.assertIn(part, errors)
+            with open(path, "rb") as file:
+                self.assertEqual(file.read(), wrong if isinstance(wrong, bytes) else wrong.encode())
+        self.assertEqual(self.replicate("--seeds", "1", "--continue", "/no/file")[0], 2)
+
+    def test_against_another_branch_or_the_parent(self):
+        with open(self.script, "a", encoding="ascii") as file:
+            file.write("fork faster from fast\nset faster at 8 desk service 1 1\n")
+        self.program = self.file("three", STAND_IN.replace("PYTHON", sys.executable).replace(
+            '("fast", 2))', '("fast", 2), ("faster", 3))').replace('name == "fast"', 'name != "base"'))
+        os.chmod(self.program, 0o755)
+        rows = {}
+        for against in ("base", "fast", "parent"):
+            status, output, errors = self.replicate("--seeds", "1", "--figures", "stay", "--against", against)
+            self.assertEqual(status, 0, errors)
+            self.assertIn("minus " + against, output)
+            rows[against] = {line.split()[2]: line.split()[7] for line in output.split("\n")[3:] if line}
+        # the stays are 8.5, 7.5 and 8
+        self.assertEqual(rows, {"base": {"base": "-", "fast": "-1.00", "faster": "-0.50"},
+                                "fast": {"base": "1.00", "fast": "-", "faster": "0.50"},
+                                "parent": {"base": "-", "fast": "-1.00", "faster": "0.50"}})
+        self.assertIn("no branch slow", self.replicate("--seeds", "1", "--against", "slow")[2])
 
     def test_signals_leave_no_folder(self):
         self.program = self.file("endless", "#!/bin/sh\necho $$ > PLACE\nexec sleep 60\n".replace(

@@ -126,6 +126,11 @@ def read_bytes(path: str, what: str) -> bytes:
         raise PlanningError(f"cannot read the {what} {path}: {fault.strerror}") from None
 
 
+def is_too_long(data: bytes) -> bool:
+    """Returns whether bytes that were read are more than a file may have."""
+    return len(data) > MAX_FILE_BYTES
+
+
 def size_of(path: str) -> str:
     """Returns how long a file is, in words."""
     return f"{path} has {os.path.getsize(path):,} bytes, and {MAX_FILE_BYTES:,} are allowed."

@@ -1,65 +1,104 @@
-"""Runs a study once for each seed, several runs at a time, and yields the figures of each run, by seed."""
-import contextlib
+"""Runs a study once for one seed, and returns the figures of its branches."""
 import os
-import signal
+import shutil
 import subprocess
-import threading
-from collections import deque
-from concurrent.futures import Future, ProcessPoolExecutor
-from concurrent.futures.process import BrokenProcessPool
-from multiprocessing import connection, parent_process
-from multiprocessing.process import BaseProcess
-from types import FrameType
-from typing import (
-    IO, Deque, Iterable, Iterator, List, NamedTuple, NoReturn, Optional, Sequence, TextIO, Tuple, Union, cast)
+import tempfile
+from typing import IO, Dict, Iterable, Iterator, List, NamedTuple, Optional, Sequence, TextIO, Tuple, cast
 
 from .errors import CutTrace, PlanningError
+from .figures import FIGURES, STATS_FIGURES, STATS_WAITS, Value
 from .models import Model
 from .scripts import Script
 from .seeds import with_seed
+from .stats_lines import values_of_stats
 from .summary import Study, check_orders, read_branches, rows_of, station_names
+from .tables import Row
 from .traces import Trace
-
-# what a summary says of a server and of a sink
-FIGURES = {
-    "server": ("arrived", "lost", "begun", "done", "waiting", "serving",
-               "wait_mean", "wait_median", "wait_90", "wait_99", "wait_longest", "over_share",
-               "line_mean", "line_most", "busy_mean", "used_share"),
-    "sink": ("got", "stay_mean", "stay_longest"),
-}
-
-Number = Union[int, float, None]
-# branch, station, figure, and the run's value; None if there is none, as the mean of no jobs
-Value = Tuple[str, str, str, Number]
 
 
 class Plan(NamedTuple):
-    """What all runs have in common, and of which branches, stations and figures values are wanted."""
+    """What all runs have in common, and of which branches, stations and figures values are wanted.
+
+    The script has the branches of the watches, too. A folder is where runs keep their files; None is the usual place.
+    """
 
     program: str
     model_text: str
     model: Model
-    script_path: str
+    script_text: str
     script: Script
+    watches_text: Optional[str]
+    watched: Sequence[str]
     start: int
     stop: int
     over: int
+    by_class: bool
     branches: Sequence[str]
     stations: Sequence[str]
     figures: Sequence[str]
-    folder: str
+    folder: Optional[str] = None
+
+    def has_figure(self, station: str, figure: str) -> bool:
+        """Returns whether a station has a figure."""
+        return figure in FIGURES[self.model.known(station).kind]
 
 
-PATIENCE = 2.0  # seconds
-# the program that this process of the pool runs
+class Result(NamedTuple):
+    """What a run came to: its values, and when the watches came due that did."""
+
+    values: List[Value]
+    dues: Dict[str, int]
+
+
+# the program that this process runs
 running: List["subprocess.Popen[str]"] = []
 
 
-def values_of(plan: Plan, lines: Iterable[str]) -> List[Value]:
+def uses_stats(plan: Plan) -> bool:
+    """Returns whether `cloner stats` probably has all figures that are wanted."""
+    if plan.start or plan.stop < plan.model.horizon or plan.by_class or plan.watches_text is not None:
+        return False
+    changed = {one.station for branch in plan.branches for one in plan.script.sets(branch)}
+    for station in plan.stations:
+        known = plan.model.known(station)
+        simple = known.servers == 1 and known.order == "arrival" and station not in changed
+        for figure in plan.figures:
+            if plan.has_figure(station, figure) and figure not in STATS_FIGURES + STATS_WAITS * simple:
+                return False
+    return True
+
+
+def noting_dues(name: str, lines: Iterator[str], plan: Plan, dues: Dict[str, int]) -> Iterator[str]:
+    """Yields the lines of a watch's branch, and notes when the watch came due: one lookahead before its change."""
+    number = str(len(plan.script.sets(name)) - 1)
+    for line in lines:
+        if " analyst " in line:
+            words = line.split()
+            if words[2:4] == ["analyst", number]:
+                dues[name] = int(words[0]) - plan.model.lookahead
+        yield line
+
+
+class WatchedTrace(Trace):
+    """A trace of `watch`, which notes on the way when the watches came due."""
+
+    def __init__(self, lines: Iterable[str], plan: Plan):
+        super().__init__(lines)
+        self.plan = plan
+        self.dues: Dict[str, int] = {}
+
+    def branches(self) -> Iterator[Tuple[str, Iterator[str]]]:
+        """Yields (name, lines) of each branch in order."""
+        for name, lines in super().branches():
+            watched = name in self.plan.watched
+            yield name, noting_dues(name, lines, self.plan, self.dues) if watched else lines
+
+
+def values_of(plan: Plan, lines: Iterable[str]) -> Result:
     """Returns the values of one run, whose output these lines are."""
-    study = Study(plan.start, plan.stop, plan.over)
+    study = Study(plan.start, plan.stop, plan.over, plan.by_class)
     study.model, study.script, study.longest = plan.model, plan.script, plan.model.horizon
-    trace = Trace(lines)
+    trace = WatchedTrace(lines, plan)
     branches = read_branches(trace, study)
     if trace.cut:
         raise CutTrace("no report follows the traces, so they are cut")
@@ -69,29 +108,57 @@ def values_of(plan: Plan, lines: Iterable[str]) -> List[Value]:
     for branch in branches:
         if branch.name in plan.branches:
             found = rows_of(branch, study, *names)
-            rows = {row["station"]: row for kind in FIGURES for row in found[kind]}
-            values += [(branch.name, station, figure, rows[station].get(figure)) for station in plan.stations
-                       for figure in plan.figures if figure in FIGURES[rows[station]["kind"]]]
-    return values
+            values += values_of_rows(plan, [row for kind in FIGURES for row in found[kind]])
+    return Result(values, trace.dues)
 
 
-def run_seed(plan: Plan, seed: int) -> List[Value]:
-    """Runs the study with a seed and returns its values."""
-    path = os.path.join(plan.folder, f"seed_{seed}")
-    with open(path + ".toml", "w", encoding="utf-8", newline="") as file:
-        file.write(with_seed(plan.model_text, seed))
-    with open(path + ".errors", "w+", encoding="utf-8", errors="replace") as errors:
-        command = [plan.program, "run", "--", path + ".toml", plan.script_path]
-        try:
-            values = read_run(plan, command, errors)
-        except PlanningError as fault:
-            raise type(fault)(f"seed {seed}: {fault}") from None
-    os.remove(path + ".toml")
-    return values
+def values_of_rows(plan: Plan, rows: List[Row]) -> List[Value]:
+    """Returns the wanted values of the rows of one branch, by station and figure."""
+    return [Value(row["branch"], station, row["class"], figure, row.get(figure))
+            for station in plan.stations for figure in plan.figures if plan.has_figure(station, figure)
+            for row in rows if row["station"] == station and (row["class"] is None or plan.by_class)]
 
 
-def read_run(plan: Plan, command: List[str], errors: TextIO) -> List[Value]:
-    """Runs the program and returns the values of its output; PlanningError if it fails or writes something else."""
+def run_seed(plan: Plan, seed: int) -> Result:
+    """Runs the study with a seed and returns what it came to."""
+    folder = tempfile.mkdtemp(prefix=f"cloner_seed_{seed}_", dir=plan.folder)
+    try:
+        model = write_text(folder, "model", with_seed(plan.model_text, seed))
+        files = [model, write_text(folder, "script", plan.script_text)]
+        mode = "run"
+        if plan.watches_text is not None:
+            files.append(write_text(folder, "watches", plan.watches_text))
+            mode = "watch"
+        with open(os.path.join(folder, "errors"), "w+", encoding="utf-8", errors="replace") as errors:
+            found: Optional[Result] = None
+            if uses_stats(plan):
+                found = read_run(plan, [plan.program, "stats", "--", *files], errors)
+            return found or cast(Result, read_run(plan, [plan.program, mode, "--", *files], errors))
+    except PlanningError as fault:
+        raise type(fault)(f"seed {seed}: {fault}") from None
+    finally:
+        shutil.rmtree(folder, ignore_errors=True)
+
+
+def write_text(folder: str, name: str, text: str) -> str:
+    """Writes a file and returns its path."""
+    path = os.path.join(folder, name)
+    with open(path, "w", encoding="utf-8", newline="") as file:
+        file.write(text)
+    return path
+
+
+def read_output(plan: Plan, mode: str, lines: Iterable[str]) -> Optional[Result]:
+    """Returns what the output of a mode says; None if `stats` does not have all figures."""
+    if mode != "stats":
+        return values_of(plan, lines)
+    servers = [name for name in plan.stations if plan.model.known(name).kind == "server"]
+    values = values_of_stats(lines, plan.branches, servers, plan.figures)
+    return None if values is None else Result(values, {})
+
+
+def read_run(plan: Plan, command: List[str], errors: TextIO) -> Optional[Result]:
+    """Runs the program and returns what its output says; PlanningError if it fails or writes something else."""
     try:
         process = subprocess.Popen(command, stdin=subprocess.DEVNULL, stdout=subprocess.PIPE, stderr=errors,
                                    encoding="latin-1")
@@ -100,11 +167,11 @@ def read_run(plan: Plan, command: List[str], errors: TextIO) -> List[Value]:
     running[:] = [process]
     wrong: Optional[PlanningError] = None
     killed = False
-    values: List[Value] = []
+    found: Optional[Result] = None
     output = cast(IO[str], process.stdout)
     with process:
         try:
-            values = values_of(plan, output)
+            found = read_output(plan, command[1], output)
         except PlanningError as fault:
             wrong = fault
             killed = output.read(1) != ""  # what still writes is not waited for
@@ -116,62 +183,4 @@ def read_run(plan: Plan, command: List[str], errors: TextIO) -> List[Value]:
         raise PlanningError(complaint)
     if wrong:
         raise wrong
-    return values
-
-
-def end_now(number: int = 0, frame: Optional[FrameType] = None) -> NoReturn:
-    """Ends a process of the pool at once, and the program that it runs.
-
-    It takes no lock, since it may come while the process waits for that program.
-    """
-    for process in running:
-        with contextlib.suppress(OSError):
-            if process.returncode is None:
-                os.kill(process.pid, signal.SIGKILL)
-                os.waitpid(process.pid, 0)
-    os._exit(1)
-
-
-def end_with_parent() -> None:
-    """Makes a process of the pool end quietly when it is interrupted, or when the process that started it is gone."""
-    def wait_for_end() -> None:
-        parent = parent_process()
-        if parent:
-            connection.wait([parent.sentinel])
-            end_now()
-
-    signal.signal(signal.SIGTERM, end_now)
-    if signal.getsignal(signal.SIGINT) is signal.default_int_handler:
-        signal.signal(signal.SIGINT, end_now)
-    threading.Thread(target=wait_for_end, daemon=True).start()
-
-
-def stop(pool: ProcessPoolExecutor) -> None:
-    """Ends all processes of a pool, without waiting for their runs."""
-    processes: List[BaseProcess] = list((getattr(pool, "_processes", None) or {}).values())
-    for process in processes:
-        process.terminate()
-    for process in processes:
-        process.join(PATIENCE)
-        process.kill()
-    pool.shutdown(cancel_futures=True)
-
-
-def run_seeds(plan: Plan, seeds: Sequence[int], jobs: int) -> Iterator[Tuple[int, List[Value]]]:
-    """Yields each seed with its values, in order; at most `jobs` runs go on at a time."""
-    with ProcessPoolExecutor(max_workers=min(jobs, len(seeds)), initializer=end_with_parent) as pool:
-        runs: Deque[Tuple[int, "Future[List[Value]]"]] = deque()
-        try:
-            for seed in seeds:
-                runs.append((seed, pool.submit(run_seed, plan, seed)))
-                if len(runs) > 2 * jobs:
-                    done, run = runs.popleft()
-                    yield done, run.result()
-            while runs:
-                done, run = runs.popleft()
-                yield done, run.result()
-        except BrokenProcessPool:
-            raise PlanningError("a process that read a run was killed, perhaps because memory ran out") from None
-        except BaseException:
-            stop(pool)
-            raise
+    return found
