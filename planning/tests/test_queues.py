@@ -5,18 +5,13 @@ import samples  # noqa: F401  (puts the package on the path)
 from cloner_planning.queues import ServerQueue
 
 
-def line_of(time, payload, counts):
-    """A line of the desk: its time, what the message brings, and busy, wait, done and lost after it."""
-    busy, wait, done, lost = counts
-    return f"{time} desk x 0 {payload} busy={busy} wait={wait} done={done} lost={lost}".split()
-
-
 def replay(messages, order="arrival"):
     """Returns the queue after the messages, and who began service when: (time, job, when it came)."""
     queue = ServerQueue(order)
     begun = []
     for time, payload, counts in messages:
-        begun += [(time, job, came) for job, came in queue.handle(time, line_of(time, payload, counts))]
+        what, about = payload.split()[:2]
+        begun += [(time, job, came) for job, came in queue.handle(time, what, about, counts)]
     return queue, begun
 
 

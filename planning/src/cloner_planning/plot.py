@@ -1,13 +1,14 @@
 """plot: pictures of traces. One matplotlib makes the same SVG of the same trace, byte for byte."""
 import argparse
 import sys
-from typing import Any, Callable, Optional, Tuple, TypeVar
+from typing import Any, Callable, List, Optional, Tuple, TypeVar
 
 from . import models, traces
 from .choices import whole_number
 from .errors import CutTrace, PlanningError
 from .series import MAX_BRANCHES, Branches, StationReader, read_series
 from .shares import Shares
+from .trace_sections import trace_lines
 
 DESCRIPTION = f"""Pictures of a trace: a station over time in several branches, or what each branch computed alone.
 
@@ -69,18 +70,16 @@ def kind_of_file(output: str) -> str:
     return kind
 
 
-def read_trace(options: argparse.Namespace, read: Callable[[Branches], Read]) -> Read:
-    """Returns what `read` makes of the trace's branches, and takes the standard input to its end.
+def read_trace(options: argparse.Namespace, read: Callable[[Branches], Read],
+               wanted: Optional[List[str]] = None) -> Read:
+    """Returns what `read` makes of the trace's branches, or of those that are wanted.
 
     Notes in `options.cut` whether a branch that was read may not be whole.
     """
-    with traces.open_trace(options.trace) as file:
-        trace = traces.Trace(file)
+    with trace_lines(options.trace, wanted) as lines:
+        trace = traces.Trace(lines)
         result = read(trace.branches())
         options.cut = traces.is_cut(trace, options.solo)
-        if options.trace == "-":
-            for _ in file:
-                pass
     return result
 
 
@@ -110,7 +109,7 @@ def station_picture(options: argparse.Namespace, model: Optional[models.Model], 
         raise PlanningError(f"the model has no station {name}: it has {', '.join(one.name for one in model.stations)}")
     if station:
         reader.settle(station.kind)
-    series = read_trace(options, lambda trace: read_series(trace, reader, branches))
+    series = read_trace(options, lambda trace: read_series(trace, reader, branches), branches)
     if reader.figure is None:
         raise PlanningError(f"the branches have no message at a station {name}")
     span = span_of(options, model, max(one.end for one in series))

@@ -39,44 +39,39 @@ class ServerQueue:
         self._serving: Set[str] = set()
         self._lines: List[Deque[Begun]] = [deque() for _ in range(CLASSES if self.by_class else 1)]
 
-    def handle(self, time: int, words: List[str]) -> Sequence[Begun]:
-        """Takes the server's next line, split, and returns the jobs that begin service at its time, in order.
+    def handle(self, time: int, what: str, job: str, counts: Tuple[int, ...]) -> Sequence[Begun]:
+        """Takes what the server's next message brings, and its counts after it.
 
-        Raises ValueError if the counts do not follow from those before: then lines are missing.
+        Returns the jobs that begin service at its time, in order. Raises ValueError if the counts do not follow from
+        those before: then lines are missing.
         """
-        busy, wait, done, lost = int(words[-4][5:]), int(words[-3][5:]), int(words[-2][5:]), int(words[-1][5:])
+        busy, wait, done, lost = counts
         move = (busy - self.busy, wait - self.wait, done - self.done, lost - self.lost)
-        self.busy, self.wait, self.done, self.lost = busy, wait, done, lost
-        if words[4] == "job":
-            return self._arrive(time, words[5], move)
+        self.busy, self.wait, self.done, self.lost = counts
+        if what == "job":
+            if move == JOINS:
+                self._lines[class_of(job) - 1 if self.by_class else 0].append((job, time))
+            elif move == BEGINS:
+                self._serving.add(job)
+                return ((job, time),)
+            elif move != IS_LOST:
+                raise ValueError(f"the counts do not follow from those before {job} came")
+            return NOBODY
         finished = 0
-        if words[4] == "done":
+        if what == "done":
             finished = 1
-            self._finish(words[5])
+            if job in self._serving:
+                self._serving.remove(job)
+            elif self.misfit is None:
+                self.misfit = job
         begun = -move[1]
         if begun < 0 or move != (begun - finished, -begun, finished, 0):
-            raise ValueError(f"the counts of {words[1]} do not follow from its line before")
+            raise ValueError(f"the counts do not follow from those before {what} {job}")
         return [self._next() for _ in range(begun)] if begun else NOBODY
 
     def jobs(self) -> List[Begun]:
         """Returns the jobs in line, the next first, each with the time at which it came."""
         return [job for line in self._lines for job in line]
-
-    def _arrive(self, time: int, job: str, move: Tuple[int, int, int, int]) -> Sequence[Begun]:
-        if move == BEGINS:
-            self._serving.add(job)
-            return ((job, time),)
-        if move == JOINS:
-            self._lines[class_of(job) - 1 if self.by_class else 0].append((job, time))
-        elif move != IS_LOST:
-            raise ValueError(f"the counts do not follow from those before {job} came")
-        return NOBODY
-
-    def _finish(self, job: str) -> None:
-        if job in self._serving:
-            self._serving.remove(job)
-        elif self.misfit is None:
-            self.misfit = job
 
     def _next(self) -> Begun:
         for line in self._lines:

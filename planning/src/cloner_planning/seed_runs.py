@@ -11,9 +11,10 @@ from .models import Model
 from .scripts import Script
 from .seeds import with_seed
 from .stats_lines import values_of_stats
-from .summary import Study, check_orders, read_branches, rows_of, station_names
+from .scope import Scope
+from .summary_read import check_orders, read_branches, rows_of, station_names
 from .tables import Row
-from .traces import Trace
+from .traces import Parsed, Trace
 
 
 class Plan(NamedTuple):
@@ -68,15 +69,13 @@ def uses_stats(plan: Plan) -> bool:
     return True
 
 
-def noting_dues(name: str, lines: Iterator[str], plan: Plan, dues: Dict[str, int]) -> Iterator[str]:
-    """Yields the lines of a watch's branch, and notes when the watch came due: one lookahead before its change."""
-    number = str(len(plan.script.sets(name)) - 1)
-    for line in lines:
-        if " analyst " in line:
-            words = line.split()
-            if words[2:4] == ["analyst", number]:
-                dues[name] = int(words[0]) - plan.model.lookahead
-        yield line
+def noting_dues(name: str, lines: Iterator[Parsed], plan: Plan, dues: Dict[str, int]) -> Iterator[Parsed]:
+    """Yields the lines of a watch's branch, and notes when the watch came due: one lookahead before its own set."""
+    number = len(plan.script.sets(name)) - 1
+    for parsed in lines:
+        if parsed[3] == "set" and parsed[7] == number:
+            dues[name] = parsed[0] - plan.model.lookahead
+        yield parsed
 
 
 class WatchedTrace(Trace):
@@ -87,16 +86,16 @@ class WatchedTrace(Trace):
         self.plan = plan
         self.dues: Dict[str, int] = {}
 
-    def branches(self) -> Iterator[Tuple[str, Iterator[str]]]:
-        """Yields (name, lines) of each branch in order."""
-        for name, lines in super().branches():
+    def parsed_branches(self) -> Iterator[Tuple[str, Iterator[Parsed]]]:
+        """Yields (name, parts of the lines) of each branch in order."""
+        for name, lines in super().parsed_branches():
             watched = name in self.plan.watched
             yield name, noting_dues(name, lines, self.plan, self.dues) if watched else lines
 
 
 def values_of(plan: Plan, lines: Iterable[str]) -> Result:
     """Returns the values of one run, whose output these lines are."""
-    study = Study(plan.start, plan.stop, plan.over, plan.by_class)
+    study = Scope(plan.start, plan.stop, plan.over, plan.by_class)
     study.model, study.script, study.longest = plan.model, plan.script, plan.model.horizon
     trace = WatchedTrace(lines, plan)
     branches = read_branches(trace, study)

@@ -1,8 +1,8 @@
 """The figures of one server or sink of one branch within a span of time, gathered message by message."""
-from typing import Dict, List, NamedTuple, Optional
+from typing import Dict, List, NamedTuple, Optional, Tuple
 
 from .queues import CLASSES, ServerQueue
-from .traces import class_of
+from .traces import Parsed, class_of
 
 ALL = 0
 NO_QUEUE = ServerQueue()
@@ -22,11 +22,12 @@ class Waits(NamedTuple):
 class Tally:
     """Counts of jobs at a server, and how often each wait occurred."""
 
-    __slots__ = ("arrived", "lost", "begun", "done", "counts", "waits")
+    __slots__ = ("arrived", "lost", "begun", "done", "counts", "kept", "waits")
 
     def __init__(self) -> None:
         self.arrived = self.lost = self.begun = self.done = 0
         self.counts: Dict[int, int] = {}
+        self.kept: Dict[int, int] = {}
         self.waits: Optional[Waits] = None
 
     def add(self, other: "Tally") -> None:
@@ -38,9 +39,20 @@ class Tally:
         for wait, count in other.counts.items():
             self.counts[wait] = self.counts.get(wait, 0) + count
 
-    def close(self, over: int) -> None:
-        """Computes the figures of the waits and drops their counts."""
+    def add_counts(self, other: "Tally") -> None:
+        """Adds a tally that is closed and has kept its counts."""
+        self.add(other)
+        for wait, count in other.kept.items():
+            self.counts[wait] = self.counts.get(wait, 0) + count
+
+    def figures(self, over: int) -> Optional[Waits]:
+        """Returns the figures of the waits; None if there are none."""
+        return waits_of(self.counts, over)
+
+    def close(self, over: int, keep: bool = False) -> None:
+        """Computes the figures of the waits and drops their counts, unless they are to be kept."""
         self.waits = waits_of(self.counts, over)
+        self.kept = self.counts if keep else {}
         self.counts = {}
 
 
@@ -88,8 +100,9 @@ class ServerFigures:
         self.servers_since = start
         self.server_area = 0
 
-    def handle(self, time: int, words: List[str]) -> None:
-        """Takes the server's next line, split. Raises ValueError if its counts do not follow."""
+    def handle(self, parsed: Parsed) -> None:
+        """Takes the parts of the server's next line. Raises ValueError if its counts do not follow."""
+        time, _, _, what, about, value, counts, _ = parsed
         queue = self.queue
         if time > self.counts_since:
             lasted = time - self.counts_since
@@ -97,27 +110,27 @@ class ServerFigures:
             self.line_area += queue.wait * lasted
             self.counts_since = time
         lost = queue.lost
-        begun = queue.handle(time, words)
+        begun = queue.handle(time, what, about, counts)
         within = time >= self.start
         tallies = self.within if within else self.before
-        payload = words[4]
-        if payload == "job":
-            tally = tallies[class_of(words[5]) if self.by_class else ALL]
+        if what == "job":
+            tally = tallies[class_of(about) if self.by_class else ALL]
             tally.arrived += 1
-            if queue.lost > lost:
+            if counts[3] > lost:
                 tally.lost += 1
-        elif payload == "done":
-            tallies[class_of(words[5]) if self.by_class else ALL].done += 1
-        elif payload == "set" and words[5] == "servers":
-            self.change_servers(max(time, self.start), int(words[6]))
-        if not within or queue.wait > self.most:
-            self.most = queue.wait
+        elif what == "done":
+            tallies[class_of(about) if self.by_class else ALL].done += 1
+        elif about == "servers":
+            self.change_servers(max(time, self.start), int(value))
+        wait = counts[1]
+        if wait > self.most or not within:
+            self.most = wait
         for job, came in begun:
             tally = tallies[class_of(job) if self.by_class else ALL]
             tally.begun += 1
             if within:
-                counts = tally.counts
-                counts[time - came] = counts.get(time - came, 0) + 1
+                waits = tally.counts
+                waits[time - came] = waits.get(time - came, 0) + 1
 
     def change_servers(self, time: int, servers: int) -> None:
         """Takes a new number of servers from a time on, where the number before it is known."""
@@ -126,15 +139,18 @@ class ServerFigures:
             self.servers = servers
             self.servers_since = time
 
-    def close(self, over: int) -> None:
-        """Computes the figures of the waits, and drops what only further messages would need."""
+    def close(self, over: int, keep: bool = False) -> None:
+        """Computes the figures of the waits, and drops what only further messages would need.
+
+        Keeps how often each wait occurred if it is asked to.
+        """
         self.busy, self.wait, self.misfit = self.queue.busy, self.queue.wait, self.queue.misfit
         self.queue = NO_QUEUE
         for tallies in (self.before, self.within):
             for tally in tallies[1:]:
                 tallies[ALL].add(tally)
         for tally in self.within:
-            tally.close(over)
+            tally.close(over, keep)
 
     def waiting(self, place: int) -> int:
         """Returns how many jobs of a class, or in all, wait at the end of the span."""
@@ -162,10 +178,15 @@ class ServerFigures:
 
         Returns None if their number is not known, or if the span is empty.
         """
+        areas = self.areas(end)
+        return None if areas is None else mean(100 * areas[0], areas[1])
+
+    def areas(self, end: int) -> Optional[Tuple[int, int]]:
+        """Returns the busy time, and the time of the servers that were there; None if it is not known or empty."""
         if self.servers is None or end <= self.start:
             return None
         busy = self.busy_area + self.busy * (end - self.counts_since)
-        return mean(100 * busy, self.server_area + self.servers * (end - self.servers_since))
+        return busy, self.server_area + self.servers * (end - self.servers_since)
 
 
 class Leaving:
@@ -199,17 +220,18 @@ class SinkFigures:
         self.got = self.stay = 0
         self.leaving = [Leaving() for _ in range(1 + CLASSES if by_class else 1)]
 
-    def handle(self, time: int, words: List[str]) -> None:
-        """Takes the sink's next line, split. Raises ValueError if its counts do not follow."""
-        got, stay = int(words[-2][4:]), int(words[-1][5:])
+    def handle(self, parsed: Parsed) -> None:
+        """Takes the parts of the sink's next line. Raises ValueError if its counts do not follow."""
+        time, _, station, what, job, _, counts, _ = parsed
+        got, stay = counts
         own = stay - self.stay
-        if got != self.got + 1 or own < 0 or words[4] != "job":
-            raise ValueError(f"the counts of {words[1]} do not follow from its line before")
+        if got != self.got + 1 or own < 0 or what != "job":
+            raise ValueError(f"the counts of {station} do not follow from its line before")
         self.got, self.stay = got, stay
         if time >= self.start:
             self.leaving[ALL].take(own)
             if len(self.leaving) > 1:
-                self.leaving[class_of(words[5])].take(own)
+                self.leaving[class_of(job)].take(own)
 
 
 def mean(total: float, count: int) -> Optional[float]:

@@ -1,6 +1,7 @@
 """The rows of a summary: one per branch and server, per branch and sink, and per branch."""
 from typing import Any, Dict, List, Optional, Sequence
 
+from .census import Census
 from .station_figures import ALL, ServerFigures, SinkFigures
 from .tables import Column, Row
 
@@ -10,11 +11,14 @@ CLASS = ("class", "class")
 STATION = [("branch", "branch"), ("station", "station")]
 SINK_FIGURES = [("got", "got"), ("stay_mean", "stay"), ("stay_longest", "longest")]
 BRANCH = [("branch", "branch"), ("to", "to"), ("made", "made"), ("got", "left"), ("lost", "lost"), ("inside", "inside")]
+DELAY = [("branch", "branch"), ("station", "station"), ("arrived", "came"), ("waiting", "inside"), ("mean", "mean"),
+         ("most", "most")]
+CENSUS = [("branch", "branch"), ("from", "from"), ("to", "to"), ("mean", "mean"), ("most", "most")]
 CSV_KEYS = ["branch", "station", "kind", "class", "from", "to",
             "arrived", "lost", "begun", "done", "waiting", "serving",
             "wait_mean", "wait_median", "wait_90", "wait_99", "wait_longest", "over", "over_share",
             "line_mean", "line_most", "busy_mean", "used_share",
-            "got", "stay_mean", "stay_longest", "made", "inside"]
+            "got", "stay_mean", "stay_longest", "made", "inside", "mean", "most"]
 
 
 def server_columns(over: int, by_class: bool) -> List[Column]:
@@ -87,3 +91,20 @@ def branch_row(head: Row, made: int, sinks: Sequence[SinkFigures], servers: Sequ
     got = sum(sink.got for sink in sinks)
     lost = sum(server.lost_from_start() for server in servers)
     return {**head, "made": made, "got": got, "lost": lost, "inside": made - got - lost}
+
+
+def delay_rows(census: Census, branch: str, start: int, end: int) -> List[Row]:
+    """Returns the rows of a branch's delays."""
+    rows = []
+    for name, place in census.delays.items():
+        whole = place.stretches(start, end)[0]
+        last = [count for time, count in place.steps if time < end]
+        rows.append({**head_of(branch, name, "delay", start, end), "arrived": census.came[name],
+                     "waiting": last[-1] if last else 0, "mean": whole.mean, "most": whole.most})
+    return rows
+
+
+def census_rows(census: Census, branch: str, start: int, end: int, every: Optional[int]) -> List[Row]:
+    """Returns the rows of the jobs in a branch's network, one for each stretch of the span."""
+    return [{**head_of(branch, None, "census", one.start, one.end), "mean": one.mean, "most": one.most}
+            for one in census.network.stretches(start, max(start, end), every)]

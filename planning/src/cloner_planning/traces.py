@@ -4,7 +4,8 @@ Every line is checked against the format of docs/FORMATS.md first, so callers ca
 """
 import re
 import sys
-from typing import Iterable, Iterator, List, Optional, TextIO, Tuple
+from sys import intern
+from typing import Callable, Dict, Iterable, Iterator, List, Optional, TextIO, Tuple, TypeVar
 
 from .errors import PlanningError, note
 from .names import NAME_FORM
@@ -22,6 +23,11 @@ report_total = re.compile(rf"total handled=({NUMBER}) alone=({NUMBER})\s*\Z").ma
 rounds_line = re.compile(rf"rounds ({NUMBER})\s*\Z").match
 
 ReportRow = Tuple[str, int, int, int]
+# the parts of a line of a trace: its time, the beginning of its last count, its station, the first word of its payload
+# and the two after it, which are empty for a tick, the counts as numbers, and the number of a set (0 for all others)
+Parsed = Tuple[int, str, str, str, str, str, Tuple[int, ...], int]
+MAX_KNOWN = 30_000
+Item = TypeVar("Item")
 
 
 class Trace:
@@ -33,27 +39,47 @@ class Trace:
     rounds: the rounds that `links` writes after the report, or None
     cut: whether the lines have ended before the report did. `solo` and `resume` write no report.
     number: the number of the line that was read last
+    known: lines that were parsed, up to MAX_KNOWN; branches have many lines in common
     """
 
     def __init__(self, lines: Iterable[str]):
         self._lines = iter(lines)
         self._head: Optional[str] = None
+        self._open = False
         self.journal: List[str] = []
         self.report: List[ReportRow] = []
         self.total: Optional[Tuple[int, int]] = None
         self.rounds: Optional[int] = None
         self.cut = False
         self.number = 0
+        self.known: Dict[str, Parsed] = {}
 
     def branches(self) -> Iterator[Tuple[str, Iterator[str]]]:
         """Yields (name, lines) of each branch in order. What the caller leaves of the lines is passed over."""
+        return self._each(self._branch_lines)
+
+    def parsed_branches(self) -> Iterator[Tuple[str, Iterator[Parsed]]]:
+        """Yields (name, parts of the lines) of each branch in order. What the caller leaves is passed over."""
+        return self._each(self._branch_parts)
+
+    def skip_branch(self) -> None:
+        """Passes over the rest of the branch, without a check of its lines."""
+        for line in self._lines if self._open else ():
+            self.number += 1
+            if not "0" <= line[:1] <= "9":
+                self._end_branch(line)
+                return
+        self.cut = self.cut or self._open
+
+    def _each(self, read: Callable[[], Iterator[Item]]) -> Iterator[Tuple[str, Iterator[Item]]]:
         self._head = self._first_head()
         while self._head is not None:
-            name, self._head = self._head, None
-            lines = self._branch_lines()
+            name, self._head, self._open = self._head, None, True
+            lines = read()
             yield name, lines
-            for _ in lines:
-                pass
+            if self._open:
+                for _ in lines:
+                    pass
 
     def fault(self, what: str) -> PlanningError:
         """Returns an error about the line that was read last."""
@@ -94,15 +120,35 @@ class Trace:
                 yield line
                 continue
             self.number = number
-            head = head_of(line)
-            if head:
-                self._head = head.group(1)
-            elif line.rstrip() == "report":
-                self._read_report()
-            else:
-                raise self.fault(f"no line of a trace: {shown(line)}")
+            self._end_branch(line)
             return
         self.cut = True
+
+    def _branch_parts(self) -> Iterator[Parsed]:
+        known = self.known
+        for line in self._lines:
+            self.number += 1
+            found = known.get(line)
+            if found is None:
+                if not is_message(line):
+                    self._end_branch(line)
+                    return
+                found = parts_of(line.split())
+                if len(known) < MAX_KNOWN:
+                    known[line] = found
+            yield found
+        self.cut = True
+
+    def _end_branch(self, line: str) -> None:
+        """Takes the line after a branch: the next head, or the report."""
+        head = head_of(line)
+        self._open = False
+        if head:
+            self._head = head.group(1)
+        elif line.rstrip() == "report":
+            self._read_report()
+        else:
+            raise self.fault(f"no line of a trace: {shown(line)}")
 
     def _read_report(self) -> None:
         line = self._next()
@@ -118,6 +164,23 @@ class Trace:
                 self.total = (int(total.group(1)), int(total.group(2)))
             line = self._next()
         self.cut = self.total is None
+
+
+def parts_of(words: List[str]) -> Parsed:
+    """Returns the parts of a line of a trace, given its words."""
+    count = words[-1]
+    kind = count[:4]
+    counts: Tuple[int, ...] = ()
+    if kind == "lost":
+        counts = (int(words[-4][5:]), int(words[-3][5:]), int(words[-2][5:]), int(count[5:]))
+    elif kind == "stay":
+        counts = (int(words[-2][4:]), int(count[5:]))
+    elif kind == "sent":
+        counts = (int(count[5:]),)
+    what = words[4]
+    if what == "set":
+        return int(words[0]), kind, intern(words[1]), "set", words[5], words[6], counts, int(words[3])
+    return int(words[0]), kind, intern(words[1]), intern(what), "" if what == "tick" else words[5], "", counts, 0
 
 
 def shown(line: str) -> str:
