@@ -1,8 +1,6 @@
 """replicate: runs a study with several seeds, and describes how its figures vary."""
 import argparse
 import contextlib
-import os
-import shutil
 import sys
 import tempfile
 from concurrent.futures import Executor
@@ -15,8 +13,8 @@ from .models import Model
 from .outputs import Output, whole_file
 from .scripts import Script
 from .seed_csv import Writer, read_csv
-from .seed_pools import executor_of, run_all
-from .seed_runs import Plan, Result, run_seed
+from .seed_pools import MAX_JOBS, default_jobs, executor_of, run_all
+from .seed_runs import Plan, Result, program_of, run_seed
 from .seeds import parse_seeds
 from .spreads import NAMES, Table, columns_of, dues_rows
 from .study_files import StudyFiles, read_study
@@ -44,7 +42,6 @@ that are not in this CSV, and adds them to it.
 --executor dask:ADDRESS or mpi carries the runs to other machines, which need cloner and this package."""
 
 DUES = [("branch", "branch"), ("due", "came due"), ("mean", "mean"), ("least", "least"), ("greatest", "greatest")]
-MAX_JOBS = 256
 
 
 def add_arguments(parser: argparse.ArgumentParser) -> None:
@@ -87,11 +84,6 @@ def number_of_jobs(word: str) -> int:
     if not 1 <= number <= MAX_JOBS:
         raise argparse.ArgumentTypeError(f"{word!r} is no number from 1 to {MAX_JOBS}")
     return number
-
-
-def default_jobs() -> int:
-    """Returns how many runs this machine does at a time."""
-    return min(os.cpu_count() or 1, MAX_JOBS)
 
 
 class Progress:
@@ -160,14 +152,6 @@ def span_of(options: argparse.Namespace, model: Model) -> Tuple[int, int]:
     if options.start >= stop:
         raise PlanningError(f"--from {options.start} is not below {stop}, the end of the span")
     return options.start, stop
-
-
-def program_of(word: str) -> str:
-    """Returns the path of the program."""
-    program = shutil.which(word)
-    if program is None:
-        raise PlanningError(f"there is no program {word}: put cloner on the path, or name it with --bin")
-    return program
 
 
 def compared(options: argparse.Namespace, script: Script) -> List[str]:

@@ -46,6 +46,11 @@ class Script:
         self.path = path
         self._branches: Optional[Dict[str, Branch]] = None
 
+    def add(self, decision: Decision) -> None:
+        """Adds a decision at the end; PlanningError if its branch is unknown, there already, or ended."""
+        self._take(self._made(), decision)
+        self.decisions.append(decision)
+
     def branches(self) -> List[str]:
         """Returns the names of the branches in the order of making, `base` first."""
         return list(self._made())

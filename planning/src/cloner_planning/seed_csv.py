@@ -1,6 +1,6 @@
 """The CSV of replications: a line for each value. It is read again to continue it."""
 import csv
-from typing import IO, Dict, List, Sequence, Tuple
+from typing import IO, Dict, Iterable, List, Optional, Sequence, Tuple
 
 from .errors import PlanningError
 from .figures import Number, Value
@@ -22,9 +22,13 @@ class Writer:
 
     def add(self, seed: int, values: Sequence[Value]) -> None:
         """Writes the values of one seed."""
-        for one in values:
-            job_class = [shown(one.job_class, 0, "")] * self.by_class
-            self._writer.writerow([seed, one.branch, one.station, *job_class, one.figure, shown(one.value, 4, "")])
+        self.add_rows((seed, *one) for one in values)
+
+    def add_rows(self, rows: Iterable[Tuple[int, str, str, Optional[int], str, Number]]) -> None:
+        """Writes values, each with its seed."""
+        for seed, branch, station, job_class, figure, value in rows:
+            classes = [shown(job_class, 0, "")] * self.by_class
+            self._writer.writerow([seed, branch, station, *classes, figure, shown(value, 4, "")])
 
 
 def number_in(text: str) -> Number:

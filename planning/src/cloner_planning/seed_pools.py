@@ -17,9 +17,15 @@ from .seed_runs import running
 
 PATIENCE = 2.0  # seconds
 MAX_WAITING = 1000
+MAX_JOBS = 256
 Item = TypeVar("Item")
 Found = TypeVar("Found")
 Task = Callable[[Any, Item], Found]
+
+
+def default_jobs() -> int:
+    """Returns how many runs this machine does at a time."""
+    return min(os.cpu_count() or 1, MAX_JOBS)
 
 
 def end_now(number: int = 0, frame: Optional[FrameType] = None) -> NoReturn:

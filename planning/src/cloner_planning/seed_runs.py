@@ -55,6 +55,14 @@ class Result(NamedTuple):
 running: List["subprocess.Popen[str]"] = []
 
 
+def program_of(word: str) -> str:
+    """Returns the path of the program."""
+    program = shutil.which(word)
+    if program is None:
+        raise PlanningError(f"there is no program {word}: put cloner on the path, or name it with --bin")
+    return program
+
+
 def uses_stats(plan: Plan) -> bool:
     """Returns whether `cloner stats` probably has all figures that are wanted."""
     if plan.start or plan.stop < plan.model.horizon or plan.by_class or plan.watches_text is not None:
