@@ -10,7 +10,7 @@ from typing import List, NoReturn, Optional, Protocol, TextIO, cast
 from . import __version__
 from .errors import PlanningError, Terminated
 
-COMMANDS = ("run", "summary", "replicate", "report", "plot", "explain", "check", "diagram", "completion")
+COMMANDS = ("run", "summary", "replicate", "search", "report", "plot", "explain", "check", "diagram", "completion")
 PROGRAM = "cloner-planning"
 PURPOSE = ("Tools for planners, which read what cloner reads and writes. "
            "They are plain Python; nothing of them is proved.")
