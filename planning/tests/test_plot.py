@@ -11,7 +11,7 @@ from samples import MODEL, SOURCES, TRACE
 
 from cloner_planning.command_line import main
 from cloner_planning.errors import PlanningError
-from cloner_planning.series import Series, StationReader, read_series, shown, thin
+from cloner_planning.series import CensusReader, Series, StationReader, band_of, read_series, shown, thin
 from cloner_planning.shares import BINS, Shares
 from cloner_planning.traces import Trace
 
@@ -158,6 +158,29 @@ class TestShares(unittest.TestCase):
         self.assertEqual(counted, {0: 1, (BINS - 1) // 8: 1, BINS // 8: 1, 5 * BINS // 8: 2})
 
 
+class Census(unittest.TestCase):
+    def test_jobs_in_the_network(self):
+        base, fast = read_series(Trace(io.StringIO(TRACE)).branches(), CensusReader(), ())
+        self.assertEqual(base.points(), [(3, 1), (6, 2), (11, 1), (15, 0)])
+        self.assertEqual((fast.points()[-1], fast.sets, base.sets), ((13, 0), [8], []))
+
+    def test_a_lost_job_leaves(self):
+        text = ("clone base\n1 gate gate 0 tick sent=1\n2 desk gate 1 job gate.0 busy=0 wait=0 done=0 lost=1\n")
+        (base,) = read_series(Trace(io.StringIO(text)).branches(), CensusReader(), ())
+        self.assertEqual(base.points(), [(1, 1), (2, 0)])
+
+    def test_bands(self):
+        seeds = []
+        for steps in (((0, 1), (4, 3)), ((2, 5), (8, 0))):
+            one = Series("base")
+            for time, value in steps:
+                one.become(time, value)
+            seeds.append(one)
+        band = band_of(seeds, 0, 10, 5)
+        self.assertEqual((band.times, band.least, band.greatest), ([0, 2, 4, 6, 8], [0, 1, 3, 3, 0], [1, 5, 5, 5, 3]))
+        self.assertEqual(band.mean, [0.5, 3.0, 4.0, 4.0, 1.5])
+
+
 class TestPlot(unittest.TestCase):
     def setUp(self):
         self.folder = tempfile.TemporaryDirectory()
@@ -221,11 +244,43 @@ class TestPlot(unittest.TestCase):
     def test_a_station_without_messages(self):
         text = logs(base="1:1")
         self.assertIn("no message at a station desk", self.plot(self.file("short", text), "desk")[2])
-        self.assertEqual(self.plot(self.file("short", text), "desk", "--model", self.model)[0], 0)
+        self.assertEqual(self.plot(self.file("short", text), "desk", "--solo", "--model", self.model)[0], 0)
+
+    @unittest.skipUnless(matplotlib, "no matplotlib")
+    def test_panels_bands_census_and_titles(self):
+        slower = self.file("slower", TRACE.replace("15 out desk 3 job gate.1 got=2 stay=17",
+                                                   "19 out desk 3 job gate.1 got=2 stay=21"))
+        for words, part in ((["desk", "--panels"], b">fast<"), (["--census"], b"Jobs in the network"),
+                            (["--census", "base", "--band", slower], b"least and greatest of 2 seeds"),
+                            (["desk", "--band", slower, "--panels"], b">fast<"),
+                            (["desk", "--title", "Lines of Monday"], b"Lines of Monday")):
+            status, output, errors = self.plot(self.trace, *words)
+            self.assertEqual((status, errors), (0, ""), words)
+            self.assertIn(part, output)
+        path = self.file("a.pdf")
+        self.assertEqual(self.plot(self.trace, "desk", "--output", path)[0], 0)
+        with open(path, "rb") as file:
+            self.assertTrue(file.read().startswith(b"%PDF"))
+        for words, part in ((["out", "--band", slower], "not stay"),
+                            (["--alone", "--panels"], "--alone goes with none"),
+                            (["--census", "--what", "line"], "exclude each other"),
+                            (["desk", "--band", self.file("none")], "cannot read the trace")):
+            status, _, errors = self.plot(self.trace, *words)
+            self.assertEqual((status, errors.count("\n")), (2, 1), words)
+            self.assertIn(part, errors)
+
+    @unittest.skipUnless(matplotlib, "no matplotlib")
+    def test_eight_branches_differ_in_grey(self):
+        from cloner_planning.pictures import MARKERS, look_of
+        looks = [look_of(place, "x") for place in range(8)]
+        self.assertEqual(len({(str(look["linestyle"]), look["marker"]) for look in looks}), 8)
+        self.assertEqual(len({str(look["linestyle"]) for look in looks}), 8)
+        self.assertEqual(len(set(MARKERS)), 12)
 
     @unittest.skipUnless(matplotlib, "no matplotlib")
     def test_refusals(self):
-        for words, part in ((["desk", "--output", "a.gif"], ".svg or .png"), ([], "needs a station, or --alone"),
+        for words, part in ((["desk", "--output", "a.gif"], ".svg, .png or .pdf"),
+                            ([], "needs a station, --census or --alone"),
                             (["desk", "--from", "20"], "no time is left"), (["--alone", "--from", "20"], "no message"),
                             (["till", "--model", self.model], "the model has no station till"),
                             (["--alone", "--what", "line"], "exclude each other")):

@@ -1,6 +1,7 @@
 """Runs of seeds with the program itself: watches, classes, statistics in place of traces, and Dask."""
 import importlib.util
 import os
+import subprocess
 import unittest
 import unittest.mock
 
@@ -67,6 +68,25 @@ class Program(Folder):
             seed = [int(line.split("=")[1]) for line in file if line.startswith("seed")]
         dues = run_seed(plan, (seed or [0])[0]).dues
         self.assertEqual(dues, {"fourth": 3068, "fifth": 3394, "called": 6151})
+
+    def test_what_came_of_each_watch(self):
+        path = self.file("watches", "watch base doctor wait 5 fork fourth set doctor servers 4\n"
+                                    "watch fourth doctor wait 50 fork fifth set doctor servers 5\n"
+                                    "watch fifth doctor wait 1 fork sixth set doctor servers 6\n"
+                                    "watch base doctor wait 6 fork none set doctor servers 4\n")
+        trace = subprocess.run([PROGRAM, "watch", *CLINIC, path], stdout=subprocess.PIPE, check=True).stdout.decode()
+        status, output, errors = ended("explain", *CLINIC, path, "--trace", "-", text=trace)
+        lines = output.split("\n")[2::3]
+        self.assertEqual((status, errors, len(lines)), (0, "", 4))
+        self.assertRegex(lines[0], r"^  It came due at (\d+), and the change is at \d+\.$")
+        self.assertRegex(lines[1], r"^  It never came due: the longest line at `doctor` in `fourth` was \d+, first at")
+        self.assertIn("there is no branch `fifth`, since its own watch never came due", lines[2])
+        self.assertIn("the longest line at `doctor` in `base` was 5, first at", lines[3])
+        cut = "".join(trace.splitlines(True)[:-1])
+        self.assertEqual(ended("explain", *CLINIC, path, "--trace", "-", text=cut)[0], 3)
+        other = self.file("other", "watch base doctor wait 5 fork third set doctor servers 4\n")
+        self.assertIn("which make no branch fourth", ended("explain", *CLINIC, other, "--trace", "-", text=trace)[2])
+        self.assertEqual(ended("explain", *CLINIC, "--trace", "-", text=trace)[0], 2)
 
     def test_statistics_say_the_same_as_traces(self):
         files = read_study(*CLINIC)

@@ -13,10 +13,14 @@ from .explain_snapshots import Snapshots
 from .explain_tables import Status, Tables, read_tables
 from .explain_watches import Watches, explain_watches
 from .limits import MAX_LIMIT
+from .models import read_model
 from .names import did_you_mean
 from .places import Places, is_integer, printable, read_bytes, read_places
 from .recipes import of_branch
 from .script_lines import Lines, read_lines
+from .scripts import read_script
+from .watch_trace import dues_of
+from .watches import read_watches
 
 DESCRIPTION = """Says what an error line of cloner means, and where.
 
@@ -30,6 +34,10 @@ Prints the meaning from docs/FORMATS.md, the line of the file, what is allowed t
 With a file of watches and an empty standard input it says what each watch waits for and what its branch changes:
 
     cloner-planning explain MODEL SCRIPT WATCHES < /dev/null
+
+With --trace it says too when each watch came due in that trace, or how long the line was:
+
+    cloner watch MODEL SCRIPT WATCHES > TRACE; cloner-planning explain MODEL SCRIPT WATCHES --trace TRACE
 
 For `resume` the second file is the snapshot. With an empty standard input it says what the snapshot holds:
 
@@ -52,6 +60,7 @@ def add_arguments(parser: argparse.ArgumentParser) -> None:
     parser.add_argument("script", nargs="?", metavar="SCRIPT",
                         help="the script that cloner was given; for `resume` the snapshot")
     parser.add_argument("watches", nargs="?", metavar="WATCHES", help="the file of watches that cloner was given")
+    parser.add_argument("--trace", metavar="TRACE", help="what `cloner watch` wrote: say when each watch came due")
 
 
 class Needed(NamedTuple):
@@ -275,6 +284,16 @@ def described(files: Files) -> List[str]:
     return Snapshots(lines, read_tables(), places).described()
 
 
+def with_dues(options: argparse.Namespace) -> List[str]:
+    """Returns each watch, what it waits for, and when it came due in the trace."""
+    if not options.watches:
+        raise PlanningError("--trace needs the files of the model, the script and the watches")
+    watches = read_watches(options.watches)
+    dues = dues_of(options.trace, read_model(options.model), read_script(options.script), watches)
+    said = described(Files(options.model, options.script, options.watches))
+    return [line for place, due in enumerate(dues) for line in (*said[2 * place:2 * place + 2], f"  {due}")]
+
+
 def write(lines: List[str]) -> None:
     """Prints lines, with a substitute for each character that the output cannot show."""
     reconfigure: Any = getattr(sys.stdout, "reconfigure", None)
@@ -285,7 +304,13 @@ def write(lines: List[str]) -> None:
 
 
 def run(options: argparse.Namespace) -> int:
-    """Explains the error line on standard input; returns 1, or 0 if there is none, after a look at the files."""
+    """Explains the error line on standard input; returns 1, or 0 if there is none, after a look at the files.
+
+    With a trace says what came of the watches, and returns 0.
+    """
+    if options.trace is not None:
+        write(with_dues(options))
+        return 0
     said, front = read_said(sys.stdin.buffer)
     files = Files(options.model, options.script, options.watches)
     if not said:

@@ -4,21 +4,27 @@ import sys
 from typing import Any, Callable, List, Optional, Tuple, TypeVar
 
 from . import models, traces
-from .choices import whole_number
+from .choices import names_in, whole_number
 from .errors import CutTrace, PlanningError
-from .series import MAX_BRANCHES, Branches, StationReader, read_series
+from .outputs import whole_file
+from .series import MAX_BRANCHES, Branches, CensusReader, Series, StationReader, band_of, read_series
 from .shares import Shares
 from .trace_sections import trace_lines
 
 DESCRIPTION = f"""Pictures of a trace: a station over time in several branches, or what each branch computed alone.
 
 TRACE is what `cloner run`, `solo`, `live`, `watch` or `links` wrote, or - for standard input. The picture is an SVG on
-standard output, or with --output a file .svg or .png. Drawing needs matplotlib.
+standard output, or with --output a file .svg, .png or .pdf. Drawing needs matplotlib.
 
 plot TRACE STATION [BRANCH ..]
   A line for each branch; without BRANCH all branches, at most {MAX_BRANCHES}. It shows how many jobs wait at a server
   (line) or how many of its servers are busy (busy). At a sink, a dot for each job shows its time in the network
-  (stay). If branches coincide, the first of them covers the others.
+  (stay). If branches coincide, the first of them covers the others. Each has a colour, a dash and a marker, and
+  --panels draws each in a panel of its own. Triangles at the time axis mark the decisions of branches.
+  --band TRACE,.. has the same branches with other seeds: then a line shows the mean over the seeds, and a band goes
+  from the least to the greatest value.
+plot TRACE --census [BRANCH ..]
+  The same of how many jobs are in the network.
 plot TRACE --alone [BRANCH ..]
   A row for each branch, from pale to solid: the share of its messages that no earlier branch has. An earlier
   branch has a message if its lines of that station are the same, from the first line up to this one. On the right
@@ -41,6 +47,11 @@ def add_arguments(parser: argparse.ArgumentParser) -> None:
     parser.add_argument("--what", choices=("line", "busy", "stay"),
                         help="line or busy at a server, stay at a sink; without it line or stay")
     parser.add_argument("--alone", action="store_true", help="draw what each branch computed alone")
+    parser.add_argument("--census", action="store_true", help="draw how many jobs are in the network")
+    parser.add_argument("--panels", action="store_true", help="draw each branch in a panel of its own")
+    parser.add_argument("--band", type=names_in, default=[], metavar="TRACE,..",
+                        help="further traces of the same branches with other seeds")
+    parser.add_argument("--title", metavar="TEXT", help="the picture's title")
     parser.add_argument("--from", dest="begin", type=whole_number, default=0, metavar="TIME",
                         help="the first time to draw")
     parser.add_argument("--to", dest="stop", type=whole_number, metavar="TIME",
@@ -49,7 +60,8 @@ def add_arguments(parser: argparse.ArgumentParser) -> None:
                         "shows the station's servers or room, if any branch reaches them")
     parser.add_argument("--solo", action="store_true",
                         help="the traces are those of `solo` or `resume`, which write no report")
-    parser.add_argument("--output", default="-", metavar="FILE", help="a file .svg or .png; - is the standard output")
+    parser.add_argument("--output", default="-", metavar="FILE",
+                        help="a file .svg, .png or .pdf; - is the standard output")
 
 
 def pictures_module() -> Any:
@@ -63,10 +75,10 @@ def pictures_module() -> Any:
 
 
 def kind_of_file(output: str) -> str:
-    """Returns svg or png, by the end of the file's name."""
+    """Returns svg, png or pdf, by the end of the file's name."""
     kind = "svg" if output == "-" else output.lower().rpartition(".")[2]
-    if kind not in ("svg", "png"):
-        raise PlanningError(f"the picture's name must end in .svg or .png: {output}")
+    if kind not in ("svg", "png", "pdf"):
+        raise PlanningError(f"the picture's name must end in .svg, .png or .pdf: {output}")
     return kind
 
 
@@ -114,7 +126,39 @@ def station_picture(options: argparse.Namespace, model: Optional[models.Model], 
         raise PlanningError(f"the branches have no message at a station {name}")
     span = span_of(options, model, max(one.end for one in series))
     limit = capacity(station, reader.figure) if station else None
-    return pictures.draw_series(series, reader.figure, name, span, limit)
+    if options.band:
+        if reader.figure == "stay":
+            raise PlanningError("--band shows line, busy and the census, not stay")
+        return band_picture(options, series, lambda: StationReader(name, reader.figure), span, pictures)
+    return pictures.draw_series(series, reader.figure, name, span, limit, options.panels, options.title)
+
+
+def census_picture(options: argparse.Namespace, model: Optional[models.Model], pictures: Any) -> Any:
+    """Returns the picture of how many jobs are in the network."""
+    if options.what:
+        raise PlanningError("--census and --what exclude each other")
+    names = options.words
+    series = read_trace(options, lambda trace: read_series(trace, CensusReader(), names), names)
+    span = span_of(options, model, max(one.end for one in series))
+    if options.band:
+        return band_picture(options, series, CensusReader, span, pictures)
+    return pictures.draw_series(series, "census", "", span, None, options.panels, options.title)
+
+
+def band_picture(options: argparse.Namespace, series: List[Series], reader: Callable[[], StationReader],
+                 span: Tuple[int, int], pictures: Any) -> Any:
+    """Returns the picture of the branches of several traces, each with another seed."""
+    names = [one.branch for one in series]
+    seeds = [series]
+    cut = options.cut
+    for path in options.band:
+        more = argparse.Namespace(**{**vars(options), "trace": path})
+        seeds.append(read_trace(more, lambda trace: read_series(trace, reader(), names), names))
+        cut = cut or more.cut
+    options.cut = cut
+    bands = [band_of([one[place] for one in seeds], *span, pictures.COLUMNS) for place in range(len(names))]
+    figure, station = (reader().figure or reader().what or "line"), reader().station
+    return pictures.draw_bands(bands, figure, station, span, len(seeds), options.panels, options.title)
 
 
 def alone_picture(options: argparse.Namespace, model: Optional[models.Model], pictures: Any) -> Any:
@@ -131,10 +175,17 @@ def alone_picture(options: argparse.Namespace, model: Optional[models.Model], pi
 def run(options: argparse.Namespace) -> int:
     """Draws what the options ask for and returns the status."""
     kind = kind_of_file(options.output)
-    if not (options.words or options.alone):
-        raise PlanningError("plot needs a station, or --alone")
+    if not (options.words or options.alone or options.census):
+        raise PlanningError("plot needs a station, --census or --alone")
+    if options.alone and (options.census or options.panels or options.band):
+        raise PlanningError("--alone goes with none of --census, --panels and --band")
     pictures = pictures_module()
     model = models.read_model(options.model) if options.model else None
-    picture = (alone_picture if options.alone else station_picture)(options, model, pictures)
-    pictures.write(picture, sys.stdout.buffer if options.output == "-" else options.output, kind)
+    draw = alone_picture if options.alone else census_picture if options.census else station_picture
+    picture = draw(options, model, pictures)
+    if options.output == "-":
+        pictures.write(picture, sys.stdout.buffer, kind)
+    else:
+        with whole_file(options.output, "wb") as output:
+            pictures.write(picture, output.file, kind)
     return CutTrace.status if options.cut else 0

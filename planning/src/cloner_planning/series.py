@@ -30,6 +30,7 @@ class Series:
         self.branch = branch
         self.times = array("q")
         self.values = array("q")
+        self.sets: List[int] = []
         self.end = 0
 
     def become(self, time: int, value: int) -> None:
@@ -89,6 +90,8 @@ class StationReader:
         self.stayed = 0
         try:
             for line in lines:
+                if " analyst " in line:
+                    series.sets.append(int(line.split(None, 1)[0]))
                 if needle in line:
                     words = line.split()
                     if words[1] == self.station:
@@ -97,6 +100,63 @@ class StationReader:
             raise PlanningError(f"{self.station} has counts of two kinds of station: {line.strip()[:80]}") from None
         series.end = int(line.split(None, 1)[0])
         return series
+
+
+class CensusReader(StationReader):
+    """Reads how many jobs are in the network: those that sources made, less those that left or were lost."""
+
+    def __init__(self) -> None:
+        super().__init__("")
+        self.figure = "census"
+
+    def read(self, branch: str, lines: Iterable[str]) -> Series:
+        """Returns the branch's series, read from its lines."""
+        series, line, inside = Series(branch), "0", 0
+        lost: Dict[str, int] = {}
+        for line in lines:
+            words = line.split()
+            kind, now = words[-1][:4], int(words[0])
+            if words[2] == "analyst":
+                series.sets.append(now)
+            elif kind == "sent":
+                inside += 1
+            elif kind == "stay":
+                inside -= 1
+            elif kind == "lost" and int(words[-1][5:]) > lost.get(words[1], 0):
+                lost[words[1]] = int(words[-1][5:])
+                inside -= 1
+            series.become(now, inside)
+        series.end = int(line.split(None, 1)[0])
+        return series
+
+
+class Band:
+    """One branch's figure over several seeds: at each of some times the least, the mean and the greatest value."""
+
+    def __init__(self, branch: str, times: List[int], rows: List[List[int]]) -> None:
+        self.branch = branch
+        self.times = times
+        columns = list(zip(*rows))
+        self.least = [min(column) for column in columns]
+        self.mean = [sum(column) / len(column) for column in columns]
+        self.greatest = [max(column) for column in columns]
+
+
+def band_of(seeds: Sequence[Series], begin: int, end: int, columns: int) -> Band:
+    """Returns the band of one branch's figure in steps, at `columns` times from `begin` up to `end`."""
+    times = sorted({begin + (end - begin) * number // columns for number in range(columns)})
+    return Band(seeds[0].branch, times, [values_at(one, times) for one in seeds])
+
+
+def values_at(series: Series, times: List[int]) -> List[int]:
+    """Returns the value of a figure in steps at each of these times, which rise."""
+    found, place, value = [], 0, 0
+    for time in times:
+        while place < len(series.times) and series.times[place] <= time:
+            value = series.values[place]
+            place += 1
+        found.append(value)
+    return found
 
 
 def read_series(trace: Branches, reader: StationReader, names: Sequence[str]) -> List[Series]:
