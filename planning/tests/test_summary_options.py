@@ -1,4 +1,5 @@
 """summary: groups, census, units, order, JSON, and reading no further than is wanted."""
+import io
 import json
 import os
 import unittest
@@ -6,6 +7,7 @@ import unittest
 from samples import BASE_TRACE, FAST_TRACE, MODEL, REPORT, TRACE, Folder, ended, model_text
 
 from cloner_planning.census import Occupancy
+from cloner_planning.progress import telling, watched
 from cloner_planning.trace_sections import lines_of
 from cloner_planning.units import Unit, by_clock
 
@@ -138,6 +140,14 @@ class Options(Folder):
 
 
 class Parts(unittest.TestCase):
+    def test_progress_of_a_long_file(self):
+        output = io.StringIO()
+        lines = ["x" * 9 + "\n"] * 400_001
+        self.assertEqual(sum(1 for _ in telling(lines, 4_000_010, output)), 400_001)
+        self.assertEqual(output.getvalue().split("\r")[1:4],
+                         [f"{percent} % of 4 MB read" for percent in (0, 50, 100)])
+        self.assertIs(watched(lines, "-", output), lines)
+
     def test_occupancy(self):
         place = Occupancy()
         for time, more in ((5, 1), (2, 2), (5, -1), (8, -2)):
