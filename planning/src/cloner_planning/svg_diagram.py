@@ -10,7 +10,7 @@ WIDTH, HEIGHT, GAP_X, GAP_Y = 176, 58, 84, 26
 
 
 def columns_of(model: Model) -> List[List[str]]:
-    """Returns the stations in columns: sources first, each other one after the nearest that leads to it."""
+    """Returns the stations in columns: sources first, each other one after the nearest that leads to it, sinks last."""
     column = {station.name: 0 for station in model.stations if station.kind == "source"}
     front = list(column)
     while front:
@@ -19,11 +19,14 @@ def columns_of(model: Model) -> List[List[str]]:
             if link.to not in column:
                 column[link.to] = column[name] + 1
                 front.append(link.to)
-    last = max(column.values(), default=0)
+    sinks = [station.name for station in model.stations if station.kind == "sink"]
+    last = max([place for name, place in column.items() if name not in sinks], default=0)
     for station in model.stations:
-        if station.kind == "sink" or station.name not in column:
-            column[station.name] = max(column.get(station.name, 0), last)
-    return [[name for name, place in column.items() if place == number] for number in range(last + 1)]
+        column.setdefault(station.name, last)
+        if station.kind == "sink":
+            column[station.name] = last + 1
+    found = [[name for name, place in column.items() if place == number] for number in range(last + 2)]
+    return [names for names in found if names]
 
 
 def places_of(model: Model) -> Dict[str, Tuple[int, int]]:

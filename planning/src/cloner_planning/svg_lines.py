@@ -50,7 +50,7 @@ def svg_of(series: List[Series], span: Tuple[int, int], title: str, unit: Option
         anchor = "start" if number == 0 else "end" if number == 4 else "middle"
         parts.append(f'<text x="{x:.1f}" y="{HEIGHT - BOTTOM + 16}" text-anchor="{anchor}" '
                      f'font-size="11">{said}</text>')
-    for number, (one, points) in enumerate(zip(series, drawn)):
+    for number, (one, points) in reversed([*enumerate(zip(series, drawn))]):  # earlier branches cover later ones
         look = f'stroke="{COLOURS[number]}" stroke-dasharray="{DASHES[number]}" fill="none" stroke-width="1.3"'
         y = HEIGHT + 16 * number
         parts.append(f'<path d="{path_of(points, span, greatest)}" {look}/>'
