@@ -11,7 +11,7 @@ from .models import Model
 from .script_lines import Lines, is_number, read_ascii_lines
 from .summary_rows import server_columns, sink_columns
 
-MAX_PLANS = 65_536
+MAX_PLANS = 100_000
 GOAL = re.compile(r"least (.+?)(?: with (.+))?\Z")
 BOUND = re.compile(r"(.+?) (<=|>=) ([0-9]+(?:\.[0-9]+)?)\Z")
 Values = Tuple[int, ...]
