@@ -5,6 +5,7 @@ import shutil
 import subprocess
 import sys
 import tempfile
+import time
 import unittest
 
 TESTS = os.path.dirname(os.path.abspath(__file__))
@@ -101,6 +102,15 @@ def ended(*words, text="", folder=None, environment=None):
     done = subprocess.run([*ENTRY, *words], input=text.encode(), stdout=subprocess.PIPE, stderr=subprocess.PIPE,
                           cwd=folder, env=dict(ENVIRONMENT, **(environment or {})), check=False)
     return done.returncode, done.stdout.decode(), done.stderr.decode()
+
+
+def wait_for(is_there, seconds=60):
+    """Waits until something is there; fails if it takes too long."""
+    end = time.monotonic() + seconds
+    while not is_there():
+        if time.monotonic() > end:
+            raise AssertionError(f"not there after {seconds} seconds")
+        time.sleep(0.01)
 
 
 class Folder(unittest.TestCase):

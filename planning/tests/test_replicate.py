@@ -10,7 +10,7 @@ import time
 import unittest
 
 import samples
-from samples import ENTRY, ENVIRONMENT, SCRIPT, ended
+from samples import ENTRY, ENVIRONMENT, SCRIPT, ended, wait_for
 
 from cloner_planning.errors import PlanningError
 from cloner_planning.models import parse_model
@@ -277,8 +277,8 @@ out     got    fast       1 2.00     2        2       0.00     0        0  0 of 
                    "--jobs", "2"]
         for number, status in ((signal.SIGTERM, 143), (signal.SIGINT, 130)):
             process = subprocess.Popen(command, stderr=subprocess.PIPE, env=dict(ENVIRONMENT, TMPDIR=temporary))
-            while not os.listdir(temporary) or not os.path.exists(os.path.join(self.folder.name, "id")):
-                time.sleep(0.01)
+            self.addCleanup(process.kill)
+            wait_for(lambda: os.listdir(temporary) and os.path.exists(os.path.join(self.folder.name, "id")))
             time.sleep(0.2)
             process.send_signal(number)
             errors = process.communicate()[1]

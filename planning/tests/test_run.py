@@ -2,10 +2,10 @@
 import os
 import signal
 import subprocess
-import time
 import unittest
 
-from samples import ENTRY, ENVIRONMENT, MODEL, PROGRAM, SCRIPT, TRACE, Folder, ended, example, needs_program
+from samples import (
+    ENTRY, ENVIRONMENT, MODEL, PROGRAM, SCRIPT, TRACE, Folder, ended, example, needs_program, wait_for)
 
 from cloner_planning.explain_tables import read_tables
 from cloner_planning.explain_words import faults_of_words, files_of, mode_of
@@ -89,10 +89,10 @@ class Runs(Folder):
 
     def test_the_program_ends_with_the_command(self):
         place = os.path.join(self.folder, "id")
-        self.file("cloner", f"#!/bin/sh\necho $$ > {place}.new && mv {place}.new {place}\nexec sleep 60\n", 0o755)
+        self.file("cloner", f"#!/bin/sh\necho $$ > {place}\nexec sleep 60\n", 0o755)
         process = subprocess.Popen([*ENTRY, "run", self.program, "gen", "1"], env=ENVIRONMENT)
-        while not os.path.exists(place):
-            time.sleep(0.01)
+        self.addCleanup(process.kill)
+        wait_for(lambda: os.path.exists(place) and os.path.getsize(place))
         process.send_signal(signal.SIGTERM)
         self.assertEqual(process.wait(30), 143)
         with open(place, encoding="ascii") as file, self.assertRaises(ProcessLookupError):
