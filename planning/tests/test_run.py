@@ -2,6 +2,7 @@
 import os
 import signal
 import subprocess
+import time
 import unittest
 
 from samples import (
@@ -93,6 +94,7 @@ class Runs(Folder):
         process = subprocess.Popen([*ENTRY, "run", self.program, "gen", "1"], env=ENVIRONMENT)
         self.addCleanup(process.kill)
         wait_for(lambda: os.path.exists(place) and os.path.getsize(place))
+        time.sleep(1)  # the command knows the process by then
         process.send_signal(signal.SIGTERM)
         self.assertEqual(process.wait(30), 143)
         with open(place, encoding="ascii") as file, self.assertRaises(ProcessLookupError):
