@@ -22,6 +22,12 @@ from cloner_planning.summary_rows import CSV_KEYS
 
 MODEL = samples.MODEL.replace("[4, 4]", "[4, 9]").replace("= 20\n", "= 20\nseed = 100 # not this: seed = 5\n")
 
+
+def take_interrupts():
+    """Undoes what a shell does for a process in the background, which ignores SIGINT."""
+    signal.signal(signal.SIGINT, signal.SIG_DFL)
+
+
 # cloner's stand-in. With seed S the second service in base takes 3 + S, in fast 2. So the stays are 8 and 8 + S in
 # base, 8 and 7 in fast, and the desk is busy for 7 + S of 20 in base, for 6 in fast. Seed 7 is one that the model's
 # limit forbids, seed 8 makes a wrong trace.
@@ -276,7 +282,8 @@ out     got    fast       1 2.00     2        2       0.00     0        0  0 of 
         command = [*ENTRY, "replicate", self.model, self.script, "--bin", self.program, "--seeds", "1..4",
                    "--jobs", "2"]
         for number, status in ((signal.SIGTERM, 143), (signal.SIGINT, 130)):
-            process = subprocess.Popen(command, stderr=subprocess.PIPE, env=dict(ENVIRONMENT, TMPDIR=temporary))
+            process = subprocess.Popen(command, stderr=subprocess.PIPE, env=dict(ENVIRONMENT, TMPDIR=temporary),
+                                       preexec_fn=take_interrupts)
             self.addCleanup(process.kill)
             wait_for(lambda: os.listdir(temporary) and os.path.exists(os.path.join(self.folder.name, "id")))
             time.sleep(0.2)
