@@ -1,22 +1,25 @@
--- A front rises, and the fronts of a run end at the horizon.
+-- A front rises, and the fronts of a run end at the horizon. A log stays the same while nothing is due.
 use Rattle.std.proofs.Common.{◌≡◌, ℕ, zero, suc, ◌+◌, ◌<◌, ◌≤◌, min, List, [], ◌∷◌}
-use Rattle.std.proofs.Common.{inl, inr, Option, Some, None, nat_lt, refl, sym, ◌∙◌, arith, subst}
+use Rattle.std.proofs.Common.{inl, inr, Option, Some, None, nat_lt, refl, sym, ap, ◌∙◌, arith, subst}
 use Rattle.std.specs.List.{AllByRecursion}
 use Rattle.std.specs.Ordering.{nat_cmp}
 use Rattle.std.specs.declared.cmp.Ordering.TheVariants.{Less}
-use Rattle.std.proofs.lemmas.Bool.{cases_lt, ltb-true}
+use Rattle.std.proofs.lemmas.Bool.{cases_lt, lt-ltb, ltb-true}
 use Rattle.std.proofs.lemmas.Cmp.{nat_cmp_total}
 use Rattle.sim_base.specs.Clones.{Clone}
+use Rattle.run_laws.specs.Machine.{IsSettled}
 use Rattle.run_laws.specs.Simulation.{Simulation}
-use Rattle.run_laws.specs.Runs.{end_of, run_of, all_due}
+use Rattle.run_laws.specs.World.{log_of, first_world}
+use Rattle.run_laws.specs.Runs.{run, end_of, run_of, log_at, all_due}
 use Rattle.run_laws.specs.Fronts.{earlier, least_time, least_of, least, window_end, next_front, AreFronts}
 use Rattle.run_laws.specs.Handlers.{HandlesLawfully}
 use Rattle.run_laws.specs.FrontLaws.{RiseToHorizon}
 use Rattle.sim_base.proofs.ListLaws.{all_weaker}
 use Rattle.sim_base.proofs.OrderLaws.{nat_cmp-lt}
 use Rattle.run_laws.proofs.Queue.{all_in, all_from}
-use Rattle.run_laws.proofs.Lists.{in_filter}
-use Rattle.run_laws.proofs.Worlds.{run_reached}
+use Rattle.run_laws.proofs.Lists.{in_filter, filter_keeps}
+use Rattle.run_laws.proofs.Running.{run_reach, run_is}
+use Rattle.run_laws.proofs.Worlds.{world_lawful, begins_fine, run_reached}
 
 -- ---- window_end
 
@@ -54,6 +57,27 @@ module _ {S M N : Type 0} {sim : Simulation S M N} {Good : ℕ → S → Type 0}
       (run_reached law c.plans (min front (end_of sim c))).1.from_t h.0 in
       let b : sim.time m < end_of sim c = ltb-true (sim.time m) (end_of sim c) h.1 in
       omega (arith, a, b))
+
+  -- if nothing is due before a time, a log stays the same up to that time
+  pub log_at-nothing_due : (c : Clone) (s front until : ℕ) → front ≤ until →
+      AllByRecursion (λ m. until ≤ sim.time m) (all_due sim c front) →
+      log_at sim c s until ≡ log_at sim c s front
+  log_at-nothing_due c s front until l due =
+      let le : min front (end_of sim c) ≤ min until (end_of sim c) = omega arith in
+      let settled : IsSettled sim.time (min until (end_of sim c)) (run sim c.plans (min front (end_of sim c))) =
+      all_from (λ m. min until (end_of sim c) ≤ sim.time m) (run sim c.plans (min front (end_of sim c))).pending
+      (λ m i. elim (cases_lt (sim.time m) (end_of sim c)) [
+        | inl e ↦ let far : until ≤ sim.time m = all_in (λ m. until ≤ sim.time m) (all_due sim c front) m due
+            (filter_keeps (λ m. nat_lt (sim.time m) (end_of sim c)) (run sim c.plans (min front (end_of sim c))).pending
+            m i (lt-ltb (sim.time m) (end_of sim c) e)) in omega arith
+        | inr e ↦ omega arith
+      ]) in
+      let same : run sim c.plans (min front (end_of sim c)) ≡ run sim c.plans (min until (end_of sim c)) =
+      run_is law.order (world_lawful law) (min until (end_of sim c)) (first_world sim c.plans)
+      (run sim c.plans (min front (end_of sim c))) (begins_fine law c.plans)
+      (run_reach law.order (world_lawful law) (min until (end_of sim c)) (min front (end_of sim c))
+      (first_world sim c.plans) le (begins_fine law c.plans)).0 settled in
+      ap (λ w. log_of sim.to s w.at.trace) (sym same)
 
   -- each window may extend by the lookahead
   pub next_front-far : (cs : List Clone) (front : ℕ) → min sim.horizon (front + sim.lookahead) ≤ next_front sim cs front

@@ -10,20 +10,15 @@ use Rattle.sim_base.specs.declared.entry.Entry.{Entry}
 use Rattle.sim_base.proofs.ListLaws.{all_weaker}
 use Rattle.sim_base.proofs.OrderEqual.{ordering_then-le}
 use Rattle.run_laws.specs.Queue.{In, Sorted}
-use Rattle.run_laws.specs.Machine.{IsSettled}
 use Rattle.run_laws.specs.Simulation.{Simulation}
-use Rattle.run_laws.specs.World.{log_of, first_world}
-use Rattle.run_laws.specs.Runs.{run, end_of, log_at, all_due}
+use Rattle.run_laws.specs.Runs.{log_at, all_due}
 use Rattle.run_laws.specs.Fronts.{least, window_end}
 use Rattle.run_laws.specs.FrontLaws.{time_before, IsLeastTime}
 use Rattle.run_laws.specs.Merges.{entry_order}
 use Rattle.run_laws.specs.Handlers.{HandlesLawfully, SendsToStations, HandlesFreshly, AreForStations}
 use Rattle.run_laws.proofs.Queue.{all_in, all_from}
-use Rattle.run_laws.proofs.Lists.{filter_keeps}
-use Rattle.run_laws.proofs.Running.{run_reach, run_is}
-use Rattle.run_laws.proofs.Worlds.{world_lawful, begins_fine}
 use Rattle.run_laws.proofs.Fronts.{log_at_front}
-use Rattle.run_laws.proofs.NextFronts.{all_due-from_front}
+use Rattle.run_laws.proofs.NextFronts.{all_due-from_front, log_at-nothing_due}
 use Rattle.run_laws.proofs.DueTimes.{least-is}
 use Rattle.run_laws.proofs.Traces.{log_rises}
 use Rattle.watch_laws.specs.Due.{RisesByTime, due_in}
@@ -51,32 +46,6 @@ module _ {S M N : Type 0} (sim : Simulation S M N) (front : ℕ) where
   -- a message is due in one of the clones
   abbrev DueIn : List Clone → M → Type 0
   DueIn cs m = (c : Clone) × In c cs × In m (all_due sim c front)
-
--- ---- log_at
-
-module _ {S M N : Type 0} {sim : Simulation S M N} {Good : ℕ → S → Type 0} (law : HandlesLawfully sim Good) where
-  -- if nothing is due before a time, a log stays the same up to that time
-  pub log_at-nothing_due : (c : Clone) (s front until : ℕ) → front ≤ until →
-      AllByRecursion (λ m. until ≤ sim.time m) (all_due sim c front) →
-      log_at sim c s until ≡ log_at sim c s front
-  log_at-nothing_due c s front until l due =
-      let a : ℕ = min front (end_of sim c) in
-      let b : ℕ = min until (end_of sim c) in
-      let le : min front (end_of sim c) ≤ min until (end_of sim c) = omega arith in
-      let settled : IsSettled sim.time (min until (end_of sim c)) (run sim c.plans (min front (end_of sim c))) =
-      all_from (λ m. min until (end_of sim c) ≤ sim.time m) (run sim c.plans (min front (end_of sim c))).pending
-      (λ m i. elim (cases_lt (sim.time m) (end_of sim c)) [
-        | inl e ↦ let far : until ≤ sim.time m = all_in (λ m. until ≤ sim.time m) (all_due sim c front) m due
-            (filter_keeps (λ m. nat_lt (sim.time m) (end_of sim c)) (run sim c.plans (min front (end_of sim c))).pending
-            m i (lt-ltb (sim.time m) (end_of sim c) e)) in omega arith
-        | inr e ↦ omega arith
-      ]) in
-      let same : run sim c.plans (min front (end_of sim c)) ≡ run sim c.plans (min until (end_of sim c)) =
-      run_is law.order (world_lawful law) (min until (end_of sim c)) (first_world sim c.plans)
-      (run sim c.plans (min front (end_of sim c))) (begins_fine law c.plans)
-      (run_reach law.order (world_lawful law) (min until (end_of sim c)) (min front (end_of sim c))
-      (first_world sim c.plans) le (begins_fine law c.plans)).0 settled in
-      ap (λ w. log_of sim.to s w.at.trace) (sym same)
 
 module _ {S M N : Type 0} {sim : Simulation S M N} {Good : ℕ → S → Type 0} {sender number : M → ℕ} {next : S → ℕ}
     (law : HandlesLawfully sim Good) (stations : SendsToStations sim Good)

@@ -1,5 +1,6 @@
+use Rattle.run_laws.proofs.NextFronts.{log_at-nothing_due}
 use Rattle.watch_laws.proofs.Due.{due_in-before_front}
-use Rattle.watch_laws.proofs.Windows.{due_at_front, due_is_not_late, log_at-nothing_due}
+use Rattle.watch_laws.proofs.Windows.{due_at_front, due_is_not_late}
 use Rattle.watch_laws.proofs.laws.due_times_are_known.Goals as goal
 
 pub returns-clause-nothing_due : goal.returns-clause-nothing_due
