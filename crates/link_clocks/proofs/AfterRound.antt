@@ -34,7 +34,7 @@ use Rattle.station_steps.proofs.Places.{by_number, got_within}
 use Rattle.station_steps.proofs.Handled.{handled_at, handled_at-got, all_handled-sum}
 use Rattle.station_steps.proofs.Delivered.{IsDelivered-after_window}
 use Rattle.world_core.specs.Overs.{most_handled}
-use Rattle.link_laws.specs.Cuts.{IsRound}
+use Rattle.link_laws.specs.Cuts.{IsRoundOf}
 use Rattle.link_laws.specs.CutCopies.{StandsAtCut, EachIsRound}
 use Rattle.link_laws.proofs.Clocks.{clocks_make_rounds}
 use Rattle.link_laws.proofs.CutStands.{stands_after_round}
@@ -67,8 +67,8 @@ module _ (net : Net) (cs : List Clone) (k : ℕ) (procs : List ProcView) (flows 
   next = clock net (suc k)
 
   -- it is a round
-  round : IsRound (simulation net) (IsGood net) cut next
-  round = clocks_make_rounds (delays_of net) (net_keeps_to_links net world.valid) k
+  round : IsRoundOf (simulation net) (IsGood net) cs cut next
+  round = clocks_make_rounds (delays_of net) (net_keeps_to_links net world.valid) k cs
 
   -- each station of the network has its copies
   pub proc_of : (i : ℕ) → i < length net.sites → (p : ProcView) × (slice_get procs i ≡ Some p)

@@ -4,9 +4,10 @@ use Rattle.std.proofs.Common.{refl, sym, ap, ◌∙◌, subst, arith, Bool, true
 use Rattle.std.proofs.Math.Nat.{suc-mul, add-mul, lt-div-mul-add}
 use Rattle.std.proofs.lemmas.Bool.{cases_eq, cases_lt, ne_eqb}
 use Rattle.run_laws.specs.Queue.{In}
+use Rattle.sim_base.specs.Clones.{Clone}
 use Rattle.run_laws.specs.Simulation.{Simulation}
 use Rattle.run_laws.specs.Handlers.{IsStationOf}
-use Rattle.link_laws.specs.Cuts.{IsRound}
+use Rattle.link_laws.specs.Cuts.{IsRoundOf}
 use Rattle.link_laws.specs.Clocks.{Delays, least_with, inbound, clock, AreDone, AreRounds, KeepsToLinks}
 use Rattle.link_laws.specs.RoundLaws.{IsLinkTime, IsLeastLinkTime}
 
@@ -256,18 +257,22 @@ module _ (delays : Delays) (stations horizon : ℕ) where
       | inr l ↦ l
     ]
 
--- ---- IsRound
+-- ---- IsRoundOf
 
--- the clocks after k rounds and those after one more make a round
+-- the clocks after k rounds and those after one more make a round of any clones. A station's floor is its clock
 pub clocks_make_rounds : {S M N : Type 0} {sim : Simulation S M N} {Good : ℕ → S → Type 0} (delays : Delays)
-    (links : KeepsToLinks sim Good delays) (k : ℕ) →
-    IsRound sim Good (clock delays sim.stations sim.horizon k) (clock delays sim.stations sim.horizon (suc k))
-clocks_make_rounds {S} {M} {N} {sim} {Good} delays links k = record {
-  later = λ s. clock-rises delays sim.stations sim.horizon k s;
-  apart = λ x st m z good i other late.
-      let d = links.far x st m z good i other in
-      let far = d.2 in
-      let h = clock-each delays sim.stations sim.horizon k (sim.to z) x d.0 (links.from x (sim.to z) d.0 d.1)
-      (λ e. other (sym e)) d.1 in
-      omega (arith, far, h, late);
+    (links : KeepsToLinks sim Good delays) (k : ℕ) (cs : List Clone) →
+    IsRoundOf sim Good cs (clock delays sim.stations sim.horizon k) (clock delays sim.stations sim.horizon (suc k))
+clocks_make_rounds {S} {M} {N} {sim} {Good} delays links k cs = record {
+  floor = clock delays sim.stations sim.horizon k;
+  is_round = record {
+    later = λ s. clock-rises delays sim.stations sim.horizon k s;
+    apart = λ x st m z good i other late.
+        let d = links.far x st m z good i other in
+        let far = d.2 in
+        let h = clock-each delays sim.stations sim.horizon k (sim.to z) x d.0 (links.from x (sim.to z) d.0 d.1)
+        (λ e. other (sym e)) d.1 in
+        omega (arith, far, h, late);
+  };
+  idle = λ c l s. refl;
 }

@@ -1,12 +1,12 @@
 -- In a round each station alone handles the messages that the clone's run handles between the station's time and its
 -- next one.
-use Rattle.std.proofs.Common.{◌≡◌, ℕ, ◌<◌, ◌≤◌, min, List, [], ◌∷◌, ◌++◌, ◌⊎◌, not}
+use Rattle.std.proofs.Common.{◌≡◌, ℕ, ◌<◌, ◌≤◌, min, List, [], ◌∷◌, ◌++◌, ◌⊎◌, not, nat_lt}
 use Rattle.std.proofs.Common.{inl, inr, refl, sym, ap, ◌∙◌, subst, arith, append_assoc, append-nil, ◌==◌}
 use Rattle.std.specs.declared.cmp.Ordering.{Ordering}
 use Rattle.std.specs.declared.cmp.Ordering.TheVariants.{Less}
 use Rattle.std.specs.Cmp.{IsTotalOrder}
 use Rattle.std.specs.List.{AllByRecursion}
-use Rattle.std.proofs.lemmas.Bool.{cases_eq, cases_lt}
+use Rattle.std.proofs.lemmas.Bool.{cases_eq, cases_lt, lt-ltb}
 use Rattle.std.proofs.lemmas.List.Elements.{filter-append}
 use Rattle.sim_base.specs.Clones.{Clone}
 use Rattle.sim_base.specs.declared.entry.Entry.{Entry}
@@ -20,10 +20,13 @@ use Rattle.run_laws.specs.Handlers.{HandlesLawfully}
 use Rattle.run_laws.proofs.Queue.{all_in, all_from, in_insert_all, insert_all_old, insert_all_new}
 use Rattle.run_laws.proofs.Queue.{sorted_insert_all, not_below_itself, not_head}
 use Rattle.run_laws.proofs.Lists.{in_append, append_old, append_new, in_own, own_from, in_others, others_from}
+use Rattle.run_laws.proofs.Lists.{filter_keeps}
 use Rattle.run_laws.proofs.Running.{all_from_zero, run_is}
+use Rattle.run_laws.proofs.Fronts.{log_at_front}
 use Rattle.run_laws.proofs.Replaying.{replay-push, state_is_replay, replay_is_good}
 use Rattle.run_laws.proofs.Worlds.{local_lawful}
-use Rattle.link_laws.specs.Cuts.{sent_with, sent_before, IsKnown, Waits, AreWaiting, window_from, IsRound, RoundGives}
+use Rattle.link_laws.specs.Cuts.{sent_with, sent_before, IsKnown, Waits, AreWaiting, window_from, IsIdleBelow, IsRound}
+use Rattle.link_laws.specs.Cuts.{RoundGives}
 use Rattle.link_laws.proofs.Accounts.{earlier_first, replay-append, sent_with-append, sent_with-push, HasLines}
 use Rattle.link_laws.proofs.Accounts.{lines_rest, by_msg, accounted, of_log, log_below, log_rises, log_known}
 use Rattle.link_laws.proofs.Accounts.{known_handled, LogGrows, log_grows, IsSentWith, sent_with_entry, sent_later}
@@ -65,10 +68,33 @@ same_station : {S M N : Type 0} {a b : S} {k l : List (Entry M N)} {x y : List M
 same_station p e f g = cc
 
 module _ {S M N : Type 0} {sim : Simulation S M N} {Good : ℕ → S → Type 0} (law : HandlesLawfully sim Good)
-    (c : Clone) (cut next : ℕ → ℕ) (round : IsRound sim Good cut next) where
+    (c : Clone) (cut floor next : ℕ → ℕ) (round : IsRound sim Good cut floor next)
+    (idle : IsIdleBelow sim c cut floor) where
   -- the entries that the log of a station gains
   gains : (s : ℕ) → LogGrows law c s (cut s) (next s)
   gains s = log_grows law c s (cut s) (next s) (round.later s)
+
+  -- an entry of a log before the floor is in the log at the floor
+  before_floor : (x t : ℕ) (e : Entry M N) → In e (log_at sim c x t) → sim.time e.msg < floor x →
+      In e (log_at sim c x (floor x))
+  before_floor x t e i l = elim (cases_lt (floor x) t) [
+    | inl a ↦ subst (In e) (log_at_front law c x (floor x) t (omega arith))
+        (filter_keeps (λ e. nat_lt (sim.time e.msg) (floor x)) (log_at sim c x t) e i
+        (lt-ltb (sim.time e.msg) (floor x) l))
+    | inr a ↦
+        let g = log_grows law c x t (floor x) a in
+        subst (In e) (sym g.is) (append_old (log_at sim c x t) g.more e i)
+  ]
+
+  -- an entry of a log at the station's time or later is at its floor or later
+  from_floor : (x t : ℕ) (e : Entry M N) → In e (log_at sim c x t) → min (cut x) (end_of sim c) ≤ sim.time e.msg →
+      floor x ≤ sim.time e.msg
+  from_floor x t e i late = elim (cases_lt (sim.time e.msg) (floor x)) [
+    | inl l ↦
+        let b = log_below law c x (cut x) e (subst (In e) (idle x) (before_floor x t e i l)) in
+        absurd (omega (arith, b, late))
+    | inr l ↦ l
+  ]
 
   -- another station sends a message to s before the next time of s only before its own time
   sent_by_other : (s x : ℕ) (z : M) → (x ≡ s → ⊥) → sim.to z ≡ s → sim.time z < min (next s) (end_of sim c) →
@@ -79,11 +105,11 @@ module _ {S M N : Type 0} {sim : Simulation S M N} {Good : ℕ → S → Type 0}
         elim (sent_before_or law c x (cut x) (next s) z g i) [
           | inl a ↦ a
           | inr a ↦
-              let late = g.late a.entry a.is_entry in
-              let early = g.time_max a.entry a.is_entry in
+              let late = from_floor x (next s) a.entry
+              (subst (In a.entry) (sym g.is) (append_new (log_at sim c x (cut x)) g.more a.entry a.is_entry))
+              (g.late a.entry a.is_entry) in
               let far : next (sim.to z) ≤ sim.time z =
-              round.apart x a.state a.entry.msg z a.good a.is_sent (λ e. n (sym e ∙ here))
-              (omega (arith, late, early)) in
+              round.apart x a.state a.entry.msg z a.good a.is_sent (λ e. n (sym e ∙ here)) late in
               let far_s : next s ≤ sim.time z = subst (λ y. next y ≤ sim.time z) here far in
               absurd (omega arith)
         ]
@@ -508,10 +534,12 @@ module _ {S M N : Type 0} {sim : Simulation S M N} {Good : ℕ → S → Type 0}
           let sends : List M = sent_with sim r (state_at sim c r (cut r)) (gains r).more in
           let b = in_others sim.to r sends m (subst (In m) (aside_is r) a.1.1) in
           let d = sent_with_entry law c r (state_at sim c r (cut r)) (gains r).more m (good_at law c r (cut r)) b.0 in
-          let late = (gains r).late d.entry d.is_entry in
-          let soon = (gains r).time_max d.entry d.is_entry in
+          let late = from_floor r (next r) d.entry
+          (subst (In d.entry) (sym (gains r).is)
+          (append_new (log_at sim c r (cut r)) (gains r).more d.entry d.is_entry))
+          ((gains r).late d.entry d.is_entry) in
           let far : next (sim.to m) ≤ sim.time m =
-          round.apart r d.state d.entry.msg m d.good d.is_sent b.1 (omega (arith, late, soon)) in
+          round.apart r d.state d.entry.msg m d.good d.is_sent b.1 late in
           record {
             known = known_next r m b.0;
             here = here;

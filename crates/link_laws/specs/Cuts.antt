@@ -2,9 +2,9 @@
 -- the next cut.
 --
 -- A cut is a time for each station, like a consistent cut of a distributed computation. A front is the cut with one
--- time for all stations. Any choice of cuts is allowed here: link clocks are one, in Clocks.
-use Rattle.std.specs.Prelude.{◌≡◌, ◌⊎◌, ◌↔◌, ℕ, ◌<◌, ◌≤◌, List, [], ◌∷◌, ◌++◌}
-use Rattle.sim_base.specs.Clones.{Clone}
+-- time for all stations. Any choice of cuts is allowed here: link clocks are one, in Clocks, and windows another.
+use Rattle.std.specs.Prelude.{◌≡◌, ◌⊎◌, ◌↔◌, ℕ, ◌<◌, ◌≤◌, List, [], ◌∷◌, ◌++◌, length}
+use Rattle.sim_base.specs.Clones.{Clone, clone_at}
 use Rattle.sim_base.specs.declared.entry.Entry.{Entry}
 use Rattle.run_laws.specs.Queue.{In, Sorted}
 use Rattle.run_laws.specs.Machine.{Config}
@@ -45,12 +45,22 @@ module _ {S M N : Type 0} (sim : Simulation S M N) where
   window_from c cut next s q = local_run sim s (log_at sim c s (cut s)) (state_at sim c s (cut s)) q (next s)
       (end_of sim c)
 
+  -- a clone's run handles nothing between a station's time at a cut and its floor: no log grows there
+  abbrev pub IsIdleBelow : Clone → (ℕ → ℕ) → (ℕ → ℕ) → Type 0
+  IsIdleBelow c cut floor = (s : ℕ) → log_at sim c s (floor s) ≡ log_at sim c s (cut s)
+
   -- a round: each station may run alone from its time at one cut to its time at the next. A station in a good state
-  -- that handles any message at its time or later sends nothing to another station before that station's next time
-  pub record IsRound (Good : ℕ → S → Type 0) (cut next : ℕ → ℕ) : Type 0 where
+  -- that handles any message at its floor or later sends nothing to another station before that station's next time
+  pub record IsRound (Good : ℕ → S → Type 0) (cut floor next : ℕ → ℕ) : Type 0 where
     pub later : (s : ℕ) → cut s ≤ next s
     pub apart : (x : ℕ) (st : S) (m z : M) → Good x st → In z (sim.handle x st m).sends → ¬ (sim.to z ≡ x) →
-        cut x ≤ sim.time m → next (sim.to z) ≤ sim.time z
+        floor x ≤ sim.time m → next (sim.to z) ≤ sim.time z
+
+  -- a round of some clones: each station has a floor, and none of the clones handles anything below it
+  pub record IsRoundOf (Good : ℕ → S → Type 0) (cs : List Clone) (cut next : ℕ → ℕ) : Type 0 where
+    pub floor : ℕ → ℕ
+    pub is_round : IsRound Good cut floor next
+    pub idle : (c : ℕ) → c < length cs → IsIdleBelow (clone_at cs c) cut floor
 
   -- the windows of the stations end with the logs and states of the clone's run. The messages that then wait at a
   -- station are left by its own window, or laid aside for it by another, and come before the clone's end

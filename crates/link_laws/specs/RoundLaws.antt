@@ -7,9 +7,10 @@ use Rattle.run_laws.specs.Simulation.{Simulation}
 use Rattle.run_laws.specs.Runs.{due_at, log_at}
 use Rattle.run_laws.specs.Handlers.{IsStation, IsStationOf, AllAreForStations}
 use Rattle.run_laws.specs.Sharing.{handled_once, IsBeyond, copies}
+use Rattle.run_laws.specs.Fronts.{IsWindow}
 use Rattle.run_laws.specs.Copies.{Copy, Carries, Stands, IsDelivered, AreOver, GainTogether, alone_from, ends_of}
 use Rattle.run_laws.specs.CountLaws.{Counting, AreWithinLimitAt}
-use Rattle.link_laws.specs.Cuts.{AreWaiting, IsRound, RoundGives}
+use Rattle.link_laws.specs.Cuts.{AreWaiting, IsIdleBelow, IsRound, IsRoundOf, RoundGives}
 use Rattle.link_laws.specs.CutCopies.{StandsAtCut, EachIsRound}
 use Rattle.link_laws.specs.Clocks.{Delays, clock, AreDone, AreRounds, KeepsToLinks}
 
@@ -70,15 +71,21 @@ module _ {S M N : Type 0} (sim : Simulation S M N) (Good : ℕ → S → Type 0)
   RoundsAreBounded = (delays : Delays) (k : ℕ) → KeepsToLinks sim Good delays → 0 < sim.lookahead →
       AreRounds delays sim.stations sim.horizon k → k ≤ sim.horizon / sim.lookahead + 1
 
-  -- the clocks after k rounds and those after one more make a round
+  -- the clocks after k rounds and those after one more make a round of any clones
   abbrev pub ClocksMakeRounds : Type 0
-  ClocksMakeRounds = (delays : Delays) (k : ℕ) → KeepsToLinks sim Good delays →
-      IsRound sim Good (clock delays sim.stations sim.horizon k) (clock delays sim.stations sim.horizon (suc k))
+  ClocksMakeRounds = (delays : Delays) (k : ℕ) (cs : List Clone) → KeepsToLinks sim Good delays →
+      IsRoundOf sim Good cs (clock delays sim.stations sim.horizon k) (clock delays sim.stations sim.horizon (suc k))
 
-  -- in a round the windows of the stations, each alone, end with the logs and states of the clone's run
+  -- a window of some clones is a round of them, with one time for all stations
+  abbrev pub WindowsAreRounds : Type 0
+  WindowsAreRounds = (cs : List Clone) (front bound : ℕ) → IsWindow sim cs front bound →
+      IsRoundOf sim Good cs (λ x. front) (λ x. bound)
+
+  -- in a round the windows of the stations, each alone, end with the logs and states of the clone's run. It is enough
+  -- that this one clone handles nothing below the floors
   abbrev pub RoundsGiveRuns : Type 0
-  RoundsGiveRuns = (c : Clone) (cut next : ℕ → ℕ) (q : ℕ → List M) → IsRound sim Good cut next →
-      ((s : ℕ) → AreWaiting sim c cut s (q s)) → RoundGives sim c cut next q
+  RoundsGiveRuns = (c : Clone) (cut floor next : ℕ → ℕ) (q : ℕ → List M) → IsRound sim Good cut floor next →
+      IsIdleBelow sim c cut floor → ((s : ℕ) → AreWaiting sim c cut s (q s)) → RoundGives sim c cut next q
 
 -- K are sets of clones
 module _ {S M N : Type 0} (K : Type 0) (sim : Simulation S M N) where
@@ -104,14 +111,14 @@ module _ {S M N : Type 0} (K : Type 0) (sim : Simulation S M N) (Good : ℕ → 
   abbrev pub StandsAfterRound : Type 0
   StandsAfterRound = (has : K → ℕ → Bool) (cs : List Clone) (cut next : ℕ → ℕ)
       (olds news : ℕ → List (Copy S M N K)) (sent : ℕ → List (M × K)) (s : ℕ) (done : List (Copy S M N K)) →
-      AllAreForStations sim cs → IsRound sim Good cut next → EachIsRound sim has cs cut next olds news sent →
+      AllAreForStations sim cs → IsRoundOf sim Good cs cut next → EachIsRound sim has cs cut next olds news sent →
       IsStation sim s → IsDelivered sim has cs s sent (news s) done → StandsAtCut sim has cs next s done
 
   -- in a round a copy's window for a clone ends with the clone's log at the station's next time
   abbrev pub RoundGivesLogs : Type 0
   RoundGivesLogs = (has : K → ℕ → Bool) (cs : List Clone) (cut next : ℕ → ℕ) (olds : ℕ → List (Copy S M N K)) (s : ℕ)
       (a : Copy S M N K) (c : ℕ) →
-      AllAreForStations sim cs → IsRound sim Good cut next →
+      AllAreForStations sim cs → IsRoundOf sim Good cs cut next →
       ((r : ℕ) → IsStation sim r → StandsAtCut sim has cs cut r (olds r)) → IsStation sim s → In a (olds s) →
       Carries has a c →
       (alone_from sim has (ends_of sim cs) s (next s) a c).at.log ≡ log_at sim (clone_at cs c) s (next s)
@@ -120,7 +127,7 @@ module _ {S M N : Type 0} (K : Type 0) (sim : Simulation S M N) (Good : ℕ → 
   pub record GainInRound (has : K → ℕ → Bool) (cs : List Clone) (cut next : ℕ → ℕ) (olds : ℕ → List (Copy S M N K))
       (s total : ℕ) : Type 0 where
     pub for_stations : AllAreForStations sim cs
-    pub round : IsRound sim Good cut next
+    pub round : IsRoundOf sim Good cs cut next
     pub stood : (r : ℕ) → IsStation sim r → StandsAtCut sim has cs cut r (olds r)
     pub here : IsStation sim s
     pub gained : GainTogether sim has (ends_of sim cs) s (next s) (olds s) total
@@ -145,7 +152,7 @@ module _ {S M N : Type 0} (K : Type 0) (sim : Simulation S M N) (Good : ℕ → 
   abbrev pub OverIsBeyondInRound : Type 0
   OverIsBeyondInRound = (has : K → ℕ → Bool) (join : K → K → K) (cs : List Clone) (cut next : ℕ → ℕ)
       (olds : ℕ → List (Copy S M N K)) (s : ℕ) (over : K) →
-      JoinsMarks has join → AllAreForStations sim cs → IsRound sim Good cut next →
+      JoinsMarks has join → AllAreForStations sim cs → IsRoundOf sim Good cs cut next →
       ((r : ℕ) → IsStation sim r → StandsAtCut sim has cs cut r (olds r)) → IsStation sim s →
       AreOver sim has (ends_of sim cs) s (next s) (olds s) over → (c : ℕ) →
       (has over c ≡ true) ↔ ((c < length cs) × IsBeyond sim s (next s) (clone_at cs c))

@@ -1,11 +1,13 @@
 //! The laws of link clocks and of rounds: each function's contract is a law, and there is nothing to run.
 //!
 //! `specs/RoundLaws.antt` states the laws.
+ghost use Rattle.run_laws.specs.CopyLaws.{StandsAfterWindow};
+ghost use Rattle.run_laws.specs.Laws.{WindowsGiveRuns};
 ghost use Rattle.link_laws.specs.RoundLaws.{ClockRises, ClockIsLeast, ClockReachesHorizon, RoundsAreBounded};
 ghost use Rattle.link_laws.specs.RoundLaws.{FirstDoneIsRounds, ClocksMakeRounds, RoundsGiveRuns, DueIsWaiting};
 ghost use Rattle.link_laws.specs.RoundLaws.{FrontIsCut, SameCut, StandsAfterRound, RoundGivesLogs};
 ghost use Rattle.link_laws.specs.RoundLaws.{HandledGrowsInRound, HandledIsFewInRound, OverIsBeyondInRound};
-ghost use Rattle.link_laws.specs.RoundLaws.{CopiesAreLogsAtCut, RoundsAreEnough};
+ghost use Rattle.link_laws.specs.RoundLaws.{CopiesAreLogsAtCut, RoundsAreEnough, WindowsAreRounds};
 
 use run_laws::laws::Stations;
 
@@ -19,9 +21,10 @@ pub fn clocks_reach_the_horizon<S, M, N, T: Stations<S, M, N>>()
     ensures rounds { FirstDoneIsRounds T.sim }
 {}
 
-/// In a round each station may run alone, from its clock to its next one.
+/// In a round each station may run alone, from its time to its next one. Clocks make rounds, and so do windows.
 pub fn rounds_give_runs<S, M, N, T: Stations<S, M, N>>()
     ensures clocks { ClocksMakeRounds T.sim T.good }
+    ensures windows { WindowsAreRounds T.sim T.good }
     ensures alone { RoundsGiveRuns T.sim T.good }
     ensures due { DueIsWaiting T.sim }
 {}
@@ -40,4 +43,10 @@ pub fn rounds_gain<S, M, N, K, T: Stations<S, M, N>>()
     ensures at_most { HandledIsFewInRound K T.sim T.good }
     ensures over { OverIsBeyondInRound K T.sim T.good }
     ensures copies { CopiesAreLogsAtCut K T.sim }
+{}
+
+/// Two laws of windows follow from those of rounds, since a window is a round. Library law, not used by `cloner`.
+pub fn windows_follow<S, M, N, K, T: Stations<S, M, N>>()
+    ensures alone { WindowsGiveRuns T.sim }
+    ensures window { StandsAfterWindow K T.sim }
 {}

@@ -15,11 +15,17 @@
 //! the start, or if its sender sends it before the sender's time. A known message *waits* at its station if it comes at
 //! the station's time or later, and before the clone's end.
 //!
-//! The theory rests on one condition, `IsRound`. A station in a good state that handles any message at its time or
-//! later sends nothing to another station before that station's next time. Clocks meet it by the delays, and the laws
-//! of copies and counts use nothing else of clocks. Another choice of bounds needs only a law that it meets `IsRound`.
-//! The condition is on all messages, pending or not. So bounds that are chosen by pending messages do not meet it in
-//! general: a window that skips idle time is no round.
+//! The theory rests on one condition, `IsRoundOf`. Each station has a *floor*, and no clone's log grows between the
+//! station's time and its floor (`IsIdleBelow`). A station in a good state that handles any message at its floor or
+//! later sends nothing to another station before that station's next time (`IsRound`). The laws of copies and counts
+//! use nothing else. Another choice of times needs only a law that it meets `IsRoundOf`. Two choices meet it:
+//!
+//! | Step | Floor of a station | Why no message comes too early |
+//! |---|---|---|
+//! | of link clocks | its clock | the delays of the links |
+//! | a window of `run_laws` | the least due time of all clones, or else the window's end | the lookahead |
+//!
+//! So a window that skips idle time is a round, too.
 //!
 //! `specs/` has all definitions. Read them in this order: Cuts, CutCopies, Clocks, RoundLaws, Examples. There is
 //! nothing to run, and nothing costs time. The contract of each function in `laws` is a law, and `examples` pins the
@@ -32,9 +38,11 @@
 //! - copies that represent the clones at a cut, stepped and given the messages sent to them, represent them at the next
 //!   cut;
 //! - the number handled once grows by the gains of the copies, and the limit holds as in windows;
-//! - at a cut with one time for all stations these laws are those of fronts in `run_laws`.
+//! - at a cut with one time for all stations these laws are those of fronts in `run_laws`;
+//! - a window of `run_laws` is a round, so the laws `WindowsGiveRuns` and `StandsAfterWindow` follow.
 //!
-//! Library laws, not used by `cloner`.
+//! `cloner links` rests on these laws, through `link_clocks` and `linked_run`. Those of windows are library laws, not
+//! used by `cloner`.
 #![tactic(auto)]
 
 pub mod examples;
