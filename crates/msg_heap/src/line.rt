@@ -1,7 +1,7 @@
 //! The counts of a station after a message in one word, if they are small enough, as those of a run are.
-ghost use Rattle.std.specs.Prelude.{◌≡◌, IfSome, ◌<◌};
+ghost use Rattle.std.specs.Prelude.{◌≡◌, ◌<◌, IfSome, IfNone};
 ghost use Rattle.sim_base.specs.declared.entry.Line.TheVariants.{Source, Server, Passed, Sink};
-ghost use Rattle.msg_heap.specs.Lines.{FitsOne, FitsServer, FitsSink, line_of};
+ghost use Rattle.msg_heap.specs.Lines.{FitsLine, FitsOne, FitsServer, FitsSink, line_of};
 
 use sim_base::Line;
 use std::marker::Model;
@@ -41,6 +41,7 @@ impl PackedLine {
     /// The counts in 8 bytes, or None if one is too large.
     pub fn of(line: &Line) -> Option<PackedLine>
         ensures value { IfSome result (λ p. p ≡ line.now) }
+        ensures none { IfNone result (¬ FitsLine line.now) }
     {
         match *line {
             Line::Source { sent } if sent < WORDS_OF_KIND => Some(PackedLine::source(sent)),

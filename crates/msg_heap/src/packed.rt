@@ -8,7 +8,7 @@ ghost use Rattle.sim_base.specs.Order.{msg_cmp, param_index, payload_index};
 ghost use Rattle.sim_base.proofs.OrderLaws.{msg_total};
 ghost use Rattle.msg_heap.specs.Packing.{content_word, first_of, second_of, third_of, HasSource, NumbersFit};
 ghost use Rattle.msg_heap.specs.Packing.{payload_of, param_at, key_at, receiver_at, payload_at, message_of};
-ghost use Rattle.msg_heap.specs.Packing.{FitsHead, IsContent, IsPacked, packed, unpacked};
+ghost use Rattle.msg_heap.specs.Packing.{Fits, FitsHead, IsContent, IsPacked, packed, unpacked};
 ghost use Rattle.msg_heap.specs.Contents.{as_payload};
 ghost use Rattle.sim_base.specs.KeyWords.{FitsWord};
 ghost use Rattle.sim_base.specs.declared.message.Payload.TheVariants.{Tick, Job as JobOf, Done as DoneOf};
@@ -104,6 +104,7 @@ impl PackedMsg {
     #[inline(always)]
     pub fn of(msg: &Msg) -> Option<PackedMsg>
         ensures value { IfSome result (λ p. p ≡ msg.now) }
+        ensures none { IfNone result (¬ Fits msg.now) }
     {
         let numbers = numbers_of(&msg.payload);
         let place = u64::from(msg.to).wrapping_sub(1);
@@ -300,6 +301,7 @@ fn numbers_of(payload: &Payload) -> Numbers
     ensures kind { result.kind ≡ payload_index payload.now }
     ensures source { result.first < FIRSTS → HasSource payload.now }
     ensures first { result.first < FIRSTS → result.first ≡ first_of payload.now }
+    ensures with_source { HasSource payload.now → result.first ≡ first_of payload.now }
     ensures second { result.second ≡ second_of payload.now }
     ensures third { result.third ≡ third_of payload.now }
 {
@@ -335,6 +337,7 @@ fn numbers_of(payload: &Payload) -> Numbers
 #[inline(always)]
 fn excess(key: Key, place: u64, numbers: Numbers) -> u64
     ensures fits { result ≡ 0 → NumbersFit key place numbers.first numbers.second numbers.third }
+    ensures none { NumbersFit key place numbers.first numbers.second numbers.third → result ≡ 0 }
 {
     (key.time >> 30)
         | ((u64::from(key.sender) + 1) >> 7)
