@@ -62,7 +62,7 @@ pub record IsBook (net : Net) (clones : List Clone) (calls : List Call) (fronts 
   pub planned : ArePlanned net clones
 
 -- and memory is reserved for all calls, clones and decisions
-pub record IsRoomyBook (net : Net) (lists : ListsView) (calls : ReservedView Call) (fronts : List ℕ) (last : ℕ) :
+pub record IsBookWithRoom (net : Net) (lists : ListsView) (calls : ReservedView Call) (fronts : List ℕ) (last : ℕ) :
     Type 0 where
   pub book : IsBook net lists.clones calls.items fronts last
   pub lists_room : HaveRoom lists

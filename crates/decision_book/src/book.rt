@@ -18,13 +18,13 @@ pub struct Book {
 }
 
 impl std::marker::Model for Book {
-    ghost use Rattle.decision_book.specs.Books.{BookView, IsRoomyBook, journal_of};
+    ghost use Rattle.decision_book.specs.Books.{BookView, IsBookWithRoom, journal_of};
 
     ghost Value = { BookView };
 
     ghost view = { λ b. record { net = b.model.value; events = journal_of b.calls.items b.fronts.items } };
 
-    ghost invariant = { λ b. IsRoomyBook b.model.value b.lists b.calls b.fronts.items b.front };
+    ghost invariant = { λ b. IsBookWithRoom b.model.value b.lists b.calls b.fronts.items b.front };
 }
 
 impl Book {
