@@ -1,6 +1,6 @@
 pub mod Nodes
 pub mod Merged
 pub mod Popping
-pub mod Rests
-pub mod Rising
 pub mod Stepping
+pub mod Fixing
+pub mod Searching

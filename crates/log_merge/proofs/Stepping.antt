@@ -8,7 +8,8 @@ use Rattle.run_laws.specs.Merges.{merge}
 use Rattle.log_chain.specs.Packing.{FitWords}
 use Rattle.log_merge.specs.Tournament.{IsLeastWord}
 use Rattle.log_merge.specs.Words.{by_key, word_of, merge_all}
-use Rattle.log_merge.specs.Cursors.{CursorView, IsCursor}
+use Rattle.log_merge.specs.Cursors.{CursorView, IsCursor, IsNextWord}
+use Rattle.log_merge.specs.declared.tree.TheConstants.{NO_WORD}
 use Rattle.log_merge.proofs.Merged.{E, merge_more}
 use Rattle.log_merge.proofs.Popping.{fit_at, merge_all-first, merge_all-none, least-there, least-some, cursor_set}
 
@@ -125,3 +126,11 @@ view_of-add ls new most l v is a =
     (ap merge_all a ∙ (merge_more [] ls l ∙ ap (λ (u : CursorView). merge by_key u.left l) is))
     (ap length a ∙ (length_push ls l ∙ ap (λ (u : CursorView). u.logs + 1) is))
     (ap (λ (u : CursorView). u.most) is)
+
+-- ---- IsNextWord
+
+-- below a limit, the word is that of an entry
+pub next_some : (limit word : ℕ) (left : List E) → IsNextWord word left → word < limit → limit ≤ NO_WORD
+    → 1 ≤ length left
+next_some limit word [] next below all = let is = next.is in absurd (omega (arith, is, below, all))
+next_some limit word (e ∷ es) next below all = omega arith

@@ -1,4 +1,4 @@
 pub mod Tournament
+pub mod FixedTrees
 pub mod Words
 pub mod Cursors
-pub mod Rests

@@ -1,7 +1,7 @@
 -- A tournament of words: node 1 is the top, and the children of node i are 2 * i and 2 * i + 1.
 use Rattle.std.specs.Prelude.{◌≡◌, ◌≢◌, ℕ, ◌+◌, ◌-◌, ◌*◌, ◌/◌, ◌%◌, ◌<◌}
 use Rattle.std.specs.Prelude.{◌≤◌, ◌==◌, if◌then◌else◌, List, length, get_or, drop, min}
-use Rattle.log_merge.specs.declared.tree.TheConstants.{MAX_WORDS}
+use Rattle.log_merge.specs.declared.tree.TheConstants.{NODES}
 
 -- the other node under the same parent
 abbrev pub sibling : ℕ → ℕ
@@ -18,7 +18,7 @@ AreNodesBut nodes count p = (i : ℕ) → 1 ≤ i → i < count → i ≢ p → 
 -- count nodes, the first unused, followed by count words
 pub record IsTree (nodes : List ℕ) (count : ℕ) : Type 0 where
   pub at_least : 1 ≤ count
-  pub at_most : count ≤ MAX_WORDS
+  pub at_most : count ≤ NODES
   pub size : length nodes ≡ 2 * count
   pub right : AreNodesBut nodes count 0
 
@@ -31,7 +31,7 @@ pub record IsLeastWord (word : ℕ) (words : List ℕ) : Type 0 where
 
 -- a tree with these words in which the parent of this node may be wrong; `least` is the word of this node
 pub record IsMending (nodes : List ℕ) (count node least : ℕ) (words : List ℕ) : Type 0 where
-  pub at_most : count ≤ MAX_WORDS
+  pub at_most : count ≤ NODES
   pub size : length nodes ≡ 2 * count
   pub at_least : 1 ≤ node
   pub low : node < 2 * count

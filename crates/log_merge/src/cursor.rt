@@ -1,31 +1,32 @@
-//! The merge of several logs by time stamp, sender and sequence number, entry by entry.
-ghost use Rattle.std.specs.Prelude.{◌≡◌, ◌∷◌, [], ◌+◌, ◌<◌, ◌≤◌, IfSome, IfNone, IfOk, length};
+//! The merge of at most 8, 16 or 64 logs by time stamp, sender and sequence number, entry by entry.
+ghost use Rattle.std.specs.Prelude.{◌≡◌, ◌∷◌, [], ◌+◌, ◌<◌, ◌≤◌, IfOk, length};
 ghost use Rattle.sim_base.specs.declared.message.TheConstants.{WORD_PLACES};
 ghost use Rattle.run_laws.specs.Merges.{merge};
 ghost use Rattle.log_chain.specs.Packing.{FitWords};
 ghost use Rattle.log_chain.specs.Stored.{entry_in};
+ghost use Rattle.log_merge.specs.Cursors.{IsNextWord};
+ghost use Rattle.log_merge.specs.FixedTrees.{IsFixedCount};
 ghost use Rattle.log_merge.specs.Words.{by_key, word_of};
 
 use crate::tree::{NO_WORD, Tree};
 use log_chain::{StoredEntry, Walk};
+use sim_base::NoMemory;
 use sim_base::message::WORD_PLACES;
-use sim_base::{Entry, NoMemory};
 use std::alloc::Global;
 use std::marker::Model;
 
-/// Merge of several logs, in the order of keys.
+/// Merge of at most `COUNT` logs, in the order of keys.
 ///
 /// Contracts see the remaining entries, the number of logs added, and the most logs that may be added.
 #[derive(Drop)]
-pub struct Cursor<'a> {
+pub struct Cursor<'a, const COUNT: usize> {
     walks: Vec<Walk<'a>>,
-    // for each place of a log, the key of its next entry as a word. The number of places is a power of two, so all
-    // paths to the top have the same length
-    tree: Tree,
+    // for each place of a log, the key of its next entry as a word
+    tree: Tree<COUNT>,
     most: usize,
 }
 
-impl<'a> Model for Cursor<'a> {
+impl<'a, const COUNT: usize> Model for Cursor<'a, COUNT> {
     ghost use Rattle.std.specs.Prelude.{length, vec_capacity};
     ghost use Rattle.log_merge.specs.Cursors.{CursorView, IsCursor};
     ghost use Rattle.log_merge.specs.Words.{merge_all};
@@ -37,15 +38,15 @@ impl<'a> Model for Cursor<'a> {
     ghost invariant = { λ c. IsCursor c.walks.items c.tree (vec_capacity c.walks) c.most };
 }
 
-impl<'a> Cursor<'a> {
+impl<'a, const COUNT: usize> Cursor<'a, COUNT> {
     /// A cursor without logs; `most` may be added. It allocates all its memory here.
-    pub fn new(alloc: Global, most: usize) -> Result<Cursor<'a>, NoMemory>
-        requires at_least { 1 ≤ most }
-        requires at_most { most ≤ WORD_PLACES }
+    pub fn new(alloc: Global, most: usize) -> Result<Cursor<'a, COUNT>, NoMemory>
+        requires fixed { IsFixedCount COUNT }
+        requires at_most { most ≤ COUNT }
         ensures value { IfOk result (λ c. c ≡ record { left = []; logs = 0; most = most }) }
     {
         let walks = Vec::with_capacity(alloc, most)?;
-        let tree = Tree::new(alloc, places(most))?;
+        let tree = Tree::new();
         Ok(Cursor { walks, tree, most })
     }
 
@@ -75,19 +76,12 @@ impl<'a> Cursor<'a> {
         self.tree.set(place, word);
     }
 
-    /// The next entry, or None at the end.
-    pub fn next(&mut self) -> Option<Entry>
-        ensures some { IfSome result (λ e. self.old ≡ record self.new { left = e ∷ self.new.left }) }
-        ensures none { IfNone result ((self.old.left ≡ []) × (self.new ≡ self.old)) }
+    /// The word of the next entry, with the place of its log; the greatest word at the end.
+    #[inline(always)]
+    pub fn least(&self) -> u64
+        ensures next { IsNextWord result self.now.left }
     {
-        let place = self.tree.least() % WORD_PLACES;
-        let i = place as usize;
-        if i >= self.walks.len() {
-            return None;
-        }
-        let entry = self.walks[i].next();
-        self.tree.set(i, word(&self.walks[i], place));
-        entry
+        self.tree.least()
     }
 
     /// The next entry, as its log stores it. The cursor must not be at its end.
@@ -102,16 +96,6 @@ impl<'a> Cursor<'a> {
         self.tree.set(i, word(&self.walks[i], place));
         entry
     }
-}
-
-// The least power of two that is not less than `most`.
-fn places(most: usize) -> usize
-    requires at_most { most ≤ WORD_PLACES }
-    ensures all { most ≤ result }
-    ensures at_least { 1 ≤ result }
-    ensures at_most { result ≤ WORD_PLACES }
-{
-    most.next_power_of_two()
 }
 
 // The key of the next entry as a word, with the place of the walk; the greatest word at the end.

@@ -11,26 +11,28 @@
 //! ```
 //!
 //! ```text
-//! let mut cursor = Cursor::new(alloc, 3)?;          // allocates all its memory
+//! let mut cursor: Cursor<'_, 8> = Cursor::new(alloc, 3)?;   // allocates all its memory
 //! cursor.clear();
-//! cursor.add(gate.walk_from_time(t));               // station after station
-//! cursor.add(desk.walk_from_time(t));
-//! cursor.add(out.walk_from_time(t));
-//! while let Some(entry) = cursor.next() { .. }      // the trace from time t on
+//! cursor.add(walk_from_word(gate, word));                   // station after station
+//! cursor.add(walk_from_word(desk, word));
+//! cursor.add(walk_from_word(out, word));
+//! while cursor.least() < NO_WORD { .. cursor.take() .. }    // the trace from the word on
 //! ```
 //!
 //! A tournament ([`Tree`]) finds the least of the next keys. A key is a 64-bit word whose last six bits are the place
-//! of its log. So a step is one `min` for each level and no branch, and the least word has the place of the next log.
-//! The keys of every run within the model's limits fit, and so do those of logs whose entries are all packed. A log at
-//! its end has the greatest word, and is never next.
+//! of its log. So the least word has the place of the next log. A tournament has 8, 16 or 64 words, in an array of
+//! fixed size: a step is one `min` for each level, without a loop or a branch. The keys of every run within the model's
+//! limits fit, and so do those of logs whose entries are all packed. A log at its end has the greatest word.
 //!
-//! Contracts see a cursor as the list of its remaining entries, and its laws say that for a clone's logs this is the
-//! clone's trace. The promise that a text has each entry of its clone once and in order rests on it.
+//! Contracts see a cursor as the list of its remaining entries. `beginning_laws` says that for a clone's logs from a
+//! word on this is the clone's trace from there on. The promise that a text has each entry of its clone once and in
+//! order rests on it.
 #![tactic(auto)]
 
 pub mod cursor;
-pub mod laws;
 pub mod tree;
+pub mod words;
 
 pub use cursor::Cursor;
-pub use tree::Tree;
+pub use tree::{NO_WORD, Tree};
+pub use words::{first_word, place_of_word, walk_from_word, word_at};

@@ -1,53 +1,122 @@
-//! Tournaments of words.
-ghost use Rattle.std.specs.Prelude.{◌≡◌, ◌+◌, ◌-◌, ◌*◌, ◌<◌, ◌≤◌, length, replicate, slice_set, IfOk};
-ghost use Rattle.log_merge.specs.Tournament.{sibling, IsLeastWord};
-ghost use Rattle.log_merge.specs.declared.tree.TheConstants.{MAX_WORDS, NO_WORD};
+//! Tournaments of 8, 16 or 64 words, in an array of fixed size.
+//!
+//! A change takes one step for each level, and no step is tested: the number of levels is known when it is compiled.
+ghost use Rattle.std.specs.Prelude.{◌≡◌, ◌+◌, ◌*◌, ◌/◌, ◌<◌, ◌≤◌, ℕ, List, length, get_or, replicate, slice_set};
+ghost use Rattle.log_merge.specs.FixedTrees.{IsFixedCount, IsFixedMending};
+ghost use Rattle.log_merge.specs.Tournament.{IsLeastWord};
+ghost use Rattle.log_merge.specs.declared.tree.TheConstants.{NODES};
+ghost use Rattle.log_merge.specs.declared.tree.TheConstants.{NO_WORD};
 
-use sim_base::NoMemory;
-use std::alloc::Global;
 use std::marker::Model;
-
-/// The most words of a tournament.
-pub const MAX_WORDS: usize = 1_048_576;
 
 /// The greatest word, which represents an exhausted list.
 pub const NO_WORD: u64 = u64::MAX;
 
-/// Tournament: an array of words with their minimum; a change costs one `min` for each level.
+/// The nodes of the largest tournament, with one that is not used.
+pub const NODES: usize = 128;
+
+/// Tournament of `COUNT` words: an array of words with their minimum.
 #[derive(Drop)]
-pub struct Tree {
-    // node i has the lesser word of nodes 2 * i and 2 * i + 1; nodes from `count` on are the words
-    nodes: Vec<u64>,
-    count: usize,
+pub struct Tree<const COUNT: usize> {
+    // node i has the lesser word of nodes 2 * i and 2 * i + 1; nodes from `COUNT` on are the words
+    nodes: [u64; NODES],
 }
 
-impl Model for Tree {
-    ghost use Rattle.std.specs.Prelude.{ℕ, List, drop};
-    ghost use Rattle.log_merge.specs.Tournament.{IsTree};
+impl<const COUNT: usize> Model for Tree<COUNT> {
+    ghost use Rattle.std.specs.Prelude.{ℕ, List};
+    ghost use Rattle.log_merge.specs.FixedTrees.{IsFixedTree, words_in};
 
     ghost Value = { List ℕ };
 
-    ghost view = { λ t. drop t.count t.nodes.items };
+    ghost view = { λ t. words_in t.nodes COUNT };
 
-    ghost invariant = { λ t. IsTree t.nodes.items t.count };
+    ghost invariant = { λ t. IsFixedTree t.nodes COUNT };
 }
 
-impl Tree {
-    /// `count` words, each the greatest.
-    pub fn new(alloc: Global, count: usize) -> Result<Tree, NoMemory>
-        requires at_least { 1 ≤ count }
-        requires at_most { count ≤ MAX_WORDS }
-        ensures value { IfOk result (λ t. t ≡ replicate count NO_WORD) }
+// Gives the parent of a node the lesser word of the node, `least`, and its sibling, and returns it.
+#[inline(always)]
+fn step(nodes: &mut [u64; NODES], node: usize, least: u64) -> u64
+    requires above { 1 < node }
+    requires within { node < NODES }
+    ensures rises { (count : ℕ) (words : List ℕ) → IsFixedMending nodes.old count node least words
+        → IsFixedMending nodes.new count (node / 2) result words }
+{
+    let now = least.min(nodes[node ^ 1]);
+    nodes[node / 2] = now;
+    now
+}
+
+// The same for three levels, up to the top of a tournament of 8 words.
+#[inline(always)]
+fn rise_three(nodes: &mut [u64; NODES], node: usize, least: u64) -> u64
+    requires above { 8 ≤ node }
+    requires within { node < NODES }
+    ensures rises { (count : ℕ) (words : List ℕ) → IsFixedMending nodes.old count node least words
+        → IsFixedMending nodes.new count (node / 8) result words }
+{
+    let least = step(nodes, node, least);
+    let least = step(nodes, node / 2, least);
+    step(nodes, node / 4, least)
+}
+
+// The same for four levels, up to the top of a tournament of 16 words.
+#[inline(always)]
+fn rise_four(nodes: &mut [u64; NODES], node: usize, least: u64) -> u64
+    requires above { 16 ≤ node }
+    requires within { node < NODES }
+    ensures rises { (count : ℕ) (words : List ℕ) → IsFixedMending nodes.old count node least words
+        → IsFixedMending nodes.new count (node / 16) result words }
+{
+    let least = rise_three(nodes, node, least);
+    step(nodes, node / 8, least)
+}
+
+// The same for six levels, up to the top of a tournament of 64 words.
+#[inline(always)]
+fn rise_six(nodes: &mut [u64; NODES], node: usize, least: u64) -> u64
+    requires above { 64 ≤ node }
+    requires within { node < NODES }
+    ensures rises { (count : ℕ) (words : List ℕ) → IsFixedMending nodes.old count node least words
+        → IsFixedMending nodes.new count (node / 64) result words }
+{
+    let least = rise_three(nodes, node, least);
+    rise_three(nodes, node / 8, least)
+}
+
+// The same up to the top.
+#[inline(always)]
+fn rise<const COUNT: usize>(nodes: &mut [u64; NODES], node: usize, least: u64) -> u64
+    requires fixed { IsFixedCount COUNT }
+    requires low { COUNT ≤ node }
+    requires high { node < 2 * COUNT }
+    ensures rises { (words : List ℕ) → IsFixedMending nodes.old COUNT node least words
+        → IsFixedMending nodes.new COUNT 1 result words }
+{
+    if COUNT == 8 {
+        rise_three(nodes, node, least)
+    } else if COUNT == 16 {
+        rise_four(nodes, node, least)
+    } else {
+        rise_six(nodes, node, least)
+    }
+}
+
+impl<const COUNT: usize> Tree<COUNT> {
+    /// `COUNT` words, each the greatest.
+    pub fn new() -> Tree<COUNT>
+        requires fixed { IsFixedCount COUNT }
+        ensures value { result ≡ replicate COUNT NO_WORD }
     {
-        let nodes = vec![in alloc; NO_WORD; 2 * count]?;
-        Ok(Tree { nodes, count })
+        Tree {
+            nodes: [NO_WORD; NODES],
+        }
     }
 
     /// Makes each word the greatest.
     pub fn clear(&mut self)
         ensures value { self.new ≡ replicate (length self.old) NO_WORD }
     {
-        self.nodes.fill(NO_WORD);
+        self.nodes = [NO_WORD; NODES];
     }
 
     /// Replaces a word.
@@ -56,14 +125,10 @@ impl Tree {
         requires in_range { i < length self.old }
         ensures value { self.new ≡ slice_set self.old i word }
     {
-        let mut node = self.count + i;
-        let mut least = word;
-        self.nodes[node] = word;
-        while node > 1 {
-            least = least.min(self.nodes[sibling(node)]);
-            node /= 2;
-            self.nodes[node] = least;
-        }
+        let nodes = &mut self.nodes;
+        let node = COUNT + i;
+        nodes[node] = word;
+        let _ = rise::<COUNT>(nodes, node, word);
     }
 
     /// The least word.
@@ -73,13 +138,4 @@ impl Tree {
     {
         self.nodes[1]
     }
-}
-
-// The other node under the same parent.
-fn sibling(node: usize) -> usize
-    requires below { 1 < node }
-    requires small { node < 2 * MAX_WORDS }
-    ensures value { result ≡ sibling node }
-{
-    if node % 2 == 0 { node + 1 } else { node - 1 }
 }

@@ -6,14 +6,14 @@ use Rattle.log_merge.proofs.cursor.Cursor.take.Goals as goal
 -- ---- the requirements of the calls
 
 pub index_mut-requires : goal.index_mut-requires
-index_mut-requires c =
+index_mut-requires g c =
     let walks = c.self.inside.walks in
     let there = next-there walks.items c.self.inside.tree _ _ c.self.invariant c.least-place.result
     c.least-place.ensures.value c.args.self.now c.self.view_is c.requires.nonempty in
     omega (arith, there, walks.ok.0)
 
 pub take-entry-requires : goal.take-entry-requires
-take-entry-requires c =
+take-entry-requires g c =
     let walks = c.self.inside.walks in
     record {
       nonempty = next-some walks.items c.self.inside.tree _ _ c.self.invariant c.least-place.result
@@ -22,31 +22,31 @@ take-entry-requires c =
     }
 
 pub index-requires : goal.index-requires
-index-requires c =
+index-requires g c =
     let walks = c.self.inside.walks in
     let there = next-there walks.items c.self.inside.tree _ _ c.self.invariant c.least-place.result
     c.least-place.ensures.value c.args.self.now c.self.view_is c.requires.nonempty in
     omega (arith, there, walks.ok.0)
 
 pub word-requires-clause-fit : goal.word-requires-clause-fit
-word-requires-clause-fit c =
+word-requires-clause-fit g c =
     let walks = c.self.inside.walks in
     next-fits walks.items c.self.inside.tree _ _ c.self.invariant c.least-place.result c.least-place.ensures.value
     c.args.self.now c.self.view_is c.requires.nonempty c.index_mut.result.now c.take-entry.new.self c.index.result.now
     (entry_in c.take-entry.result) c.index_mut.ensures.value c.take-entry.ensures.value c.index.ensures
 
 pub set-requires : goal.set-requires
-set-requires c =
+set-requires g c =
     let walks = c.self.inside.walks in
     let h = c.self.invariant in
     let there = next-there walks.items c.self.inside.tree _ _ h c.least-place.result c.least-place.ensures.value
     c.args.self.now c.self.view_is c.requires.nonempty in
-    record { in_range = omega (arith, there, h.within, h.in_range) }
+    (omega arith, omega (arith, there, h.within, h.in_range))
 
 -- ---- the cursor afterwards, and the entry
 
 pub invariant_of-self : goal.invariant_of-self
-invariant_of-self c =
+invariant_of-self g c =
     let walks = c.self.inside.walks in
     let there = next-there walks.items c.self.inside.tree _ _ c.self.invariant c.least-place.result
     c.least-place.ensures.value c.args.self.now c.self.view_is c.requires.nonempty in
@@ -56,7 +56,7 @@ invariant_of-self c =
     c.set.new.self c.word.result c.index.result.now c.index.ensures c.word.ensures.value c.set.ensures.value
 
 pub returns : goal.returns
-returns c =
+returns g c =
     let walks = c.self.inside.walks in
     let there = next-there walks.items c.self.inside.tree _ _ c.self.invariant c.least-place.result
     c.least-place.ensures.value c.args.self.now c.self.view_is c.requires.nonempty in
