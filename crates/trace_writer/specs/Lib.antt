@@ -1,9 +1,9 @@
-pub mod Remakings
-pub mod Pieces
 pub mod WorldTraces
+pub mod Merges
+pub mod Pages
+pub mod Kept
+pub mod Rests
+pub mod Parts
+pub mod Batches
 pub mod Texts
 pub mod Puts
-pub mod Orders
-pub mod TextSpans
-pub mod Batches
-pub mod ReadyLines

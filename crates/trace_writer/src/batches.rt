@@ -1,38 +1,33 @@
-//! Batches of spans: a crew makes the lines of one batch while its caller puts those of the previous batch.
-ghost use Rattle.std.specs.Prelude.{◌≡◌, ◌<◌, ◌≤◌, length, IfOk, IfSome};
+//! Batches of parts: a crew makes the lines of one batch while its caller puts those of the previous batch.
+ghost use Rattle.std.specs.Prelude.{◌≡◌, ◌%◌, ◌<◌, ◌≤◌, length, IfOk, IfSome};
+ghost use Rattle.sim_base.specs.declared.message.TheConstants.{WORD_PLACES};
 ghost use Rattle.crew_pool.specs.declared.crew.TheConstants.{MAX_TASKS};
-ghost use Rattle.trace_writer.specs.Batches.{AreJoined, AreMade, IsBatchOf, batch_span, lines_of_all};
-ghost use Rattle.trace_writer.specs.Orders.{HasSpan, IsMade};
+ghost use Rattle.trace_writer.specs.Batches.{AreMade, IsBatchOf};
+ghost use Rattle.trace_writer.specs.Parts.{AreJoined, AreParts};
 
-use crate::bounds::parting_at;
-use crate::cuts::Cuts;
-use crate::making::OwnLines;
-use crate::text_order::place_in;
-use crate::text_span::TextSpan;
+use crate::bounds::is_any_long;
+use crate::cuts::cuts_from;
+use crate::making::{LineWork, MadePart, TextPart};
+use crate::text_rest::TextRest;
 use crate::world_traces::WorldTraces;
 use crew_pool::{Bell, Crew, MAX_TASKS, Member, NoGate, Started, Workers, serve_all};
-use keyed_text::KeyedText;
 use sim_base::{NoMemory, Steps};
 use std::alloc::Global;
 use std::marker::Brand;
 use std::sync::ledger::{Blank, Ledger};
 use std::sync::{Arc, Wait};
 use std::thread::Threads;
-use trace_changes::{Changes, count_own};
 
-// Spans of a batch for each worker. With several, the spans that finish last are a small part of the batch.
-const SPANS_OF_A_WORKER: usize = 8;
-
-// A crew starts if some text has this number of lines. For shorter texts, starting threads costs more than it saves.
-const LONG_TEXT: u64 = 32_768;
+// Parts of a batch for each worker. With several, the parts that finish last are a small share of the batch.
+const PARTS_OF_A_WORKER: usize = 8;
 
 /// The caller of a crew that makes lines, between two batches. Contracts see the traces whose lines it makes.
 #[derive(Drop)]
 pub(crate) struct Makers<'t> {
     traces: &'t WorldTraces<'t>,
-    crew: Crew<'static, OwnLines<'t>, NoGate>,
-    // the number of spans of a batch
-    spans: usize,
+    crew: Crew<'static, LineWork<'t>, NoGate>,
+    // the number of parts of a batch
+    parts: usize,
 }
 
 impl<'t> std::marker::Model for Makers<'t> {
@@ -44,11 +39,11 @@ impl<'t> std::marker::Model for Makers<'t> {
 
     ghost view = { λ m. m.traces.now };
 
-    ghost invariant = { λ m. (1 ≤ m.spans) × (m.spans ≤ MAX_TASKS) };
+    ghost invariant = { λ m. (1 ≤ m.parts) × (m.parts ≤ MAX_TASKS) };
 }
 
 /// The members of a crew that makes lines, except its caller.
-pub(crate) type LineMembers<'g, 't> = Vec<Member<'g, OwnLines<'t>, NoGate>>;
+pub(crate) type LineMembers<'g, 't> = Vec<Member<'g, LineWork<'t>, NoGate>>;
 
 /// The members, and the bell that dismisses them.
 #[derive(Drop)]
@@ -59,14 +54,13 @@ pub(crate) struct Others<'t> {
     pub bell: Arc<Bell>,
 }
 
-/// A batch that the crew is making: consecutive spans of a clone. Contracts see the traces, the changes, the clone, the
-/// time at which the first span begins, and the time at which the last one ends.
+/// A batch that the crew is making: consecutive parts of a clone's text. Contracts see the traces, the clone, the word
+/// at which the first part begins, and the word at which the last one ends.
 #[derive(Drop)]
 pub(crate) struct Batch<'t> {
     traces: &'t WorldTraces<'t>,
-    changes: Changes,
-    spans: usize,
-    started: Started<'static, OwnLines<'t>, NoGate>,
+    parts: usize,
+    started: Started<'static, LineWork<'t>, NoGate>,
     c: u32,
     from: u64,
     until: u64,
@@ -77,16 +71,9 @@ impl<'t> std::marker::Model for Batch<'t> {
 
     ghost Value = { BatchView };
 
-    ghost view = { λ b. record {
-      traces = b.traces.now;
-      changes = b.changes;
-      c = b.c;
-      from = b.from;
-      until = b.until;
-    } };
+    ghost view = { λ b. record { traces = b.traces.now; c = b.c; from = b.from; until = b.until } };
 
-    ghost invariant = { λ b. IsUnderWay (record { traces = b.traces.now; changes = b.changes }) b.started b.c b.from
-        b.until b.spans };
+    ghost invariant = { λ b. IsUnderWay b.traces.now b.started b.c b.from b.until b.parts };
 }
 
 // Begins a crew of this number of workers. The caller is one of them.
@@ -99,28 +86,15 @@ fn begin<'t>(
 {
     let (crew, members) = Crew::begin(alloc, &NoGate, workers)?;
     let bell = crew.bell()?;
-    let spans = (workers.count as usize * SPANS_OF_A_WORKER).min(MAX_TASKS);
+    let parts = (workers.count as usize * PARTS_OF_A_WORKER).min(MAX_TASKS);
     Ok((
         Makers {
             traces,
             crew,
-            spans,
+            parts,
         },
         Others { members, bell },
     ))
-}
-
-// Whether some text has many lines after it parts from the previous one: a hint.
-fn is_any_long(traces: &WorldTraces<'_>) -> bool {
-    let all = Changes::all_own();
-    for c in 0..traces.len() {
-        let from = parting_at(traces, c);
-        let place = place_in(traces.world, &traces.order, c);
-        if count_own(traces.world, place, &all, from) >= LONG_TEXT {
-            return true;
-        }
-    }
-    false
 }
 
 /// Begins a crew of this number of workers, if some text is long. `None` if none is, or if an allocation fails.
@@ -150,44 +124,64 @@ pub(crate) fn serve_once<R: Threads + Wait + Sync>(
     }
 }
 
-// Cuts `most` spans from the beginning of a span, or fewer if they reach its end. Returns them and the time at which
-// the last one ends.
-fn cut_spans<'t>(
-    alloc: Global,
-    traces: &WorldTraces<'t>,
-    cuts: &mut Cuts<'t>,
-    span: TextSpan,
-    most: usize,
-) -> Result<(Vec<TextSpan>, u64), NoMemory>
-    requires span { HasSpan traces.now span.c span.from span.until }
-    requires at_least { 1 ≤ most }
-    requires long { span.from < span.until }
-    ensures joined { IfOk result (λ r. AreJoined span.c span.from r.0.items r.1) }
-    ensures within { IfOk result (λ r. r.1 ≤ span.until) }
-    ensures at_most { IfOk result (λ r. length r.0.items ≤ most) }
-    ensures further { IfOk result (λ r. span.from < r.1) }
+// The word before which the next part ends at the latest: no part has lines that are kept and others.
+fn stop_after(from: u64, kept_until: u64, end: u64) -> u64
+    requires nonempty { from < end }
+    requires whole { kept_until % WORD_PLACES ≡ 0 }
+    requires whole_end { end % WORD_PLACES ≡ 0 }
+    ensures later { from < result }
+    ensures at_most { result ≤ end }
+    ensures whole { result % WORD_PLACES ≡ 0 }
 {
-    let mut spans = Vec::with_capacity(alloc, most)?;
-    let mut from = span.from;
-    'cut: while from < span.until && spans.len() < most {
-        let until = cuts.next_end(traces, span.c, from, span.until);
-        spans.push(TextSpan {
+    if from < kept_until {
+        kept_until.min(end)
+    } else {
+        end
+    }
+}
+
+// Cuts `most` parts from the beginning of a rest, or fewer if they reach its end. Returns them and the word at which
+// the last one ends.
+fn cut_parts(
+    alloc: Global,
+    traces: &WorldTraces<'_>,
+    rest: TextRest,
+    end: u64,
+    most: usize,
+) -> Result<(Vec<TextPart>, u64), NoMemory>
+    requires in_range { rest.c < length traces.now.clones }
+    requires at_least { 1 ≤ most }
+    requires nonempty { rest.from < end }
+    requires whole { rest.kept_until % WORD_PLACES ≡ 0 }
+    requires whole_end { end % WORD_PLACES ≡ 0 }
+    ensures joined { IfOk result (λ r. AreJoined rest.c rest.from r.0.items r.1) }
+    ensures at_most { IfOk result (λ r. length r.0.items ≤ most) }
+    ensures within { IfOk result (λ r. r.1 ≤ end) }
+    ensures further { IfOk result (λ r. rest.from < r.1) }
+{
+    let (_, mut cuts) = cuts_from(traces, rest.c, rest.from);
+    let mut parts = Vec::with_capacity(alloc, most)?;
+    let mut from = rest.from;
+    'cut: while from < end && parts.len() < most {
+        let stop = stop_after(from, rest.kept_until, end);
+        let until = cuts.next_end(traces, rest.c, from, stop);
+        parts.push(TextPart {
+            c: rest.c,
             from,
             until,
-            ..span
         })?;
         from = until;
     }
-    Ok((spans, from))
+    Ok((parts, from))
 }
 
 // Finishes the call of a crew. Its step counter is not used.
 fn finish_counted<'t, L: Ledger, R: Wait>(
     rt: &R,
     alloc: Global,
-    started: Started<'static, OwnLines<'t>, NoGate>,
+    started: Started<'static, LineWork<'t>, NoGate>,
     blank: Blank,
-) -> Result<(Crew<'static, OwnLines<'t>, NoGate>, Vec<KeyedText>), NoMemory>
+) -> Result<(Crew<'static, LineWork<'t>, NoGate>, Vec<MadePart>), NoMemory>
     requires name { blank.name ≡ L.name }
     requires parts { blank.parts ≡ L.parts }
     requires nonempty { 0 < L.parts }
@@ -198,63 +192,63 @@ fn finish_counted<'t, L: Ledger, R: Wait>(
 }
 
 impl<'t> Makers<'t> {
-    /// Starts a batch of spans, cut from the beginning of this one.
+    /// Starts a batch of parts, cut from the beginning of a rest whose last line comes before the word `end`.
     ///
     /// Errors: out of memory. The crew is then lost.
     pub(crate) fn start(
         self,
         alloc: Global,
-        changes: Changes,
-        cuts: &mut Cuts<'t>,
-        span: TextSpan,
+        rest: TextRest,
+        end: u64,
     ) -> Result<Batch<'t>, NoMemory>
-        requires span { HasSpan self span.c span.from span.until }
-        requires nonempty { span.from < span.until }
-        ensures batch { IfOk result (λ b. IsBatchOf self.entry changes span b) }
+        requires in_range { rest.c < length self.clones }
+        requires nonempty { rest.from < end }
+        requires whole { rest.kept_until % WORD_PLACES ≡ 0 }
+        requires whole_end { end % WORD_PLACES ≡ 0 }
+        ensures batch { IfOk result (λ b. IsBatchOf self.entry rest end b) }
     {
         let Makers {
             traces,
             crew,
-            spans,
+            parts,
         } = self;
-        let (items, until) = cut_spans(alloc, traces, cuts, span, spans)?;
-        let work = Arc::new(alloc, OwnLines::of(traces, changes))?;
+        let (items, until) = cut_parts(alloc, traces, rest, end, parts)?;
+        let work = Arc::new(alloc, LineWork::of(traces))?;
         let started = crew.start(alloc, work, items)?;
         Ok(Batch {
             traces,
-            changes,
-            spans,
+            parts,
             started,
-            c: span.c,
-            from: span.from,
+            c: rest.c,
+            from: rest.from,
             until,
         })
     }
 }
 
 impl<'t> Batch<'t> {
-    /// The time at which the last span ends.
+    /// The word at which the last part ends.
     pub(crate) fn until(&self) -> u64
         ensures value { result ≡ self.now.until }
     {
         self.until
     }
 
-    /// Makes what no member has begun, and returns the crew with the lines of all spans, in order.
+    /// Makes what no member has begun, and returns the crew with the lines of all parts, in order.
     ///
     /// Errors: out of memory. The crew is then lost.
     pub(crate) fn finish<R: Wait>(
         self,
         rt: &R,
         alloc: Global,
-    ) -> Result<(Makers<'t>, Vec<KeyedText>), NoMemory>
+    ) -> Result<(Makers<'t>, Vec<MadePart>), NoMemory>
         ensures makers { IfOk result (λ r. r.0 ≡ self.entry.traces) }
-        ensures made { IfOk result (λ r. IsMade (batch_span self.entry) (lines_of_all r.1.items)) }
+        ensures made { IfOk result (λ r. AreParts self.entry.traces self.entry.c self.entry.from r.1.items
+            self.entry.until) }
     {
         let Batch {
             traces,
-            changes: _,
-            spans,
+            parts,
             started,
             c: _,
             from: _,
@@ -265,7 +259,7 @@ impl<'t> Batch<'t> {
             Makers {
                 traces,
                 crew,
-                spans,
+                parts,
             },
             made,
         ))

@@ -1,26 +1,28 @@
-//! Puts the lines of a clone in a span of time, by the caller alone or together with the members of a crew.
-ghost use Rattle.std.specs.Prelude.{◌<◌, ◌≤◌, length, IfSome};
-ghost use Rattle.trace_writer.specs.Batches.{IsBatchOf, MakeFor, lines_of_all};
-ghost use Rattle.trace_writer.specs.Orders.{HasSpan, IsMade};
-ghost use Rattle.trace_writer.specs.ReadyLines.{IsReady};
-ghost use Rattle.trace_writer.specs.TextSpans.{IsUpTo, MayPut, PutsSpan, span_of};
+//! Puts the rest of a clone's text together with the members of a crew.
+ghost use Rattle.std.specs.Prelude.{◌≡◌, ◌⊎◌, ◌%◌, ◌<◌, ◌≤◌, length, IfOk, IfSome, OnErr};
+ghost use Rattle.sim_base.specs.declared.message.TheConstants.{WORD_PLACES};
+ghost use Rattle.trace_writer.specs.Batches.{IsBatchOf, IsMadeUpTo, MakeFor};
+ghost use Rattle.trace_writer.specs.Kept.{CanPut, HasSameLines, IsPageKept};
+ghost use Rattle.trace_writer.specs.Parts.{AreParts, IsPutUpTo};
+ghost use Rattle.trace_writer.specs.Puts.{IsCutOff};
+ghost use Rattle.trace_writer.specs.Rests.{MayPut, PutsRest, rest_lines};
 
 use crate::batches::{Batch, Makers};
-use crate::cuts::Cuts;
-use crate::span_putter::SpanPutter;
+use crate::cuts::cuts_from;
+use crate::kept::keep_page;
+use crate::making::MadePart;
+use crate::rest_putter::RestPutter;
 use crate::text_order::place_in;
-use crate::text_span::TextSpan;
+use crate::text_rest::{TextRest, put_rest};
 use crate::texts::Texts;
 use crate::world_traces::WorldTraces;
-use crate::writing::put_span;
-use keyed_text::KeyedText;
+use log_merge::first_word;
 use sim_outer::{PutFailed, Sink};
 use std::alloc::Global;
 use std::sync::Wait;
-use trace_changes::{Changes, count_own};
 
-// The caller alone puts a span with fewer lines than this; members would not make it faster.
-const LONG_SPAN: u64 = 8_192;
+// The caller alone puts a rest with fewer lines than this; members would not make it faster.
+const LONG_REST: u64 = 8_192;
 
 /// The crew that makes the lines of long texts, if there is one, and its allocator.
 #[derive(Drop)]
@@ -31,153 +33,185 @@ pub(crate) struct Help<'t> {
     pub makers: Option<Makers<'t>>,
 }
 
-/// Lines of a span, ready to be put.
+/// Parts that are made but not put, and the word before which the last one ends.
 #[derive(Drop)]
-pub(crate) struct ReadyLines {
-    /// The span.
-    pub span: TextSpan,
-    /// Its own lines, in consecutive texts.
-    pub lines: Vec<KeyedText>,
+pub(crate) struct ReadyParts {
+    /// The parts, in order.
+    pub parts: Vec<MadePart>,
+    /// The word.
+    pub until: u64,
 }
 
-// Puts ready lines. Only the contract reads the traces.
-fn put_ready<O: Sink>(
-    _traces: &WorldTraces<'_>,
-    texts: &mut Texts<'_>,
-    ready: &ReadyLines,
-    out: &mut O,
-) -> Result<(), PutFailed>
-    requires made { IsMade (span_of _traces.now texts.old.making.changes.parts ready.now.span)
-        (lines_of_all ready.now.lines.items) }
-    requires may { MayPut _traces.now ready.now.span texts.old }
-    ensures put { PutsSpan _traces.now ready.now.span texts.old texts.new (O.view out.old) (O.view out.new) result }
+// Keeps the lines of a part, if it ends at the word `kept_until` or before it. Returns the word, or 0 if the part is
+// not kept.
+fn keep_part(texts: &mut Texts<'_>, made: &MadePart, kept_until: u64) -> u64
+    ensures either { (result ≡ kept_until) ⊎ (result ≡ 0) }
+    ensures kept { 1 ≤ result → IsPageKept made.now.bytes.items made.now.until texts.old.text.items
+        texts.old.marks.items texts.new.text.items texts.new.marks.items }
+    ensures none { result ≡ 0 → HasSameLines texts.old texts.new }
+    ensures merge { texts.new.merge ≡ texts.old.merge }
+    ensures page { texts.new.page.items ≡ texts.old.page.items }
 {
-    for text in &ready.lines {
-        match texts.making.put_made(text.lines(), ready.span.keeps, out) {
+    if 0 < kept_until
+        && made.until <= kept_until
+        && keep_page(&mut texts.text, &mut texts.marks, &made.bytes, made.until)
+    {
+        kept_until
+    } else {
+        0
+    }
+}
+
+// Puts ready parts, which a rest begins with. Returns the word before which the lines after them are kept. Only the
+// contract reads the traces.
+fn put_ready<O: Sink>(
+    traces: &WorldTraces<'_>,
+    texts: &mut Texts<'_>,
+    rest: TextRest,
+    ready: &ReadyParts,
+    out: &mut O,
+) -> Result<u64, PutFailed>
+    requires may { MayPut traces.now rest texts.old }
+    requires ready { AreParts traces.now rest.c rest.from ready.now.parts.items ready.now.until }
+    ensures ok { IfOk result (λ kept. IsPutUpTo traces.now rest ready.now.until kept texts.new
+        (O.view out.old) (O.view out.new)) }
+    ensures err { OnErr result (IsCutOff (rest_lines traces.now rest) (O.view out.old) (O.view out.new)) }
+    ensures can { CanPut traces.now.net texts.new }
+{
+    let _clones = traces.len();
+    let _place = place_in(traces.world, &traces.order, rest.c);
+    let mut kept_until = rest.kept_until;
+    for made in &ready.parts {
+        match out.put_part(&made.bytes) {
             Ok(()) => {}
             Err(failed) => return Err(failed),
         }
+        kept_until = keep_part(texts, made, kept_until);
     }
-    Ok(())
+    Ok(kept_until)
 }
 
-// Starts the next batch: spans from the beginning of this one. `None` if there is no crew, or an allocation fails. The
+// Puts ready parts, and then the lines after them, which the caller makes.
+fn put_last<'t, O: Sink>(
+    traces: &WorldTraces<'t>,
+    texts: &mut Texts<'t>,
+    rest: TextRest,
+    ready: &ReadyParts,
+    out: &mut O,
+) -> Result<(), PutFailed>
+    requires may { MayPut traces.now rest texts.old }
+    requires ready { AreParts traces.now rest.c rest.from ready.now.parts.items ready.now.until }
+    ensures put { PutsRest traces.now rest texts.new (O.view out.old) (O.view out.new) result }
+{
+    let _clones = traces.len();
+    let _place = place_in(traces.world, &traces.order, rest.c);
+    let kept_until = match put_ready(traces, texts, rest, ready, out) {
+        Ok(kept_until) => kept_until,
+        Err(failed) => return Err(failed),
+    };
+    let left = TextRest {
+        c: rest.c,
+        from: ready.until,
+        kept_until,
+    };
+    put_rest(traces, texts, left, out)
+}
+
+// Starts the next batch: parts from the beginning of a rest. `None` if there is no crew, or an allocation fails. The
 // batch holds the makers until it is finished.
 fn start_batch<'t>(
     traces: &WorldTraces<'t>,
     help: &mut Help<'t>,
-    changes: Changes,
-    cuts: &mut Cuts<'t>,
-    span: TextSpan,
+    rest: TextRest,
+    end: u64,
 ) -> Option<Batch<'t>>
     requires makers { MakeFor traces.now help.old.makers }
-    requires span { HasSpan traces.now span.c span.from span.until }
-    requires nonempty { span.from < span.until }
-    ensures batch { IfSome result (λ batch. IsBatchOf traces.now changes span batch) }
+    requires in_range { rest.c < length traces.now.clones }
+    requires nonempty { rest.from < end }
+    requires whole { rest.kept_until % WORD_PLACES ≡ 0 }
+    requires whole_end { end % WORD_PLACES ≡ 0 }
+    ensures batch { IfSome result (λ batch. IsBatchOf traces.now rest end batch) }
     ensures makers { MakeFor traces.now help.new.makers }
 {
     let makers = help.makers.take()?;
-    makers.start(help.alloc, changes, cuts, span).ok()
+    makers.start(help.alloc, rest, end).ok()
 }
 
-// Finishes a batch and returns its lines. `None` if an allocation fails; then there is no crew any more.
+// Finishes a batch of parts that a rest begins with, and returns them. `None` if an allocation fails; then there is no
+// crew any more. Only the contract reads the traces.
 fn finish_batch<'t, R: Wait>(
     rt: &R,
-    traces: &WorldTraces<'t>,
+    _traces: &WorldTraces<'t>,
     help: &mut Help<'t>,
     batch: Batch<'t>,
-    span: TextSpan,
-) -> Option<ReadyLines>
-    requires makers { MakeFor traces.now help.old.makers }
-    requires batch { IsBatchOf traces.now batch.changes span batch }
-    ensures ready { IfSome result (λ ready. IsReady traces.now batch.entry.changes.parts span ready) }
-    ensures makers { MakeFor traces.now help.new.makers }
+    rest: TextRest,
+    end: u64,
+) -> Option<ReadyParts>
+    requires makers { MakeFor _traces.now help.old.makers }
+    requires batch { IsBatchOf _traces.now rest end batch }
+    ensures ready { IfSome result (λ ready. IsMadeUpTo _traces.now rest ready.parts.items ready.until) }
+    ensures makers { MakeFor _traces.now help.new.makers }
 {
-    let span = TextSpan {
-        until: batch.until(),
-        ..span
-    };
-    let (makers, lines) = batch.finish(rt, help.alloc).ok()?;
-    help.makers = Some(makers);
-    Some(ReadyLines { span, lines })
-}
-
-// Puts ready lines, and then the rest, which the caller makes.
-fn put_last<'t, O: Sink>(
-    traces: &WorldTraces<'t>,
-    texts: &mut Texts<'t>,
-    ready: &ReadyLines,
-    left: TextSpan,
-    out: &mut O,
-) -> Result<(), PutFailed>
-    requires made { IsMade (span_of traces.now texts.old.making.changes.parts ready.now.span)
-        (lines_of_all ready.now.lines.items) }
-    requires joined { IsUpTo left ready.now.span }
-    requires order { left.from ≤ left.until }
-    requires may { MayPut traces.now (record left { from = ready.now.span.from }) texts.old }
-    ensures put { PutsSpan traces.now (record left { from = ready.now.span.from }) texts.old texts.new
-        (O.view out.old) (O.view out.new) result }
-{
-    match put_ready(traces, texts, ready, out) {
-        Ok(()) => put_span(traces, texts, left, out),
-        Err(failed) => Err(failed),
+    let until = batch.until();
+    match batch.finish(rt, help.alloc) {
+        Ok((makers, parts)) => {
+            help.makers = Some(makers);
+            Some(ReadyParts { parts, until })
+        }
+        Err(_) => None,
     }
 }
 
-// Puts a span batch by batch: members make the lines of a batch while the caller puts those of the previous batch. If
-// an allocation fails, the caller puts the rest alone, and allocates nothing.
+// Puts a rest batch by batch: members make the parts of a batch while the caller puts those of the previous batch. If
+// an allocation fails, the caller goes on alone, and allocates nothing.
 fn put_by_makers<'t, O: Sink, R: Wait>(
     rt: &R,
     traces: &WorldTraces<'t>,
     help: &mut Help<'t>,
     texts: &mut Texts<'t>,
-    span: TextSpan,
+    rest: TextRest,
     out: &mut O,
 ) -> Result<(), PutFailed>
     requires makers { MakeFor traces.now help.old.makers }
-    requires may { MayPut traces.now span texts.old }
-    ensures put { PutsSpan traces.now span texts.old texts.new (O.view out.old) (O.view out.new) result }
+    requires may { MayPut traces.now rest texts.old }
+    ensures put { PutsRest traces.now rest texts.new (O.view out.old) (O.view out.new) result }
     ensures makers { MakeFor traces.now help.new.makers }
 {
-    let mut cuts = Cuts::new(traces, &texts.making.changes, span.c, span.from, span.until);
-    let mut ready = ReadyLines {
-        span: TextSpan {
-            until: span.from,
-            ..span
-        },
-        lines: Vec::new(help.alloc),
+    let _clones = traces.len();
+    let _place = place_in(traces.world, &traces.order, rest.c);
+    let end = first_word(traces.world.model().horizon());
+    let mut left = rest;
+    let mut ready = ReadyParts {
+        parts: Vec::new(help.alloc),
+        until: rest.from,
     };
-    let mut left = span;
-    'batch: while left.from < span.until {
-        let Some(batch) = start_batch(traces, help, texts.making.changes, &mut cuts, left) else {
-            return put_last(traces, texts, &ready, left, out);
+    'batch: while ready.until < end {
+        let next = TextRest {
+            c: rest.c,
+            from: ready.until,
+            kept_until: left.kept_until,
         };
-        match put_ready(traces, texts, &ready, out) {
-            Ok(()) => {}
+        let Some(batch) = start_batch(traces, help, next, end) else {
+            return put_last(traces, texts, left, &ready, out);
+        };
+        let kept_until = match put_ready(traces, texts, left, &ready, out) {
+            Ok(kept_until) => kept_until,
             Err(failed) => return Err(failed),
-        }
-        let Some(next) = finish_batch(rt, traces, help, batch, left) else {
-            return put_span(traces, texts, left, out);
         };
-        ready = next;
-        left = TextSpan {
-            from: ready.span.until,
-            ..span
+        left = TextRest {
+            c: rest.c,
+            from: ready.until,
+            kept_until,
         };
+        let Some(made) = finish_batch(rt, traces, help, batch, next, end) else {
+            return put_rest(traces, texts, left, out);
+        };
+        ready = made;
     }
-    put_last(traces, texts, &ready, left, out)
+    put_last(traces, texts, left, &ready, out)
 }
 
-// Whether a span has few own lines.
-fn is_short(traces: &WorldTraces<'_>, changes: &Changes, span: TextSpan) -> bool
-    requires in_range { span.c < length traces.now.clones }
-{
-    let place = place_in(traces.world, &traces.order, span.c);
-    let all = count_own(traces.world, place, changes, span.from);
-    all.saturating_sub(count_own(traces.world, place, changes, span.until)) < LONG_SPAN
-}
-
-/// Puts spans together with the members of a crew that run in threads.
+/// Puts rests together with the members of a crew that run in threads.
 #[derive(Drop)]
 pub(crate) struct WithCrew<'r, 't, R: Wait> {
     /// The caller's handle for waiting.
@@ -186,22 +220,22 @@ pub(crate) struct WithCrew<'r, 't, R: Wait> {
     pub help: Help<'t>,
 }
 
-impl<'r, 't, R: Wait> SpanPutter<'t> for WithCrew<'r, 't, R> {
+impl<'r, 't, R: Wait> RestPutter<'t> for WithCrew<'r, 't, R> {
     ghost use Rattle.trace_writer.specs.Batches.{MakeFor};
 
     ghost puts_for = { λ p traces. MakeFor traces p.help.makers };
 
-    // with the crew if there is one and the span is long, otherwise by the caller alone
+    // with the crew if there is one and the rest is long, otherwise by the caller alone
     fn put_lines<O: Sink>(
         &mut self,
         traces: &WorldTraces<'t>,
         texts: &mut Texts<'t>,
-        span: TextSpan,
+        rest: TextRest,
         out: &mut O,
     ) -> Result<(), PutFailed> {
-        if self.help.makers.is_none() || is_short(traces, &texts.making.changes, span) {
-            return put_span(traces, texts, span, out);
+        if self.help.makers.is_none() || cuts_from(traces, rest.c, rest.from).0 < LONG_REST {
+            return put_rest(traces, texts, rest, out);
         }
-        put_by_makers(self.rt, traces, &mut self.help, texts, span, out)
+        put_by_makers(self.rt, traces, &mut self.help, texts, rest, out)
     }
 }

@@ -1,51 +1,100 @@
-//! The work of the crew that makes lines: each task makes the own lines of a span.
-use crate::text_span::TextSpan;
+//! The work of the crew that makes lines: each task makes the lines of a part of a text.
+ghost use Rattle.std.specs.Prelude.{◌≡◌, IfOk};
+ghost use Rattle.trace_writer.specs.Parts.{IsMade, IsPart};
+
+use crate::merge::LogMerge;
+use crate::pages::PAGE;
+use crate::text_order::place_in;
+use crate::text_rest::fill_merge;
 use crate::world_traces::WorldTraces;
-use crate::writing::make_lines;
 use crew_pool::Work;
-use keyed_text::KeyedText;
 use sim_base::{NoMemory, Steps};
 use std::alloc::Global;
 use std::sync::ledger::Ledger;
-use trace_changes::Changes;
+use trace_report::MAX_LINE;
 
-/// The work of making the own lines of a clone. Contracts see the traces and the changes.
+// The bytes that are reserved for a part of about 2,048 lines. Few lines are longer than 128 bytes.
+const BYTES_OF_A_PART: usize = 262_144;
+
+/// A part of a text: the lines of a clone from one word up to another.
+#[derive(Clone, Copy)]
+pub(crate) struct TextPart {
+    /// The place of the clone among all clones.
+    pub c: u32,
+    /// The word from which it has lines.
+    pub from: u64,
+    /// The word before which it ends.
+    pub until: u64,
+}
+
+/// The lines of a part.
 #[derive(Drop)]
-pub(crate) struct OwnLines<'t> {
+pub(crate) struct MadePart {
+    /// The word before which it ends.
+    pub until: u64,
+    /// The lines.
+    pub bytes: Vec<u8>,
+}
+
+/// The work of making lines of clones. Contracts see the traces.
+#[derive(Drop)]
+pub(crate) struct LineWork<'t> {
     traces: &'t WorldTraces<'t>,
-    changes: Changes,
 }
 
-impl<'t> std::marker::Model for OwnLines<'t> {
-    ghost use Rattle.trace_writer.specs.Batches.{LinesView};
+impl<'t> std::marker::Model for LineWork<'t> {
+    ghost use Rattle.trace_writer.specs.WorldTraces.{WorldTracesView};
 
-    ghost Value = { LinesView };
+    ghost Value = { WorldTracesView };
 
-    ghost view = { λ l. record { traces = l.traces.now; changes = l.changes } };
+    ghost view = { λ w. w.traces.now };
 }
 
-impl<'t> OwnLines<'t> {
+impl<'t> LineWork<'t> {
     ghost use Rattle.std.specs.Prelude.{◌≡◌};
 
-    /// The own lines of a clone of these traces, which has these changes.
-    pub(crate) fn of(traces: &'t WorldTraces<'t>, changes: Changes) -> OwnLines<'t>
-        ensures value { result ≡ record { traces = traces.now; changes = changes } }
+    /// The work for these traces.
+    pub(crate) fn of(traces: &'t WorldTraces<'t>) -> LineWork<'t>
+        ensures value { result ≡ traces.now }
     {
-        OwnLines { traces, changes }
+        LineWork { traces }
     }
 }
 
-impl<'t> Work for OwnLines<'t> {
-    type In = TextSpan;
+/// Makes the lines of a part, with a merge and a page of its own.
+///
+/// Errors: out of memory.
+fn make_part(alloc: Global, traces: &WorldTraces<'_>, part: TextPart) -> Result<MadePart, NoMemory>
+    requires part { IsPart traces.now part }
+    ensures made { IfOk result (λ made. IsMade traces.now part made) }
+{
+    let _clones = traces.len();
+    let _place = place_in(traces.world, &traces.order, part.c);
+    let model = traces.world.model();
+    let mut merge = LogMerge::new(alloc, model.len() as usize)?;
+    fill_merge(traces, &mut merge, part.c, part.from);
+    let mut page = vec![in alloc; 0u8; PAGE + MAX_LINE]?;
+    let mut bytes = Vec::with_capacity(alloc, BYTES_OF_A_PART)?;
+    'page: while merge.least() < part.until {
+        let used = merge.fill_page(part.until, model, &traces.names, &mut page);
+        bytes.extend_from_slice(&page[..used])?;
+    }
+    Ok(MadePart {
+        until: part.until,
+        bytes,
+    })
+}
 
-    type Out = KeyedText;
+impl<'t> Work for LineWork<'t> {
+    type In = TextPart;
 
-    ghost use Rattle.trace_writer.specs.Orders.{HasSpan, IsMade};
-    ghost use Rattle.trace_writer.specs.TextSpans.{span_of};
+    type Out = MadePart;
 
-    ghost ready = { λ work _ span. HasSpan work.traces span.c span.from span.until };
+    ghost use Rattle.trace_writer.specs.Parts.{IsMade, IsPart};
 
-    ghost answers = { λ work _ span text. IsMade (span_of work.traces work.changes.parts span) text.lines };
+    ghost ready = { λ work _ part. IsPart work part };
+
+    ghost answers = { λ work _ part made. IsMade work part made };
 
     ghost cost = { λ _. 0 };
 
@@ -53,20 +102,13 @@ impl<'t> Work for OwnLines<'t> {
         &self,
         alloc: Global,
         _i: u32,
-        item: TextSpan,
+        item: TextPart,
         _steps: &mut Steps<L>,
-    ) -> Result<KeyedText, NoMemory> {
-        make_lines(
-            alloc,
-            self.traces,
-            &self.changes,
-            item.c,
-            item.from,
-            item.until,
-        )
+    ) -> Result<MadePart, NoMemory> {
+        make_part(alloc, self.traces, item)
     }
 
-    fn spent(&self, _out: &KeyedText) -> u64 {
+    fn spent(&self, _out: &MadePart) -> u64 {
         0
     }
 

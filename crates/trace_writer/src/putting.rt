@@ -1,98 +1,98 @@
 //! Puts the texts of all clones into a sink, one after the other.
-ghost use Rattle.std.specs.Prelude.{◌≡◌, ◌+◌, ◌<◌, ◌≤◌, true, length, map, max};
-ghost use Rattle.std.specs.Prelude.{IfOk, IfSome, OnOk, OnErr};
-ghost use Rattle.trace_writer.specs.Batches.{MakeFor};
+ghost use Rattle.std.specs.Prelude.{◌≡◌, ◌+◌, ◌%◌, ◌<◌, ◌≤◌, length, map};
+ghost use Rattle.std.specs.Prelude.{IfSome, OnOk, OnErr};
 ghost use Rattle.sim_base.specs.Clones.{clone_at};
+ghost use Rattle.sim_base.specs.declared.message.TheConstants.{WORD_PLACES};
 ghost use Rattle.sim_outer.specs.Bytes.{IsAppended};
 ghost use Rattle.sim_outer.specs.Counts.{AreCounted};
-ghost use Rattle.stations.specs.Runs.{trace_of};
-ghost use Rattle.trace_changes.specs.KeyedEntries.{keyed_lines};
+ghost use Rattle.trace_writer.specs.Batches.{MakeFor};
+ghost use Rattle.trace_writer.specs.Kept.{CanPut, HasBeginning, IsBegun};
 ghost use Rattle.trace_writer.specs.Puts.{AreCut, IsPartPut, IsPut, IsCutOff};
-ghost use Rattle.trace_writer.specs.Texts.{AreTextsReady, CanPut, FitsTexts, HasTraceBefore, IsBegun, PutsAll, body};
-ghost use Rattle.trace_writer.specs.Texts.{parting_at as parting_at'};
+ghost use Rattle.trace_writer.specs.Rests.{trace_at};
+ghost use Rattle.trace_writer.specs.Texts.{AreTextsReady, PutsAll, body};
 ghost use Rattle.trace_report.specs.Outputs.{clone_text, clone_texts};
 
 use crate::alone::put_name_line;
 use crate::batches::{LineMembers, Makers, Others, begin_if_long, serve_once};
 use crate::beside::{Help, WithCrew};
 use crate::bounds::parting_at;
-use crate::remaking::Remaking;
-use crate::span_putter::{Alone, SpanPutter};
+use crate::kept::keep_to;
+use crate::rest_putter::{Alone, RestPutter};
 use crate::text_order::place_in;
-use crate::text_span::TextSpan;
+use crate::text_rest::TextRest;
 use crate::texts::Texts;
 use crate::world_traces::WorldTraces;
 use crew_pool::Bell;
+use log_merge::first_word;
 use sim_outer::{PutFailed, Sink};
 use std::alloc::Global;
 use std::sync::Wait;
 use std::thread::{Threads, join_mut};
-use trace_changes::{Changes, changes_between, first_word};
 
-// Begins the text of a clone: it has the lines of the text before up to the time at which the two clones part.
-fn begin_text(traces: &WorldTraces<'_>, c: u32, time: u64, making: &mut Remaking)
+// Begins the text of a clone: it has the lines of the text before up to a word that is not after the time at which the
+// two clones part. Returns the word.
+fn begin_text(traces: &WorldTraces<'_>, texts: &mut Texts<'_>, c: u32) -> u64
     requires in_range { c < length traces.now.clones }
-    requires time { time ≡ parting_at' traces.now.net traces.now.clones c }
-    requires before { HasTraceBefore traces.now.net traces.now.clones c making.old }
-    requires fits { FitsTexts traces.now.net traces.now.clones making.old }
-    ensures begun { IsBegun traces.now.net (clone_at traces.now.clones c) time making.new }
-    ensures fits { FitsTexts traces.now.net traces.now.clones making.new }
+    requires can { CanPut traces.now.net texts.old }
+    requires before { HasBeginning traces.now.net traces.now.clones c texts.old }
+    ensures begun { IsBegun traces.now.net (trace_at traces.now c) result texts.new }
+    ensures can { CanPut traces.now.net texts.new }
 {
     let _clones = traces.len();
-    let place = place_in(traces.world, &traces.order, c);
-    if c == 0 {
-        making.begin(0, Changes::all_own());
-        return;
-    }
-    let before = place_in(traces.world, &traces.order, c - 1);
-    let changes = changes_between(traces.world, before, place, time);
-    let keep = making.text.lines_below(first_word(time));
-    making.begin(keep, changes);
+    let word = first_word(parting_at(traces, c));
+    keep_to(&mut texts.text, &mut texts.marks, word)
 }
 
-// Puts the text of a clone, which has begun, after its name line: first the lines before a time, which it has.
-fn put_text_lines<'t, O: Sink, P: SpanPutter<'t>>(
+// The word before which the next text has the same lines: 0 if there is no next text.
+fn kept_until(traces: &WorldTraces<'_>, c: u32) -> u64
+    requires in_range { c < length traces.now.clones }
+    ensures whole { result % WORD_PLACES ≡ 0 }
+{
+    let clones = traces.len();
+    if c + 1 < clones {
+        first_word(parting_at(traces, c + 1))
+    } else {
+        0
+    }
+}
+
+// Puts the lines of a clone: first those that the text has, and then the rest.
+fn put_text_lines<'t, O: Sink, P: RestPutter<'t>>(
     traces: &WorldTraces<'t>,
     putter: &mut P,
     texts: &mut Texts<'t>,
-    rest: TextSpan,
+    rest: TextRest,
     out: &mut O,
 ) -> Result<(), PutFailed>
     requires puts_for { P.puts_for putter.old traces.now }
     requires in_range { rest.c < length traces.now.clones }
-    requires until { rest.until ≡ max rest.from traces.now.net.horizon }
-    requires begun { IsBegun traces.now.net (clone_at traces.now.clones rest.c) rest.from texts.old.making }
-    requires fits { FitsTexts traces.now.net traces.now.clones texts.old.making }
+    requires whole { rest.kept_until % WORD_PLACES ≡ 0 }
     requires can { CanPut traces.now.net texts.old }
+    requires begun { IsBegun traces.now.net (trace_at traces.now rest.c) rest.from texts.old }
     // the lines are put, or cut off
     ensures ok { OnOk result (IsPartPut (body traces.now.net (clone_at traces.now.clones rest.c))
         (O.view out.old) (O.view out.new)) }
     ensures err { OnErr result (IsCutOff (body traces.now.net (clone_at traces.now.clones rest.c))
         (O.view out.old) (O.view out.new)) }
-    // if they are kept, the text has them
-    ensures kept { OnOk result (rest.keeps ≡ true → texts.new.making.text.lines
-        ≡ keyed_lines traces.now.net (trace_of traces.now.net (clone_at traces.now.clones rest.c))) }
-    ensures fits { OnOk result (FitsTexts traces.now.net traces.now.clones texts.new.making) }
+    // what the next clone finds
+    ensures before { OnOk result (HasBeginning traces.now.net traces.now.clones (rest.c + 1) texts.new) }
     ensures can { CanPut traces.now.net texts.new }
     ensures puts_for { P.puts_for putter.new traces.now }
 {
     let _clones = traces.len();
-    match out.put_part(texts.making.text.text_from(0)) {
+    let _place = place_in(traces.world, &traces.order, rest.c);
+    match out.put_part(&texts.text) {
         Ok(()) => {}
         Err(failed) => return Err(failed),
     }
     match putter.put_lines(traces, texts, rest, out) {
-        Ok(()) => {}
-        Err(failed) => return Err(failed),
-    }
-    match texts.making.put_staying(rest.keeps, out) {
         Ok(()) => Ok(()),
         Err(failed) => Err(failed),
     }
 }
 
-// Puts the text of a clone. Between two texts, the memory has the lines of the last one.
-fn put_clone_text<'t, O: Sink, P: SpanPutter<'t>>(
+// Puts the text of a clone. Between two texts, the memory has a beginning of the last one.
+fn put_clone_text<'t, O: Sink, P: RestPutter<'t>>(
     traces: &WorldTraces<'t>,
     putter: &mut P,
     texts: &mut Texts<'t>,
@@ -102,33 +102,27 @@ fn put_clone_text<'t, O: Sink, P: SpanPutter<'t>>(
     requires puts_for { P.puts_for putter.old traces.now }
     requires in_range { c < length traces.now.clones }
     requires can { CanPut traces.now.net texts.old }
-    requires fits { FitsTexts traces.now.net traces.now.clones texts.old.making }
-    requires before { HasTraceBefore traces.now.net traces.now.clones c texts.old.making }
+    requires before { HasBeginning traces.now.net traces.now.clones c texts.old }
     // the text is put, or cut off
     ensures ok { OnOk result (IsPut (clone_text traces.now.net (clone_at traces.now.clones c))
         (O.view out.old) (O.view out.new)) }
     ensures err { OnErr result (IsCutOff (clone_text traces.now.net (clone_at traces.now.clones c))
         (O.view out.old) (O.view out.new)) }
-    // what the next clone finds, if there is one
-    ensures before { OnOk result (c + 1 < length traces.now.clones →
-        HasTraceBefore traces.now.net traces.now.clones (c + 1) texts.new.making) }
-    ensures fits { OnOk result (FitsTexts traces.now.net traces.now.clones texts.new.making) }
+    // what the next clone finds
+    ensures before { OnOk result (HasBeginning traces.now.net traces.now.clones (c + 1) texts.new) }
     ensures can { CanPut traces.now.net texts.new }
     ensures puts_for { P.puts_for putter.new traces.now }
 {
-    let clones = traces.len();
-    let time = parting_at(traces, c);
-    begin_text(traces, c, time, &mut texts.making);
+    let from = begin_text(traces, texts, c);
+    let rest = TextRest {
+        c,
+        from,
+        kept_until: kept_until(traces, c),
+    };
     match put_name_line(&traces.name(c), out) {
         Ok(()) => {}
         Err(failed) => return Err(failed),
     }
-    let rest = TextSpan {
-        c,
-        from: time,
-        until: time.max(traces.world.model().horizon()),
-        keeps: c + 1 < clones,
-    };
     match put_text_lines(traces, putter, texts, rest, out) {
         Ok(()) => {}
         Err(failed) => return Err(failed),
@@ -140,7 +134,7 @@ fn put_clone_text<'t, O: Sink, P: SpanPutter<'t>>(
 }
 
 // Puts the text of each clone.
-fn put_all<'t, O: Sink, P: SpanPutter<'t>>(
+fn put_all<'t, O: Sink, P: RestPutter<'t>>(
     traces: &WorldTraces<'t>,
     putter: &mut P,
     texts: &mut Texts<'t>,

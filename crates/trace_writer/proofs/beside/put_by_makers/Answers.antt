@@ -1,125 +1,178 @@
-use Rattle.std.proofs.Common.{◌∙◌, ap, arith, refl, subst, sym}
-use Rattle.trace_changes.specs.Changes.{ChangesView}
-use Rattle.trace_writer.specs.Batches.{lines_of_all}
-use Rattle.trace_writer.specs.Orders.{HasSpan, IsMade}
-use Rattle.trace_writer.specs.TextSpans.{IsSpanPut, span_of}
-use Rattle.trace_writer.specs.declared.text_span.TextSpan.{TextSpan}
-use Rattle.trace_writer.proofs.Puts.{put_none}
-use Rattle.trace_writer.proofs.SpanPuts.{
-  both_may,
-  both_put,
-  left_may,
-  left_put,
-  next_from,
-  next_up,
-  put_so_far,
-  ready_cut,
-  ready_may,
-}
+use Rattle.std.proofs.Common.{arith, refl, subst, sym}
+use Rattle.sim_base.specs.Clones.{clone_at}
+use Rattle.trace_writer.specs.Parts.{AreParts, IsPutUpTo}
+use Rattle.trace_writer.specs.Puts.{IsCutOff}
+use Rattle.trace_writer.specs.Rests.{MayPut, PutsRest, rest_lines}
+use Rattle.trace_writer.specs.declared.text_rest.TextRest.{TextRest}
+use Rattle.trace_writer.proofs.LogLaws.{counted_seen}
+use Rattle.trace_writer.proofs.Logs.{trace_rises}
+use Rattle.trace_writer.proofs.PartPuts.{put_to_further, put_to_cut, put_to_none, puts_then}
 use Rattle.trace_writer.proofs.beside.put_by_makers.Goals as goal
 
 -- ---- before the first batch
 
+pub first_word-end-requires : goal.first_word-end-requires
+first_word-end-requires g c =
+    let valid = c.horizon.ensures.valid in
+    let most = valid.horizon_max in
+    record { fits = omega (arith, c.horizon.ensures.value, most) }
+
 pub batch-init : goal.batch-init
-batch-init g c = record {
-  left = refl;
-  within = c.requires.may.has_span.order;
-  ready = record { same = refl; order = omega arith };
-  made = rw c.new.ensures.items;
-  put = record {
-    put = put_none c.args.span.keeps _ _ _;
-    source = record { before = refl; changes = refl };
-    within = c.requires.may.within;
-  };
-  can = c.requires.may.can;
-  makers = c.requires.makers;
-}
+batch-init g c =
+    let v = c.args.traces.now in
+    let p = c.place_in-place in
+    let few = counted_seen c.traces.inside.world.now c.traces.invariant.may_trace.over v _ c.traces.view_is
+    c.args.rest.c p.result p.ensures.in_range p.ensures.same in
+    let rise = trace_rises v.net c.len-clones.ensures.valid (clone_at v.clones c.args.rest.c) few in
+    record {
+      left = refl;
+      put = put_to_none v c.args.rest rise c.args.texts.now (g.O.Sink.view c.args.out.now) c.requires.may;
+      ready = subst (λ k. AreParts v c.args.rest.c c.args.rest.from k c.args.rest.from) (sym c.new.ensures.items) refl;
+      makers = c.requires.makers;
+    }
 
 -- ---- a batch is started
 
-pub start_batch-requires-clause-span : goal.start_batch-requires-clause-span
-start_batch-requires-clause-span g c =
+pub start_batch-requires : goal.start_batch-requires
+start_batch-requires g c =
     let h = c.batch.invariant in
-    let traces = c.args.traces.now in
-    let span : HasSpan traces c.args.span.c c.batch.left.from c.args.span.until =
-    record { in_range = c.requires.may.has_span.in_range; order = h.within } in
-    subst (λ (s : TextSpan). HasSpan traces s.c s.from s.until) (sym h.left) span
+    record {
+      makers = h.makers;
+      in_range = c.requires.may.in_range;
+      nonempty = c.batch-test.true;
+      whole = h.put.may.whole;
+      whole_end = let a = c.first_word-end.ensures.value in omega (arith, a);
+    }
 
-pub start_batch-requires-clause-nonempty : goal.start_batch-requires-clause-nonempty
-start_batch-requires-clause-nonempty g c =
-    let until = ap (λ (s : TextSpan). s.until) c.batch.invariant.left in omega (arith, c.batch-test.true, until)
-
--- ---- no batch can be started: the ready part and the rest are put
+-- ---- no batch can be started: the ready parts and the rest are put
 
 pub put_last-requires : goal.put_last-requires
 put_last-requires g c =
     let h = c.batch.invariant in
-    let until = ap (λ (s : TextSpan). s.until) h.left in
     record {
-      made = h.made;
-      joined = h.ready;
-      order = omega (arith, h.within, until);
-      may = both_may _ _ _ _ h.left h.ready c.args.texts.now c.batch.texts _ _ h.put h.within h.can c.requires.may;
+      may = subst (λ r. MayPut c.args.traces.now r c.batch.texts) (sym h.left) h.put.may;
+      ready = subst (λ (r : TextRest). AreParts c.args.traces.now r.c r.from c.batch.ready.parts.items
+          c.batch.ready.until) (sym h.left) h.ready;
     }
 
-pub returns-in_default-clause-put : goal.returns-in_default-clause-put
-returns-in_default-clause-put g c =
-    let h = c.batch.invariant in both_put _ _ _ _ h.left h.ready c.args.texts.now c.batch.texts _ _ h.put _ _ _
-    c.put_last.ensures.put
-
--- ---- the ready part is put
-
-pub put_ready-requires-clause-may : goal.put_ready-requires-clause-may
-put_ready-requires-clause-may g c =
-    let h = c.batch.invariant in ready_may _ _ _ _ h.left h.ready c.args.texts.now c.batch.texts _ _ h.put h.within
-    h.can c.requires.may
-
-pub returns-in-Err-clause-put : goal.returns-in-Err-clause-put
-returns-in-Err-clause-put g c =
+pub returns-in_default : goal.returns-in_default
+returns-in_default g c =
+    let v = c.args.traces.now in
+    let p = c.place_in-place in
+    let few = counted_seen c.traces.inside.world.now c.traces.invariant.may_trace.over v _ c.traces.view_is
+    c.args.rest.c p.result p.ensures.in_range p.ensures.same in
+    let rise = trace_rises v.net c.len-clones.ensures.valid (clone_at v.clones c.args.rest.c) few in
     let h = c.batch.invariant in
-    let cut = c.in-Err.ensures.put in
+    let rest = c.args.rest in
+    let left = c.batch.left in
+    let start = g.O.Sink.view c.args.out.now in
+    let u = g.O.Sink.view c.batch.out in
     record {
-      ok = tt;
-      err = ready_cut _ _ _ _ h.left h.ready c.args.texts.now c.batch.texts _ _ h.put _ cut.err;
-      can = cut.can;
+      put = puts_then v rest rise left.from left.kept_until c.batch.texts start u h.put c.put_last.new.texts
+          (g.O.Sink.view c.put_last.new.out) c.put_last.result
+          (subst (λ r. PutsRest v r c.put_last.new.texts u (g.O.Sink.view c.put_last.new.out) c.put_last.result) h.left
+          c.put_last.ensures.put);
+      makers = c.start_batch.ensures.makers;
+    }
+
+-- ---- the ready parts are put
+
+pub put_ready-requires : goal.put_ready-requires
+put_ready-requires g c =
+    let h = c.batch.invariant in
+    record {
+      may = subst (λ r. MayPut c.args.traces.now r c.batch.texts) (sym h.left) h.put.may;
+      ready = subst (λ (r : TextRest). AreParts c.args.traces.now r.c r.from c.batch.ready.parts.items
+          c.batch.ready.until) (sym h.left) h.ready;
+    }
+
+pub returns-in-Err : goal.returns-in-Err
+returns-in-Err g c =
+    let v = c.args.traces.now in
+    let p = c.place_in-place in
+    let few = counted_seen c.traces.inside.world.now c.traces.invariant.may_trace.over v _ c.traces.view_is
+    c.args.rest.c p.result p.ensures.in_range p.ensures.same in
+    let rise = trace_rises v.net c.len-clones.ensures.valid (clone_at v.clones c.args.rest.c) few in
+    let h = c.batch.invariant in
+    let rest = c.args.rest in
+    let left = c.batch.left in
+    let start = g.O.Sink.view c.args.out.now in
+    let u = g.O.Sink.view c.batch.out in
+    let x = g.O.Sink.view c.put_ready.new.out in
+    record {
+      put = record {
+        ok = tt;
+        err = put_to_cut v rest rise left.from left.kept_until c.batch.texts start u h.put x
+            (subst (λ r. IsCutOff (rest_lines v r) u x) h.left c.in-Err.ensures.err);
+        marks = tt;
+        can = c.put_ready.ensures.can;
+      };
+      makers = c.start_batch.ensures.makers;
     }
 
 -- ---- the batch is finished
 
-pub put_span-requires : goal.put_span-requires
-put_span-requires g c =
+pub put_rest-requires : goal.put_rest-requires
+put_rest-requires g c =
+    let v = c.args.traces.now in
+    let p = c.place_in-place in
+    let few = counted_seen c.traces.inside.world.now c.traces.invariant.may_trace.over v _ c.traces.view_is
+    c.args.rest.c p.result p.ensures.in_range p.ensures.same in
+    let rise = trace_rises v.net c.len-clones.ensures.valid (clone_at v.clones c.args.rest.c) few in
     let h = c.batch.invariant in
-    let put = c.in-Ok.ensures.put in
-    record {
-      may = left_may _ _ _ _ h.left h.ready c.args.texts.now c.batch.texts _ _ h.put c.put_ready.new.texts _ put.ok
-          h.within put.can c.requires.may;
-    }
+    let rest = c.args.rest in
+    let left = c.batch.left in
+    let start = g.O.Sink.view c.args.out.now in
+    let u = g.O.Sink.view c.batch.out in
+    let put = subst (λ r. IsPutUpTo v r c.batch.ready.until c.in-Ok.kept_until c.put_ready.new.texts u
+    (g.O.Sink.view c.put_ready.new.out)) h.left c.in-Ok.ensures.ok in
+    let further = put_to_further v rest rise left.from left.kept_until c.batch.texts start u h.put c.batch.ready.until
+    c.in-Ok.kept_until c.put_ready.new.texts (g.O.Sink.view c.put_ready.new.out) put in
+    record { may = further.may }
 
-pub returns-in_default-finish_batch-clause-put : goal.returns-in_default-finish_batch-clause-put
-returns-in_default-finish_batch-clause-put g c =
+pub returns-in_default-finish_batch : goal.returns-in_default-finish_batch
+returns-in_default-finish_batch g c =
+    let v = c.args.traces.now in
+    let p = c.place_in-place in
+    let few = counted_seen c.traces.inside.world.now c.traces.invariant.may_trace.over v _ c.traces.view_is
+    c.args.rest.c p.result p.ensures.in_range p.ensures.same in
+    let rise = trace_rises v.net c.len-clones.ensures.valid (clone_at v.clones c.args.rest.c) few in
     let h = c.batch.invariant in
-    left_put _ _ _ _ h.left h.ready c.args.texts.now c.batch.texts _ _ h.put c.put_ready.new.texts _
-    c.in-Ok.ensures.put.ok _ _ _ c.put_span.ensures.put
+    let rest = c.args.rest in
+    let left = c.batch.left in
+    let start = g.O.Sink.view c.args.out.now in
+    let u = g.O.Sink.view c.batch.out in
+    let put = subst (λ r. IsPutUpTo v r c.batch.ready.until c.in-Ok.kept_until c.put_ready.new.texts u
+    (g.O.Sink.view c.put_ready.new.out)) h.left c.in-Ok.ensures.ok in
+    let further = put_to_further v rest rise left.from left.kept_until c.batch.texts start u h.put c.batch.ready.until
+    c.in-Ok.kept_until c.put_ready.new.texts (g.O.Sink.view c.put_ready.new.out) put in
+    record {
+      put = puts_then v rest rise c.batch.ready.until c.in-Ok.kept_until c.put_ready.new.texts start
+          (g.O.Sink.view c.put_ready.new.out) further c.put_rest.new.texts (g.O.Sink.view c.put_rest.new.out)
+          c.put_rest.result c.put_rest.ensures.put;
+      makers = c.finish_batch.ensures.makers;
+    }
 
 pub batch-preserved : goal.batch-preserved
 batch-preserved g c =
+    let v = c.args.traces.now in
+    let p = c.place_in-place in
+    let few = counted_seen c.traces.inside.world.now c.traces.invariant.may_trace.over v _ c.traces.view_is
+    c.args.rest.c p.result p.ensures.in_range p.ensures.same in
+    let rise = trace_rises v.net c.len-clones.ensures.valid (clone_at v.clones c.args.rest.c) few in
     let h = c.batch.invariant in
-    let put = c.in-Ok.ensures.put in
-    let next = c.in-Some-finish_batch.ensures.ready in
-    let from = next_from c.args.span c.batch.left c.in-Some-finish_batch.next.span h.left next.begin in
-    let until = ap (λ (s : TextSpan). s.until) h.left in
+    let rest = c.args.rest in
+    let left = c.batch.left in
+    let start = g.O.Sink.view c.args.out.now in
+    let u = g.O.Sink.view c.batch.out in
+    let put = subst (λ r. IsPutUpTo v r c.batch.ready.until c.in-Ok.kept_until c.put_ready.new.texts u
+    (g.O.Sink.view c.put_ready.new.out)) h.left c.in-Ok.ensures.ok in
+    let further = put_to_further v rest rise left.from left.kept_until c.batch.texts start u h.put c.batch.ready.until
+    c.in-Ok.kept_until c.put_ready.new.texts (g.O.Sink.view c.put_ready.new.out) put in
     record {
       left = refl;
-      within = omega (arith, next.within, until);
-      ready = next_up c.args.span c.batch.left c.in-Some-finish_batch.next.span h.left next.begin
-          (omega (arith, from, next.further));
-      made = subst (λ (k : ChangesView). IsMade (span_of c.args.traces.now k.parts c.in-Some-finish_batch.next.span)
-          (lines_of_all c.in-Some-finish_batch.next.lines.items))
-          (c.in-Some.ensures.batch.changes_are ∙ sym put.ok.source.changes) next.made;
-      put = subst (λ t. IsSpanPut c.args.traces.now (record c.args.span { until = t }) c.args.texts.now.making
-          c.put_ready.new.texts.making (g.O.Sink.view c.args.out.now) (g.O.Sink.view c.put_ready.new.out)) (sym from)
-          (put_so_far _ _ _ _ h.left h.ready c.args.texts.now c.batch.texts _ _ h.put c.put_ready.new.texts _ put.ok);
-      can = put.can;
+      put = further;
+      ready = c.in-Some-finish_batch.ensures.ready.parts_are;
       makers = c.finish_batch.ensures.makers;
     }
 
@@ -128,15 +181,28 @@ batch-preserved g c =
 pub put_last-requires-2 : goal.put_last-requires-2
 put_last-requires-2 g c =
     let h = c.batch.invariant in
-    let until = ap (λ (s : TextSpan). s.until) h.left in
     record {
-      made = h.made;
-      joined = h.ready;
-      order = omega (arith, h.within, until);
-      may = both_may _ _ _ _ h.left h.ready c.args.texts.now c.batch.texts _ _ h.put h.within h.can c.requires.may;
+      may = subst (λ r. MayPut c.args.traces.now r c.batch.texts) (sym h.left) h.put.may;
+      ready = subst (λ (r : TextRest). AreParts c.args.traces.now r.c r.from c.batch.ready.parts.items
+          c.batch.ready.until) (sym h.left) h.ready;
     }
 
-pub returns-clause-put : goal.returns-clause-put
-returns-clause-put g c =
-    let h = c.batch.invariant in both_put _ _ _ _ h.left h.ready c.args.texts.now c.batch.texts _ _ h.put _ _ _
-    c.put_last-2.ensures.put
+pub returns : goal.returns
+returns g c =
+    let v = c.args.traces.now in
+    let p = c.place_in-place in
+    let few = counted_seen c.traces.inside.world.now c.traces.invariant.may_trace.over v _ c.traces.view_is
+    c.args.rest.c p.result p.ensures.in_range p.ensures.same in
+    let rise = trace_rises v.net c.len-clones.ensures.valid (clone_at v.clones c.args.rest.c) few in
+    let h = c.batch.invariant in
+    let rest = c.args.rest in
+    let left = c.batch.left in
+    let start = g.O.Sink.view c.args.out.now in
+    let u = g.O.Sink.view c.batch.out in
+    record {
+      put = puts_then v rest rise left.from left.kept_until c.batch.texts start u h.put c.put_last-2.new.texts
+          (g.O.Sink.view c.put_last-2.new.out) c.put_last-2.result
+          (subst (λ r. PutsRest v r c.put_last-2.new.texts u (g.O.Sink.view c.put_last-2.new.out) c.put_last-2.result)
+          h.left c.put_last-2.ensures.put);
+      makers = h.makers;
+    }

@@ -1,44 +1,26 @@
-use Rattle.std.proofs.Common.{subst, sym}
-use Rattle.trace_writer.specs.TextSpans.{IsSpanCutOff, IsSpanPut, MayPut}
-use Rattle.trace_writer.specs.declared.text_span.TextSpan.{TextSpan}
-use Rattle.trace_writer.proofs.SpanPuts.{MayPut-begin, MayPut-rest, PutsSpan-then}
+use Rattle.sim_base.specs.Clones.{clone_at}
+use Rattle.trace_writer.proofs.LogLaws.{counted_seen}
+use Rattle.trace_writer.proofs.Logs.{trace_rises}
+use Rattle.trace_writer.proofs.PartPuts.{puts_then}
 use Rattle.trace_writer.proofs.beside.put_last.Goals as goal
 
-pub put_ready-requires-clause-may : goal.put_ready-requires-clause-may
-put_ready-requires-clause-may g c =
-    let whole : TextSpan = record c.args.left { from = c.args.ready.now.span.from } in
-    let joined = c.requires.joined in
-    subst (λ s. MayPut c.args.traces.now s c.args.texts.now) (sym joined.same)
-    (MayPut-begin c.args.traces.now whole c.args.texts.now c.args.left.from joined.order c.requires.may)
-
-pub put_span-requires : goal.put_span-requires
-put_span-requires g c =
-    let whole : TextSpan = record c.args.left { from = c.args.ready.now.span.from } in
-    let traces = c.args.traces.now in
-    let put = subst (λ (s : TextSpan). IsSpanPut traces s c.args.texts.now.making c.put_ready.new.texts.making
-    (g.O.Sink.view c.args.out.now) (g.O.Sink.view c.put_ready.new.out)) c.requires.joined.same c.in-Ok.ensures.put.ok in
-    record {
-      may = MayPut-rest traces whole c.args.left.from _ _ _ _ put c.requires.order c.in-Ok.ensures.put.can
-          c.requires.may;
-    }
-
-pub returns-in-Ok : goal.returns-in-Ok
-returns-in-Ok g c =
-    let whole : TextSpan = record c.args.left { from = c.args.ready.now.span.from } in
-    let traces = c.args.traces.now in
-    let put = subst (λ (s : TextSpan). IsSpanPut traces s c.args.texts.now.making c.put_ready.new.texts.making
-    (g.O.Sink.view c.args.out.now) (g.O.Sink.view c.put_ready.new.out)) c.requires.joined.same c.in-Ok.ensures.put.ok in
-    record { put = PutsSpan-then traces whole c.args.left.from _ _ _ _ put _ _ _ c.put_span.ensures.put }
+pub put_rest-requires : goal.put_rest-requires
+put_rest-requires g c = record { may = c.in-Ok.ensures.ok.may }
 
 pub returns-in-Err : goal.returns-in-Err
 returns-in-Err g c =
-    let cut = c.in-Err.ensures.put in
+    let cut = c.in-Err.ensures in
+    record { put = record { ok = tt; err = cut.err; marks = tt; can = c.put_ready.ensures.can } }
+
+pub returns : goal.returns
+returns g c =
+    let v = c.args.traces.now in
+    let p = c.place_in-place in
+    let few = counted_seen c.traces.inside.world.now c.traces.invariant.may_trace.over v _ c.traces.view_is
+    c.args.rest.c p.result p.ensures.in_range p.ensures.same in
+    let rise = trace_rises v.net c.len-clones.ensures.valid (clone_at v.clones c.args.rest.c) few in
     record {
-      put = record {
-        ok = tt;
-        err = subst (λ (s : TextSpan). IsSpanCutOff c.args.traces.now s c.args.texts.now.making
-            (g.O.Sink.view c.args.out.now)
-            (g.O.Sink.view c.put_ready.new.out)) c.requires.joined.same cut.err;
-        can = cut.can;
-      };
+      put = puts_then v c.args.rest rise c.args.ready.now.until c.in-Ok.kept_until c.put_ready.new.texts
+          (g.O.Sink.view c.args.out.now) (g.O.Sink.view c.put_ready.new.out) c.in-Ok.ensures.ok
+          c.put_rest.new.texts (g.O.Sink.view c.put_rest.new.out) c.put_rest.result c.put_rest.ensures.put;
     }

@@ -1,86 +1,93 @@
-use Rattle.std.proofs.Common.{◌≡◌, ◌+◌, ◌<◌, ◌++◌, ◌∙◌, ap, arith, drop, get_or, length, subst, sym}
-use Rattle.std.proofs.Common.{List}
+use Rattle.std.proofs.Common.{◌≡◌, ◌<◌, ◌∙◌, ap, arith, get_or, length, subst}
 use Rattle.sim_base.specs.Clones.{clone_at}
-use Rattle.keyed_text.specs.Lines.{KeyedLine, text_of}
-use Rattle.keyed_text.specs.LinesOf.{lines_of}
-use Rattle.keyed_text.specs.Texts.{HasRoom}
-use Rattle.trace_writer.specs.Batches.{lines_of_all}
-use Rattle.trace_writer.specs.Puts.{ArePutTo, IsCutOff}
-use Rattle.trace_writer.specs.Remakings.{to_come}
-use Rattle.trace_writer.specs.Texts.{own_lines}
-use Rattle.trace_writer.proofs.Batching.{lines_of_all-next}
-use Rattle.trace_writer.proofs.Puts.{put_cut, put_on, room_left}
-use Rattle.trace_writer.proofs.Remakings.{HasSameSource-trans, room_for_made}
+use Rattle.log_merge.specs.Cursors.{CursorView}
+use Rattle.trace_writer.specs.Parts.{AreParts, IsPutUpTo}
+use Rattle.trace_writer.specs.Puts.{IsPartPut}
+use Rattle.trace_writer.proofs.LogLaws.{counted_seen}
+use Rattle.trace_writer.proofs.Logs.{trace_rises}
+use Rattle.trace_writer.proofs.PartPuts.{drop_end, part_cut, parts_next, put_to_next, put_to_none}
 use Rattle.trace_writer.proofs.beside.put_ready.Goals as goal
 
-pub put_made-requires-clause-room : goal.put_made-requires-clause-room
-put_made-requires-clause-room g c =
-    let ready = c.args.ready.now in
-    let texts = ready.lines.items in
-    let i = c.loop-text.text-index in
-    let v = c.args._traces.now in
-    let old = c.args.texts.now.making in
-    let making = c.loop-text.texts.making in
-    let after = own_lines v.net (clone_at v.clones ready.span.c) old.changes.parts ready.span.until in
-    let later : List KeyedLine = lines_of_all (drop (i + 1) texts) ++ after in
-    let all = c.deref-text-items.ensures.value in
-    let many = ap length all in
-    let below : i < length texts = omega (arith, c.loop-text-test.true, c.loop-text.auto.text-index-end, many) in
-    let is = c.text-item.is ∙ ap (λ l. get_or l i c.text-item.result) all in
-    let here : lines_of c.lines.result ++ later ≡ lines_of_all (drop i texts) ++ after =
-    lines_of_all-next texts i c.text-item.result (lines_of c.lines.result) after below is c.lines.ensures.value in
-    room_for_made making.changes.cuts (drop making.done making.before.lines) (lines_of c.lines.result) later making.text
-    (subst (λ l. HasRoom making.text (to_come making l)) (sym here)
-    (room_left ready.span.keeps _ _ _ _ _ _ c.loop-text.invariant.put c.requires.may.room))
-
-pub loop-text-preserved : goal.loop-text-preserved
-loop-text-preserved g c =
-    let ready = c.args.ready.now in
-    let texts = ready.lines.items in
-    let i = c.loop-text.text-index in
-    let v = c.args._traces.now in
-    let old = c.args.texts.now.making in
-    let making = c.loop-text.texts.making in
-    let after = own_lines v.net (clone_at v.clones ready.span.c) old.changes.parts ready.span.until in
-    let later : List KeyedLine = lines_of_all (drop (i + 1) texts) ++ after in
-    let all = c.deref-text-items.ensures.value in
-    let many = ap length all in
-    let below : i < length texts = omega (arith, c.loop-text-test.true, c.loop-text.auto.text-index-end, many) in
-    let is = c.text-item.is ∙ ap (λ l. get_or l i c.text-item.result) all in
-    let here : lines_of c.lines.result ++ later ≡ lines_of_all (drop i texts) ++ after =
-    lines_of_all-next texts i c.text-item.result (lines_of c.lines.result) after below is c.lines.ensures.value in
-    let now = c.put_made.new.self in
+pub loop-made-init : goal.loop-made-init
+loop-made-init g c =
+    let v = c.args.traces.now in
+    let p = c.place_in-place in
+    let few = counted_seen c.traces.inside.world.now c.traces.invariant.may_trace.over v _ c.traces.view_is
+    c.args.rest.c p.result p.ensures.in_range p.ensures.same in
+    let rise = trace_rises v.net c.len-clones.ensures.valid (clone_at v.clones c.args.rest.c) few in
     record {
-      put = put_on ready.span.keeps _ _ _ _ _ _ _ _ _ c.loop-text.invariant.put
-          (subst (λ l. ArePutTo ready.span.keeps (to_come making l) (to_come now later) making.text now.text
-          (g.O.Sink.view c.loop-text.out) (g.O.Sink.view c.put_made.new.out)) here (c.in-Ok.ensures.ok later));
-      source = HasSameSource-trans old making now c.loop-text.invariant.source c.in-Ok.ensures.source;
-      within = c.in-Ok.ensures.within;
-      can = record { walk = c.loop-text.invariant.can.walk; piece = c.loop-text.invariant.can.piece };
+      word = c.args.rest.from;
+      left = c.requires.ready;
+      put = put_to_none v c.args.rest rise c.args.texts.now (g.O.Sink.view c.args.out.now) c.requires.may;
     }
 
-pub returns-in-Err : goal.returns-in-Err
-returns-in-Err g c =
+pub returns-in-Err-clause-err : goal.returns-in-Err-clause-err
+returns-in-Err-clause-err g c =
+    let v = c.args.traces.now in
+    let p = c.place_in-place in
+    let few = counted_seen c.traces.inside.world.now c.traces.invariant.may_trace.over v _ c.traces.view_is
+    c.args.rest.c p.result p.ensures.in_range p.ensures.same in
+    let rise = trace_rises v.net c.len-clones.ensures.valid (clone_at v.clones c.args.rest.c) few in
     let ready = c.args.ready.now in
-    let texts = ready.lines.items in
-    let i = c.loop-text.text-index in
-    let v = c.args._traces.now in
-    let old = c.args.texts.now.making in
-    let making = c.loop-text.texts.making in
-    let after = own_lines v.net (clone_at v.clones ready.span.c) old.changes.parts ready.span.until in
-    let later : List KeyedLine = lines_of_all (drop (i + 1) texts) ++ after in
-    let all = c.deref-text-items.ensures.value in
+    let parts = ready.parts.items in
+    let i = c.loop-made.made-index in
+    let all = c.deref-made-items.ensures.value in
     let many = ap length all in
-    let below : i < length texts = omega (arith, c.loop-text-test.true, c.loop-text.auto.text-index-end, many) in
-    let is = c.text-item.is ∙ ap (λ l. get_or l i c.text-item.result) all in
-    let here : lines_of c.lines.result ++ later ≡ lines_of_all (drop i texts) ++ after =
-    lines_of_all-next texts i c.text-item.result (lines_of c.lines.result) after below is c.lines.ensures.value in
+    let below : i < length parts = omega (arith, c.loop-made-test.true, c.loop-made.auto.made-index-end, many) in
+    let is = c.made-item.is ∙ ap (λ l. get_or l i c.made-item.result) all in
+    let made = c.made-item.result in
+    let h = c.loop-made.invariant in
+    let left = parts_next v c.args.rest.c h.word parts ready.until i made below is h.left in
+    let cut = c.in-Err.ensures in
+    part_cut v c.args.rest rise h.word c.loop-made.kept_until c.loop-made.texts (g.O.Sink.view c.args.out.now)
+    (g.O.Sink.view c.loop-made.out) h.put c.deref.result.now made.until (g.O.Sink.view c.put_part.new.self) left.0
+    (c.deref.ensures.value ∙ left.1)
+    (record { bytes = cut.part; failed = cut.cause; later = cut.later; counted = cut.counted })
+
+pub loop-made-preserved : goal.loop-made-preserved
+loop-made-preserved g c =
+    let v = c.args.traces.now in
+    let p = c.place_in-place in
+    let few = counted_seen c.traces.inside.world.now c.traces.invariant.may_trace.over v _ c.traces.view_is
+    c.args.rest.c p.result p.ensures.in_range p.ensures.same in
+    let rise = trace_rises v.net c.len-clones.ensures.valid (clone_at v.clones c.args.rest.c) few in
+    let ready = c.args.ready.now in
+    let parts = ready.parts.items in
+    let i = c.loop-made.made-index in
+    let all = c.deref-made-items.ensures.value in
+    let many = ap length all in
+    let below : i < length parts = omega (arith, c.loop-made-test.true, c.loop-made.auto.made-index-end, many) in
+    let is = c.made-item.is ∙ ap (λ l. get_or l i c.made-item.result) all in
+    let made = c.made-item.result in
+    let h = c.loop-made.invariant in
+    let left = parts_next v c.args.rest.c h.word parts ready.until i made below is h.left in
+    let put = c.in-Ok.ensures in
+    let keep = c.keep_part-kept_until.ensures in
+    let can = h.put.may.can in
     record {
-      put = record {
-        ok = tt;
-        err = put_cut ready.span.keeps _ _ _ _ _ _ _ c.loop-text.invariant.put
-            (subst (λ l. IsCutOff (text_of (to_come making l)) (g.O.Sink.view c.loop-text.out)
-            (g.O.Sink.view c.put_made.new.out)) here (c.in-Err.ensures.err later));
-        can = record { walk = c.loop-text.invariant.can.walk; piece = c.loop-text.invariant.can.piece };
-      };
+      word = made.until;
+      left = left.2;
+      put = put_to_next v c.args.rest rise h.word c.loop-made.kept_until c.loop-made.texts
+          (g.O.Sink.view c.args.out.now) (g.O.Sink.view c.loop-made.out) h.put made.bytes.items made.until
+          c.keep_part-kept_until.result c.keep_part-kept_until.new.texts left.0 left.1 keep.either keep.kept keep.none
+          (record {
+            most = ap (λ (m : CursorView). m.most) keep.merge ∙ can.most;
+            page = let a = ap length keep.page in let b = can.page in omega (arith, a, b);
+          })
+          (g.O.Sink.view c.put_part.new.self)
+          (subst (λ k. IsPartPut k (g.O.Sink.view c.loop-made.out) (g.O.Sink.view c.put_part.new.self))
+          c.deref.ensures.value (record { bytes = put.ok; later = put.later; same = put.same }));
     }
+
+pub returns-clause-ok : goal.returns-clause-ok
+returns-clause-ok g c =
+    let v = c.args.traces.now in
+    let ready = c.args.ready.now in
+    let h = c.loop-made.invariant in
+    let many = ap length c.deref-made-items.ensures.value in
+    let none = drop_end c.loop-made.made-index ready.parts.items
+    (omega (arith, c.loop-made-test.false, many)) in
+    let end : h.word ≡ ready.until =
+    subst (λ k. AreParts v c.args.rest.c h.word k ready.until) none h.left in
+    subst (λ k. IsPutUpTo v c.args.rest k c.loop-made.kept_until c.loop-made.texts (g.O.Sink.view c.args.out.now)
+    (g.O.Sink.view c.loop-made.out)) end h.put

@@ -1,8 +1,8 @@
-use Rattle.std.proofs.Common.{◌<◌, arith, refl, sym, ◌∙◌, length}
+use Rattle.std.proofs.Common.{◌<◌, arith, refl, sym, length, subst, []}
 use Rattle.sim_outer.proofs.Appending.{appended_nothing}
 use Rattle.sim_outer.proofs.Counts.{none_counted, counted_more}
 use Rattle.trace_writer.proofs.AllTexts.{all_cut, put_whole}
-use Rattle.trace_writer.proofs.Joined.{keyed_lines-nil}
+use Rattle.trace_writer.specs.Kept.{AreMarksOf}
 use Rattle.trace_writer.proofs.putting.put_all.Goals as goal
 
 -- ---- the first text
@@ -11,8 +11,7 @@ pub loop-c-init : goal.loop-c-init
 loop-c-init g c = record {
   puts_for = c.requires.puts_for;
   can = c.requires.ready.can;
-  fits = c.requires.ready.fits;
-  before = λ more. c.requires.ready.empty ∙ sym (keyed_lines-nil c.args.traces.now.net);
+  before = subst (AreMarksOf c.args.traces.now.net [] c.args.texts.now.text.items) (sym c.requires.ready.empty) tt;
   appended = appended_nothing (g.O.Sink.view c.args.out.now).bytes;
   later = omega arith;
   counted = none_counted (g.O.Sink.view c.args.out.now).calls;
@@ -26,7 +25,7 @@ put_clone_text-requires g c =
     let there : c.loop-c.c < length cs =
     omega (arith, c.loop-c-test.true, c.loop-c.auto.c-end, c.len-c-end.ensures.value) in
     let h = c.loop-c.invariant in
-    λ κs. ((refl, tt), (h.puts_for, (there, (h.can, (h.fits, h.before there)))))
+    λ κs. ((refl, tt), (h.puts_for, (there, (h.can, h.before))))
 
 pub returns-in-Err : goal.returns-in-Err
 returns-in-Err g c =
@@ -66,7 +65,6 @@ loop-c-preserved g c =
     record {
       puts_for = put.puts_for;
       can = put.can;
-      fits = put.fits;
       before = put.before;
       appended = put_whole net cs c.loop-c.c there _ _ _ h.appended put.ok.bytes;
       later = omega (arith, h.later, more_faults);

@@ -1,17 +1,16 @@
-use Rattle.std.proofs.Common.{◌<◌, ◌≤◌, length, take}
+use Rattle.std.proofs.Common.{◌≤◌, take}
 use Rattle.std.specs.List.{flat_map}
 use Rattle.sim_outer.specs.Bytes.{IsAppended}
 use Rattle.sim_outer.specs.Counts.{AreCounted}
 use Rattle.trace_report.specs.Outputs.{clone_text}
-use Rattle.trace_writer.specs.Texts.{CanPut, FitsTexts, HasTraceBefore}
+use Rattle.trace_writer.specs.Kept.{CanPut, HasBeginning}
 use Rattle.trace_writer.proofs.putting.put_all.Given as goal
 
 abbrev pub invariant-loop-c : goal.invariant-loop-c
 invariant-loop-c g l = record {
-  puts_for : g.P.SpanPutter.puts_for l.putter l.traces;
+  puts_for : g.P.RestPutter.puts_for l.putter l.traces;
   can : CanPut l.traces.net l.texts;
-  fits : FitsTexts l.traces.net l.traces.clones l.texts.making;
-  before : l.c < length l.traces.clones → HasTraceBefore l.traces.net l.traces.clones l.c l.texts.making;
+  before : HasBeginning l.traces.net l.traces.clones l.c l.texts;
   appended : IsAppended (g.O.Sink.view l.fn.out).bytes
       (flat_map (clone_text l.traces.net) (take l.c l.traces.clones))
       (g.O.Sink.view l.out).bytes;

@@ -1,7 +1,0 @@
-pub mod Lines
-pub mod LinesOf
-pub mod Marks
-pub mod Remade
-pub mod Texts
-pub mod Runs
-pub mod Examples

@@ -1,2 +1,0 @@
-pub mod Remakes
-pub mod Examples

@@ -1,3 +1,0 @@
-pub mod Over
-pub mod KeyedEntries
-pub mod Changes
