@@ -52,6 +52,11 @@ impl<'g, W: Work + Send + Drop, G: Gate> Crew<'g, W, G> {
         Ok((crew, members))
     }
 
+    /// A crew without members, for work in the caller's thread. It allocates nothing. Its calls report out of memory.
+    pub fn single(gate: &'g G) -> Crew<'g, W, G> {
+        Crew { gate, idle: None }
+    }
+
     /// The bell of this crew. The code that starts the members calls its `end`, since they wait for it.
     ///
     /// # Errors

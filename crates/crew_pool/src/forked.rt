@@ -13,7 +13,6 @@ use crate::workers::Workers;
 use sim_base::{NoMemory, Steps};
 use std::alloc::Global;
 use std::marker::Brand;
-use std::sync::Wait;
 use std::sync::ledger::{Blank, Ledger};
 use std::thread;
 use std::thread::Threads;
@@ -36,8 +35,7 @@ pub struct Slot<X, Y> {
 }
 
 /// Runs the task of one slot.
-fn run_slot<W: Work, G: Gate, R: Wait>(
-    rt: &R,
+fn run_slot<W: Work, G: Gate>(
     alloc: Global,
     work: &W,
     gate: &G,
@@ -52,7 +50,7 @@ fn run_slot<W: Work, G: Gate, R: Wait>(
     let Some(item) = slot.item.take() else {
         return;
     };
-    gate.before(rt, worker, i);
+    gate.before(worker, i);
     if let Ok(out) = run_with_own_counter::<W, Brand>(alloc, work, i, item, Blank::new(1)) {
         slot.answer = Some(out);
     }
@@ -90,7 +88,7 @@ fn take_answers<X: Drop, Y: Drop>(alloc: Global, slots: Vec<Slot<X, Y>>) -> Resu
 }
 
 /// Runs the tasks of all slots.
-fn run_slots<W: Work, G: Gate, R: Threads + Wait + Sync>(
+fn run_slots<W: Work, G: Gate + Sync, R: Threads + Sync>(
     rt: &R,
     alloc: Global,
     work: &W,
@@ -112,7 +110,7 @@ fn run_slots<W: Work, G: Gate, R: Threads + Wait + Sync>(
         &|i: usize, slot: &mut Slot<W::In, W::Out>|
             requires { (i < MAX_TASKS) × (1 ≤ size) × IfSome slot.now.item (λ x. W.ready work.now i x) }
             ensures { SlotAnswers (W.answers work.entry.now) i slot.entry.now slot.exit.now }
-        { run_slot(rt, alloc, work, gate, (i / size) as u32, i as u32, slot) },
+        { run_slot(alloc, work, gate, (i / size) as u32, i as u32, slot) },
     );
 }
 
@@ -124,7 +122,7 @@ impl Forked {
     /// # Errors
     ///
     /// [`NoMemory`], after every worker has ended: the items are lost, and nothing is said about the steps.
-    pub fn all<W: Work, G: Gate, L: Ledger, R: Threads + Wait + Sync>(
+    pub fn all<W: Work, G: Gate + Sync, L: Ledger, R: Threads + Sync>(
         &self,
         rt: &R,
         alloc: Global,

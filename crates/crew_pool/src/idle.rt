@@ -164,7 +164,7 @@ impl<W: Work + Send + Drop> IdleCrew<W> {
             mut deque,
         } = self;
         let tasks = items.len();
-        let most = if work.is_small() && !gate.shares_small_work() {
+        let most = if work.is_small() {
             0
         } else {
             tasks.saturating_sub(1)

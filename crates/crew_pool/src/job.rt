@@ -11,7 +11,7 @@ use crate::work::Work;
 use mailbox::Errand;
 use sim_base::NoMemory;
 use std::alloc::Global;
-use std::sync::{Arc, Wait};
+use std::sync::Arc;
 
 /// The answers of the tasks that one worker took, each next to its task's number, or out of memory.
 pub type NumberedAnswers<W> = Result<Vec<(u32, <W as Work>::Out)>, NoMemory>;
@@ -64,17 +64,11 @@ impl<W: Work + Drop> Job<W> {
     }
 
     /// Steals tasks and runs them. The work and the handle on the deque are dropped before the return.
-    pub(crate) fn run<G: Gate, R: Wait>(
-        self,
-        rt: &R,
-        alloc: Global,
-        gate: &G,
-        worker: u32,
-    ) -> End<W>
+    pub(crate) fn run<G: Gate>(self, alloc: Global, gate: &G, worker: u32) -> End<W>
         ensures end { IsEnd (AnswersTo (W.answers self.work) self.items) self.items self.deque result }
     {
         let Job { work, thief, seat } = self;
-        steal_all(rt, alloc, &*work, gate, worker, &thief, seat)
+        steal_all(alloc, &*work, gate, worker, &thief, seat)
     }
 
     /// Ends the job before anything is stolen.

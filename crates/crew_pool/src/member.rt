@@ -77,7 +77,7 @@ pub fn serve<W: Work + Send + Drop, G: Gate, R: Wait>(
         }
         if jobs.has_task() {
             if let Some(job) = jobs.take() {
-                let end = job.run(rt, alloc, gate, number);
+                let end = job.run(alloc, gate, number);
                 jobs.answer(end);
             }
             looks = 0;
@@ -94,7 +94,7 @@ pub fn serve<W: Work + Send + Drop, G: Gate, R: Wait>(
 /// Runs the members, each in a thread of its own, until the bell says that no more calls come. If no thread can be
 /// started, they run one after the other. In a `thread::join` with the caller, this must be the first closure.
 /// `thread::join` runs it in a new thread; if no thread can be started, it runs after the second closure.
-pub fn serve_all<W: Work + Send + Drop, G: Gate, R: Threads + Wait + Sync>(
+pub fn serve_all<W: Work + Send + Drop, G: Gate + Sync, R: Threads + Wait + Sync>(
     rt: &R,
     alloc: Global,
     bell: &Bell,

@@ -62,15 +62,14 @@ pub(crate) fn pop_all<W: Work, G: Gate, R: Wait>(
         let Some((i, item)) = owner.pop_as::<PopTask>() else {
             break;
         };
-        gate.before(rt, 0, i);
+        gate.before(0, i);
         run_task(alloc, work, i, item, outs)?;
     }
     Ok(())
 }
 
 /// Steals tasks and runs them until the deque is empty, or [`MAX_TRIES`] tries were made.
-fn steal_tasks<W: Work, G: Gate, R: Wait>(
-    rt: &R,
+fn steal_tasks<W: Work, G: Gate>(
     alloc: Global,
     work: &W,
     gate: &G,
@@ -92,15 +91,14 @@ fn steal_tasks<W: Work, G: Gate, R: Wait>(
             Steal::Empty => break,
             Steal::Retry => continue,
         };
-        gate.before(rt, worker, i);
+        gate.before(worker, i);
         run_task(alloc, work, i, item, outs)?;
     }
     Ok(())
 }
 
 /// Steals tasks and runs them, and returns the seat together with the answers.
-pub(crate) fn steal_all<W: Work, G: Gate, R: Wait>(
-    rt: &R,
+pub(crate) fn steal_all<W: Work, G: Gate>(
     alloc: Global,
     work: &W,
     gate: &G,
@@ -115,7 +113,7 @@ pub(crate) fn steal_all<W: Work, G: Gate, R: Wait>(
 {
     let mut seat = seat;
     let mut outs = Vec::new(alloc);
-    match steal_tasks(rt, alloc, work, gate, worker, thief, &mut seat, &mut outs) {
+    match steal_tasks(alloc, work, gate, worker, thief, &mut seat, &mut outs) {
         Ok(()) => (seat, Ok(outs)),
         Err(_) => (seat, Err(NoMemory)),
     }
