@@ -1,7 +1,7 @@
 -- The element at a place of a list.
-use Rattle.std.proofs.Common.{◌≡◌, ℕ, zero, suc, ◌<◌, List, [], ◌∷◌, inl, inr, arith}
-use Rattle.std.proofs.Common.{Some, refl, ap, ◌∙◌, sym, length, map, get_or, option_map, slice_get}
-use Rattle.std.proofs.lemmas.Option.{same_Some, slice_get_cases, slice_get-get_or, slice_get-map}
+use Rattle.std.proofs.Common.{◌≡◌, ℕ, zero, suc, ◌<◌, List, inl, inr, arith}
+use Rattle.std.proofs.Common.{Some, ap, ◌∙◌, sym, length, get_or, slice_get}
+use Rattle.std.proofs.lemmas.Option.{same_Some, slice_get_cases, slice_get-get_or}
 
 -- ---- slice_get and get_or
 

@@ -1,5 +1,5 @@
 -- The tasks of a window and their results, place by place.
-use Rattle.std.proofs.Common.{ℕ, List, [], arith, get_or}
+use Rattle.std.proofs.Common.{ℕ, List, arith, get_or}
 use Rattle.std.proofs.Common.{subst, sym}
 use Rattle.std.proofs.lemmas.Option.{slice_get_within, get_or_from_slice_get}
 use Rattle.net_model.specs.Net.{Net}

@@ -14,11 +14,9 @@
 //!
 //! ```text
 //! buffers.bound_all(procs.len(), 7)?;
-//! let stepped = step_in_place(alloc, &model, ends.ends(), procs, buffers, &mut steps)?;
-//! let mut procs = stepped.procs;                                                   // if stepped.over is None
-//! deliver_all(&mut procs, stepped.buffers.sent.as_slice())?;
-//!
-//! let stepped = step_by_crew(&rt, alloc, &mut crew, work, procs, buffers, &mut steps)?;      // the same by workers
+//! let mut stepper = Alone::new(&gate);                     // or WithCrew::new(&rt, crew): the same by workers
+//! let stepped = stepper.step(alloc, &model, &ends, &mut procs, &mut buffers, &mut steps)?;
+//! // if stepped.over is None, each station is at 7 and has what the others sent to it
 //! ```
 //!
 //! Cost: in place, a step checks one time of each station, and steps the copies of those with something due. By a crew,
@@ -28,7 +26,7 @@
 //! so they are allocated once.
 //!
 //! The promise: **each station is stepped to its bound as its clones alone would be, in place or by a crew**. The
-//! contracts of [`step_in_place`] and [`step_by_crew`] make the same statement. For each clone of a copy it fixes what
+//! contract of [`Stepper::step`] is the same for [`Alone`] and [`WithCrew`]. For each clone of a copy it fixes what
 //! the clone's own run handles and sends up to the bound. It also fixes the number of messages handled, and the first
 //! station and clone whose log would get longer than the limit. Delivery gives each station exactly the messages for
 //! it, in the order of the senders. Contracts describe a station together with its mail, whether or not its copies have
@@ -43,6 +41,7 @@ pub mod shared_lists;
 pub mod shared_model;
 pub mod station_slot;
 pub mod station_step;
+pub mod stepper;
 pub mod stepping;
 pub mod tasks;
 pub mod windows;
@@ -55,6 +54,7 @@ pub use shared_lists::SharedLists;
 pub use shared_model::share_of;
 pub use station_slot::StationSlot;
 pub use station_step::StationStep;
-pub use stepping::{Buffers, WindowResult, pass_gate, step_by_crew, step_in_place};
+pub use stepper::{Alone, LARGE_STEP, Stepper, WithCrew};
+pub use stepping::{Buffers, WindowResult};
 pub use tasks::StationTask;
 pub use windows::Window;

@@ -24,17 +24,13 @@ use net_model::Model;
 use phys_proc::{CloneEnds, Gain};
 use sim_base::{Msg, NoMemory, Steps};
 use std::alloc::Global;
+use std::mem;
 use std::sync::ledger::Ledger;
 use std::sync::{Arc, Wait};
 
-/// All stations at their bounds, and what they sent to each other.
-#[derive(Drop)]
+/// What a step of all stations returns.
+#[derive(Clone, Copy, Debug)]
 pub struct WindowResult {
-    /// The copies of each station at its bound, in the order of the stations. They have no meaning if some clone is
-    /// over the limit.
-    pub procs: Vec<StationSlot>,
-    /// The messages that the stations sent to others, and the unchanged bounds.
-    pub buffers: Buffers,
     /// The index of the first station with a clone over the limit, from 0, and the first such clone there.
     pub over: Option<(u32, u32)>,
     /// The number of messages handled: a hint.
@@ -136,53 +132,42 @@ fn step_place<L: Ledger>(
     Ok(gain)
 }
 
-/// Calls the gate for each of the stations, as worker 0.
-pub fn pass_gate<G: Gate, R: Wait>(rt: &R, gate: &G, stations: u32) {
-    for i in 0..stations {
-        gate.before(rt, 0, i);
-    }
-}
-
-/// Steps all stations in place, one after the other, each to its bound, in the caller's thread. Stations with nothing
-/// due are skipped.
+/// Steps all stations in place, one after the other, each to its bound, in the caller's thread. It calls the gate
+/// before each station, as worker 0, and then skips those with nothing due. What the stations send is in the buffers
+/// then, and is not delivered. The stations have no meaning if some clone is over the limit.
 ///
 /// # Errors
 ///
-/// Out of memory: all stations are dropped.
-pub fn step_in_place<L: Ledger>(
+/// Out of memory: the stations have no meaning.
+pub(crate) fn step_in_place<G: Gate, L: Ledger>(
     alloc: Global,
+    gate: &G,
     model: &Model,
     ends: &CloneEnds,
-    olds: Vec<StationSlot>,
-    buffers: Buffers,
+    procs: &mut Vec<StationSlot>,
+    buffers: &mut Buffers,
     steps: &mut Steps<L>,
 ) -> Result<WindowResult, NoMemory>
-    requires stations { AreStations model.now olds.items }
-    requires bounds { AreBounds model.now olds.items buffers.bounds.items }
+    requires stations { AreStations model.now procs.old.items }
+    requires bounds { AreBounds model.now procs.old.items buffers.old.bounds.items }
     ensures stepped { IfOk result (λ s. AllStepped model.now (ends_in model.now.horizon ends.now)
-        (bound_of buffers.bounds.items) olds.items s.procs.items s.buffers.sent.items s.over steps.old steps.new) }
+        (bound_of buffers.old.bounds.items) procs.old.items procs.new.items buffers.new.sent.items s.over
+        steps.old steps.new) }
     ensures at_most { IfOk result (λ s. IsPlaceOfOver s.over) }
-    ensures bounds { IfOk result (λ s. s.buffers.bounds ≡ buffers.bounds) }
 {
-    let mut procs = olds;
-    let mut buffers = buffers;
     buffers.sent.clear();
     let mut over = None;
     let mut handled: u64 = 0;
     for i in 0..procs.len() {
+        gate.before(0, i as u32);
         if procs[i].is_idle(buffers.bounds[i]) {
             continue;
         }
-        let gain = step_place(alloc, model, ends, &mut procs, i, &mut buffers, steps)?;
+        let gain = step_place(alloc, model, ends, procs, i, buffers, steps)?;
         over = first_so_far(over, i as u32, gain.over);
         handled = handled.saturating_add(gain.handled);
     }
-    Ok(WindowResult {
-        procs,
-        buffers,
-        over,
-        handled,
-    })
+    Ok(WindowResult { over, handled })
 }
 
 // The copies of all stations, and the list that each sent. The stations keep these other lists to reuse their memory.
@@ -236,31 +221,26 @@ fn first_over(flows: &[StationStep]) -> Option<(u32, u32)>
     None
 }
 
-// The result of a window, from the results of all tasks: the stations share what they sent as their mail.
+// Takes the copies of all stations from the results of their tasks. The stations share what they sent as their mail.
 fn gather_flows(
     alloc: Global,
     flows: Vec<StationStep>,
-    buffers: Buffers,
+    procs: &mut Vec<StationSlot>,
+    buffers: &mut Buffers,
 ) -> Result<(WindowResult, Arc<Mail>), NoMemory>
     requires at_most { length flows.items ≤ MAX_STATIONS }
-    ensures procs { IfOk result (λ s. s.0.procs.items ≡ map (λ f. f.done) flows.items) }
+    ensures procs { OnOk result (procs.new.items ≡ map (λ f. f.done) flows.items) }
     ensures sent { IfOk result (λ s. s.1.value ≡ all_sent flows.items) }
     ensures over { IfOk result (λ s. FirstOver flows.items s.0.over) }
     ensures at_most { IfOk result (λ s. IsPlaceOfOver s.0.over) }
 {
     let over = first_over(flows.as_slice());
     let handled = handled_in(flows.as_slice());
-    let mut buffers = buffers;
     let rooms = Mail::lists_of(alloc, buffers.last.take());
-    let (procs, lists) = take_apart(alloc, flows, rooms)?;
+    let (stepped, lists) = take_apart(alloc, flows, rooms)?;
+    *procs = stepped;
     let mail = Mail::shared(alloc, lists)?;
-    let result = WindowResult {
-        procs,
-        buffers,
-        over,
-        handled,
-    };
-    Ok((result, mail))
+    Ok((WindowResult { over, handled }, mail))
 }
 
 // Runs the tasks of all stations by the crew.
@@ -297,41 +277,43 @@ fn post_all(procs: &mut Vec<StationSlot>, mail: &Arc<Mail>) -> Result<(), NoMemo
 }
 
 /// Steps all stations by the crew, each to its bound. Each station is a task, even if nothing is due there. If no clone
-/// is over the limit, each station gets what the others sent to it, and takes it at its next step.
+/// is over the limit, each station gets what the others sent to it, and takes it at its next step. Otherwise the
+/// stations have no meaning.
 ///
 /// # Errors
 ///
-/// Out of memory: all stations are dropped.
-pub fn step_by_crew<G: Gate, L: Ledger, R: Wait>(
+/// Out of memory: the stations have no meaning.
+pub(crate) fn step_by_crew<G: Gate, L: Ledger, R: Wait>(
     rt: &R,
     alloc: Global,
     crew: &mut Crew<'_, Window, G>,
     work: Arc<Window>,
-    procs: Vec<StationSlot>,
-    buffers: Buffers,
+    procs: &mut Vec<StationSlot>,
+    buffers: &mut Buffers,
     steps: &mut Steps<L>,
 ) -> Result<WindowResult, NoMemory>
-    requires stations { AreStations work.value.net procs.items }
-    requires bounds { AreBounds work.value.net procs.items buffers.bounds.items }
+    requires stations { AreStations work.value.net procs.old.items }
+    requires bounds { AreBounds work.value.net procs.old.items buffers.old.bounds.items }
     ensures stepped { IfOk result (λ s. AllSteppedAndGiven work.value.net
-        (ends_in work.value.net.horizon work.value.ends) (bound_of buffers.bounds.items) procs.items s.procs.items
-        s.over steps.old steps.new) }
+        (ends_in work.value.net.horizon work.value.ends) (bound_of buffers.old.bounds.items) procs.old.items
+        procs.new.items s.over steps.old steps.new) }
     ensures at_most { IfOk result (λ s. IsPlaceOfOver s.over) }
 {
+    let olds = mem::replace(procs, Vec::new(alloc));
     let flows = run_tasks(
         rt,
         alloc,
         crew,
         work,
-        procs,
+        olds,
         buffers.bounds.as_slice(),
         steps,
     )?;
-    let (mut stepped, mail) = gather_flows(alloc, flows, buffers)?;
+    let (stepped, mail) = gather_flows(alloc, flows, procs, buffers)?;
     if let Some(_) = stepped.over {
         return Ok(stepped);
     }
-    post_all(&mut stepped.procs, &mail)?;
-    stepped.buffers.last = Some(mail);
+    post_all(procs, &mail)?;
+    buffers.last = Some(mail);
     Ok(stepped)
 }

@@ -7,5 +7,5 @@ use Rattle.station_steps.proofs.stepping.gather_flows.Goals as goal
 
 pub returns-clause-sent : goal.returns-clause-sent
 returns-clause-sent c = c.in_ok-mail.ensures.value
-    ∙ ap (flat_map (λ (l : SentView). l.items)) c.in_ok-procs.ensures.sent
+    ∙ ap (flat_map (λ (l : SentView). l.items)) c.in_ok-stepped.ensures.sent
     ∙ flat_map-map (λ (l : SentView). l.items) (λ (f : StationStep). f.sent) c.args.flows.items

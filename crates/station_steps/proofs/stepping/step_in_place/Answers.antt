@@ -16,8 +16,8 @@ pub loop-i-init : goal.loop-i-init
 loop-i-init g c =
     let net = c.args.model.now in
     let ends = ends_in net.horizon c.args.ends.now in
-    let bounds = bound_of c.args.buffers.bounds.items in
-    let olds = c.args.olds.items in
+    let bounds = bound_of c.args.buffers.now.bounds.items in
+    let olds = c.args.procs.now.items in
     record {
       stepped = subst (λ l. SteppedTo net ends bounds 0 olds olds l None c.args.steps.now c.args.steps.now)
           (sym {A = MarkedMessages} c.clear.ensures.items) (SteppedTo-none net ends bounds olds c.args.steps.now);
@@ -31,13 +31,13 @@ pub loop-i-preserved-then-is_idle : goal.loop-i-preserved-then-is_idle
 loop-i-preserved-then-is_idle g c =
     let net = c.args.model.now in
     let ends = ends_in net.horizon c.args.ends.now in
-    let bounds = c.args.buffers.bounds.items in
-    let olds = c.args.olds.items in
+    let bounds = c.args.buffers.now.bounds.items in
+    let olds = c.args.procs.now.items in
     let far = c.loop-i.invariant.stepped in
     let same = far.long in
     let many = c.requires.bounds.count in
     let l : c.loop-i.i < length olds =
-    omega (arith, c.loop-i-test.true, c.loop-i.auto.i-end, c.len-i-end.ensures, c.args.olds.ok.0) in
+    omega (arith, c.loop-i-test.true, c.loop-i.auto.i-end, c.len-i-end.ensures, c.args.procs.now.ok.0) in
     let p = c.index.result.now in
     let got = got_at c.loop-i.procs.items c.loop-i.i p (omega (arith, l, same)) c.index.ensures in
     let kept : c.loop-i.buffers.bounds.items ≡ bounds = ap (λ v. v.items) c.loop-i.invariant.bounds in
@@ -67,11 +67,11 @@ pub loop-i-preserved : goal.loop-i-preserved
 loop-i-preserved g c =
     let net = c.args.model.now in
     let ends = ends_in net.horizon c.args.ends.now in
-    let bounds = c.args.buffers.bounds.items in
-    let olds = c.args.olds.items in
+    let bounds = c.args.buffers.now.bounds.items in
+    let olds = c.args.procs.now.items in
     let far = c.loop-i.invariant.stepped in
     let l : c.loop-i.i < length olds =
-    omega (arith, c.loop-i-test.true, c.loop-i.auto.i-end, c.len-i-end.ensures, c.args.olds.ok.0) in
+    omega (arith, c.loop-i-test.true, c.loop-i.auto.i-end, c.len-i-end.ensures, c.args.procs.now.ok.0) in
     let gain = c.in_ok-gain.gain in
     let kept : c.loop-i.buffers.bounds.items ≡ bounds = ap (λ v. v.items) c.loop-i.invariant.bounds in
     let stepped = subst (λ (xs : List ℕ). SteppedAt net ends (bound_of xs c.loop-i.i) c.loop-i.i c.loop-i.procs.items
@@ -92,8 +92,8 @@ loop-i-preserved g c =
 pub returns-clause-stepped : goal.returns-clause-stepped
 returns-clause-stepped g c =
     let net = c.args.model.now in
-    let olds = c.args.olds.items in
-    SteppedTo-all net (ends_in net.horizon c.args.ends.now) (bound_of c.args.buffers.bounds.items) olds c.loop-i.i
+    let olds = c.args.procs.now.items in
+    SteppedTo-all net (ends_in net.horizon c.args.ends.now) (bound_of c.args.buffers.now.bounds.items) olds c.loop-i.i
     c.loop-i.procs.items c.loop-i.buffers.sent.items c.loop-i.over c.args.steps.now c.loop-i.steps
-    (omega (arith, c.loop-i-test.false, c.loop-i.auto.i-end, c.len-i-end.ensures, c.args.olds.ok.0))
+    (omega (arith, c.loop-i-test.false, c.loop-i.auto.i-end, c.len-i-end.ensures, c.args.procs.now.ok.0))
     c.loop-i.invariant.stepped
