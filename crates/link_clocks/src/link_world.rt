@@ -14,10 +14,10 @@ use decision_book::Call;
 use net_model::Model;
 use sim_base::{NoMemory, Steps};
 use station_steps::{
-    Buffers, SharedEnds, SharedLists, StationSlot, Window, WindowResult, deliver_all, pass_gate,
-    step_by_crew, step_in_place,
+    Alone, Buffers, SharedEnds, SharedLists, StationSlot, Stepper, Window, WithCrew,
 };
 use std::alloc::Global;
+use std::mem;
 use std::sync::ledger::Ledger;
 use std::sync::{Arc, Wait};
 use world_core::{World, WorldFault, WorldParts, beyond_limit};
@@ -137,15 +137,16 @@ impl LinkWorld {
         false
     }
 
-    /// Handles the messages before its next clock at each station, separately. Then delivers to each station what the
-    /// others sent to it. All work is done in the caller's thread.
+    /// Handles the messages before its next clock at each station, separately, by any stepper. Then gives each station
+    /// what the others sent to it.
     ///
     /// # Errors
     ///
     /// The world is dropped if out of memory, or if a log would get longer than the limit.
-    pub fn round_in_place<L: Ledger>(
+    pub fn advance<E: Stepper, L: Ledger>(
         self,
         alloc: Global,
+        stepper: &mut E,
         steps: &mut Steps<L>,
     ) -> Result<LinkWorld, WorldFault>
         requires going { ¬ (AreAllDone self.net self.rounds) }
@@ -162,22 +163,15 @@ impl LinkWorld {
             model,
             lists,
             ends,
-            procs,
+            mut procs,
             clocks,
             mut buffers,
         } = self;
         bound_by(&mut buffers, clocks.next.as_slice())?;
-        let stepped = step_in_place(alloc, &model, ends.ends(), procs, buffers, steps)?;
-        let WindowResult {
-            mut procs,
-            buffers,
-            over,
-            handled: _,
-        } = stepped;
-        if let Some((place, who)) = over {
+        let stepped = stepper.step(alloc, &model, &ends, &mut procs, &mut buffers, steps)?;
+        if let Some((place, who)) = stepped.over {
             return Err(beyond_limit(&model, place, who));
         }
-        deliver_all(&mut procs, buffers.sent.as_slice())?;
         let clocks = clocks.after_round(&model);
         Ok(LinkWorld {
             model,
@@ -189,56 +183,34 @@ impl LinkWorld {
         })
     }
 
-    // The same by the crew. A station takes its messages at its next step.
-    fn round_by_crew<G: Gate, L: Ledger, R: Wait>(
+    /// The same in the caller's thread, which calls the gate before each station.
+    ///
+    /// # Errors
+    ///
+    /// The world is dropped if out of memory, or if a log would get longer than the limit.
+    pub fn round_in_place<G: Gate, L: Ledger>(
         self,
-        rt: &R,
         alloc: Global,
-        crew: &mut Crew<'_, Window, G>,
+        gate: &G,
         steps: &mut Steps<L>,
     ) -> Result<LinkWorld, WorldFault>
         requires going { ¬ (AreAllDone self.net self.rounds) }
+        // the result: the same world after one more round
         ensures value { IfOk result (λ w. w ≡ record self { rounds = suc self.rounds }) }
+        // the steps: the messages that the stations handle, each once for all clones of a copy
         ensures steps { IfOk result (λ w. steps.new + total_after self.net self.clones self.rounds
             ≡ steps.old + total_after self.net self.clones (suc self.rounds)) }
+        // no log is beyond the limit, or the fault names the first that is
         ensures length_max { IfOk result (λ w. NoneBeyondAfter self.net self.clones (suc self.rounds)) }
         ensures fault { IfErr result (λ e. IsRoundFault self.net self.clones self.rounds steps.old steps.new e) }
     {
-        let LinkWorld {
-            model,
-            lists,
-            ends,
-            procs,
-            clocks,
-            mut buffers,
-        } = self;
-        let work = Window::shared(alloc, &model, &ends)?;
-        bound_by(&mut buffers, clocks.next.as_slice())?;
-        let stepped = step_by_crew(rt, alloc, crew, work, procs, buffers, steps)?;
-        let WindowResult {
-            procs,
-            buffers,
-            over,
-            handled: _,
-        } = stepped;
-        if let Some((place, who)) = over {
-            return Err(beyond_limit(&model, place, who));
-        }
-        let clocks = clocks.after_round(&model);
-        Ok(LinkWorld {
-            model,
-            lists,
-            ends,
-            procs,
-            clocks,
-            buffers,
-        })
+        self.advance(alloc, &mut Alone::new(gate), steps)
     }
 
     /// Handles the messages before its next clock at each station, separately. Then delivers to each station what the
     /// others sent to it. If two or more stations have something due, the crew does it: each station is a task, even if
-    /// nothing is due there. Otherwise the caller's thread steps the stations in place, after it called the gate for
-    /// each.
+    /// nothing is due there. Otherwise the caller's thread steps the stations in place. The gate is called before each
+    /// station.
     ///
     /// # Errors
     ///
@@ -260,12 +232,14 @@ impl LinkWorld {
         ensures length_max { IfOk result (λ w. NoneBeyondAfter self.net self.clones (suc self.rounds)) }
         ensures fault { IfErr result (λ e. IsRoundFault self.net self.clones self.rounds steps.old steps.new e) }
     {
-        let shares = self.wants_crew() || crew.gate().shares_small_work();
-        if crew.is_single() || !shares {
-            pass_gate(rt, crew.gate(), self.model.len());
-            return self.round_in_place(alloc, steps);
+        if crew.is_single() || !self.wants_crew() {
+            return self.round_in_place(alloc, crew.gate(), steps);
         }
-        self.round_by_crew(rt, alloc, crew, steps)
+        let gate = crew.gate();
+        let mut stepper = WithCrew::new(rt, mem::replace(crew, Crew::single(gate)));
+        let round = self.advance(alloc, &mut stepper, steps);
+        *crew = stepper.into_crew();
+        round
     }
 
     /// The world at the horizon.

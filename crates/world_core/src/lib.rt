@@ -26,14 +26,15 @@
 //! ```
 //!
 //! Cost: a window checks one time of each station, and steps the copies of those with something due. After a window of
-//! [`LARGE_WINDOW`] messages the next one goes to the crew, which needs four lists with an element for each station.
-//! Other windows run in the caller's thread. A message costs one step of its copy, whatever the number of its clones.
+//! [`station_steps::LARGE_STEP`] messages the next one goes to the crew, which needs four lists with an element for
+//! each station. Other windows run in the caller's thread. A message costs one step of its copy, whatever the number of
+//! its clones.
 //!
 //! The promise: **at every front the copies of each station represent the clones**. Each clone is in one copy, whose
 //! log, state and pending messages are those of the clone's own run. Two clones share a copy exactly if their logs are
 //! equal. This is the invariant of the type [`World`], in place and by a crew. The steps of a window count exactly the
-//! messages that all clones together handle in it, shared ones once. The contract of [`World::window_in_place`], which
-//! cannot wait, promises that it returns.
+//! messages that all clones together handle in it, shared ones once. [`World::window_in_place`] waits only if its gate
+//! does.
 #![tactic(auto)]
 
 mod looking;
@@ -45,4 +46,4 @@ pub mod world;
 
 pub use parts::WorldParts;
 pub use station_steps::Window;
-pub use world::{LARGE_WINDOW, World, WorldFault, beyond_limit};
+pub use world::{World, WorldFault, beyond_limit};

@@ -14,10 +14,10 @@ use net_model::Model;
 use phys_proc::Proc;
 use sim_base::{Lists, NoMemory, Steps};
 use station_steps::{
-    Buffers, SharedEnds, SharedLists, StationSlot, Window, WindowResult, deliver_all, pass_gate,
-    step_by_crew, step_in_place,
+    Alone, Buffers, LARGE_STEP, SharedEnds, SharedLists, StationSlot, Stepper, Window, WithCrew,
 };
 use std::alloc::Global;
+use std::mem;
 use std::sync::ledger::Ledger;
 use std::sync::{Arc, Wait};
 
@@ -34,9 +34,6 @@ pub struct World {
     // memory for the bounds of a window and for what it sends
     pub(crate) buffers: Buffers,
 }
-
-/// A window that handles at least this number of messages is large: a crew pays off for the next one.
-pub const LARGE_WINDOW: u64 = 2_000;
 
 impl std::marker::Model for World {
     ghost use Rattle.world_core.specs.Worlds.{WorldView, WorldStands};
@@ -115,7 +112,7 @@ impl World {
 
     /// Whether the last window was large, so that a crew pays off for the next one. It is a hint.
     pub fn wants_crew(&self) -> bool {
-        self.last >= LARGE_WINDOW
+        self.last >= LARGE_STEP
     }
 
     /// The time that all clones have reached.
@@ -144,15 +141,16 @@ impl World {
         self.lists.lists()
     }
 
-    /// Handles the messages before the bound at each station separately. Then delivers to each station what the others
-    /// sent to it. All work is done in the caller's thread.
+    /// Handles the messages before the bound at each station separately, by any stepper. Then gives each station what
+    /// the others sent to it.
     ///
     /// # Errors
     ///
     /// The world is dropped if out of memory, or if a log would get longer than the limit.
-    pub fn window_in_place<L: Ledger>(
+    pub fn advance<E: Stepper, L: Ledger>(
         self,
         alloc: Global,
+        stepper: &mut E,
         bound: u64,
         steps: &mut Steps<L>,
     ) -> Result<World, WorldFault>
@@ -172,86 +170,55 @@ impl World {
             lists,
             ends,
             front: _,
-            procs,
+            mut procs,
             last: _,
             mut buffers,
         } = self;
         buffers.bound_all(procs.len(), bound)?;
-        let stepped = step_in_place(alloc, &model, ends.ends(), procs, buffers, steps)?;
-        let WindowResult {
-            mut procs,
-            buffers,
-            over,
-            handled,
-        } = stepped;
-        if let Some((place, who)) = over {
+        let stepped = stepper.step(alloc, &model, &ends, &mut procs, &mut buffers, steps)?;
+        if let Some((place, who)) = stepped.over {
             return Err(beyond_limit(&model, place, who));
         }
-        deliver_all(&mut procs, buffers.sent.as_slice())?;
         Ok(World {
             model,
             lists,
             ends,
             front: bound,
             procs,
-            last: handled,
+            last: stepped.handled,
             buffers,
         })
     }
 
-    // The same by the crew. Each station is a task, even if nothing is due there. A station takes its messages at its
-    // next step; contracts describe it as if it had them before.
-    fn window_by_crew<G: Gate, L: Ledger, R: Wait>(
+    /// The same in the caller's thread, which calls the gate before each station.
+    ///
+    /// # Errors
+    ///
+    /// The world is dropped if out of memory, or if a log would get longer than the limit.
+    pub fn window_in_place<G: Gate, L: Ledger>(
         self,
-        rt: &R,
         alloc: Global,
-        crew: &mut Crew<'_, Window, G>,
+        gate: &G,
         bound: u64,
         steps: &mut Steps<L>,
     ) -> Result<World, WorldFault>
         requires above { self.front < bound }
         requires within { bound ≤ next_front self.net self.clones self.front }
+        // the result: the same world at the bound
         ensures value { IfOk result (λ w. w ≡ record self { front = bound }) }
+        // the steps: the messages that the stations handle, each once for all clones of a copy
         ensures steps { IfOk result (λ w. steps.new + total_handled self.net self.clones self.front
             ≡ steps.old + total_handled self.net self.clones bound) }
+        // no log is beyond the limit, or the fault names the first that is
         ensures length_max { IfOk result (λ w. NoneBeyond self.net self.clones bound) }
         ensures fault { IfErr result (λ e. IsFault self.net self.clones self.front bound steps.old steps.new e) }
     {
-        let World {
-            model,
-            lists,
-            ends,
-            front: _,
-            procs,
-            last: _,
-            mut buffers,
-        } = self;
-        let work = Window::shared(alloc, &model, &ends)?;
-        buffers.bound_all(procs.len(), bound)?;
-        let stepped = step_by_crew(rt, alloc, crew, work, procs, buffers, steps)?;
-        let WindowResult {
-            procs,
-            buffers,
-            over,
-            handled,
-        } = stepped;
-        if let Some((place, who)) = over {
-            return Err(beyond_limit(&model, place, who));
-        }
-        Ok(World {
-            model,
-            lists,
-            ends,
-            front: bound,
-            procs,
-            last: handled,
-            buffers,
-        })
+        self.advance(alloc, &mut Alone::new(gate), bound, steps)
     }
 
     /// Handles the messages before the bound at each station separately. Then delivers to each station what the others
     /// sent to it. If the last window was large, the crew does it: each station is a task, even if nothing is due
-    /// there. Otherwise the caller's thread steps the stations in place, after it called the gate for each.
+    /// there. Otherwise the caller's thread steps the stations in place. The gate is called before each station.
     ///
     /// # Errors
     ///
@@ -275,11 +242,13 @@ impl World {
         ensures length_max { IfOk result (λ w. NoneBeyond self.net self.clones bound) }
         ensures fault { IfErr result (λ e. IsFault self.net self.clones self.front bound steps.old steps.new e) }
     {
-        let large = self.wants_crew() || crew.gate().shares_small_work();
-        if crew.is_single() || !large {
-            pass_gate(rt, crew.gate(), self.model.len());
-            return self.window_in_place(alloc, bound, steps);
+        if crew.is_single() || !self.wants_crew() {
+            return self.window_in_place(alloc, crew.gate(), bound, steps);
         }
-        self.window_by_crew(rt, alloc, crew, bound, steps)
+        let gate = crew.gate();
+        let mut stepper = WithCrew::new(rt, mem::replace(crew, Crew::single(gate)));
+        let window = self.advance(alloc, &mut stepper, bound, steps);
+        *crew = stepper.into_crew();
+        window
     }
 }

@@ -1,35 +1,33 @@
-use Rattle.std.proofs.Common.{◌+◌, suc, ap, sym, ◌∙◌, subst}
+use Rattle.std.proofs.Common.{◌+◌, suc, ap, sym, refl, ◌∙◌, subst}
 use Rattle.net_model.specs.Net.{Net}
-use Rattle.phys_proc.specs.Own.{MarkedMessages}
-use Rattle.station_steps.specs.Windows.{AllDelivered}
 use Rattle.world_core.specs.declared.world.WorldFault.TheVariants.{EventLimit}
 use Rattle.link_clocks.specs.LinkWorlds.{LinkView}
 use Rattle.link_clocks.specs.NetClocks.{AreAllDone, HasClocks}
 use Rattle.link_clocks.specs.RoundFaults.{IsRoundFault}
 use Rattle.link_clocks.proofs.LinkStanding.{round-fits}
 use Rattle.link_clocks.proofs.Rounded.{has_rounded, may_step}
-use Rattle.link_clocks.proofs.link_world.LinkWorld.round_in_place.Goals as goal
+use Rattle.link_clocks.proofs.link_world.LinkWorld.advance.Goals as goal
 
-pub step_in_place-requires-clause-stations : goal.step_in_place-requires-clause-stations
-step_in_place-requires-clause-stations g c =
+pub step-requires-clause-stations : goal.step-requires-clause-stations
+step-requires-clause-stations g c =
     let i = c.self.inside in
     let first = c.in_ok-bound_by.ensures.same in
     let second = c.as_slice.ensures.value in
     let may = may_step i.model.value i.lists.clones i.ends i.clocks.rounds i.clocks.now.items i.clocks.next.items
     i.procs.items
     c.args.self c.self.invariant c.self.view_is c.bound_by.new.buffers.bounds.items c.as_slice.result.now first second
-    c.deref.result.now c.deref.ensures in
+    i.model.value refl in
     may.0
 
-pub step_in_place-requires-clause-bounds : goal.step_in_place-requires-clause-bounds
-step_in_place-requires-clause-bounds g c =
+pub step-requires-clause-bounds : goal.step-requires-clause-bounds
+step-requires-clause-bounds g c =
     let i = c.self.inside in
     let first = c.in_ok-bound_by.ensures.same in
     let second = c.as_slice.ensures.value in
     let may = may_step i.model.value i.lists.clones i.ends i.clocks.rounds i.clocks.now.items i.clocks.next.items
     i.procs.items
     c.args.self c.self.invariant c.self.view_is c.bound_by.new.buffers.bounds.items c.as_slice.result.now first second
-    c.deref.result.now c.deref.ensures in
+    i.model.value refl in
     may.1
 
 -- ---- a log beyond the limit
@@ -40,36 +38,16 @@ returns-in-Some-clause-fault g c =
     let first = c.in_ok-bound_by.ensures.same in
     let second = c.as_slice.ensures.value in
     let s = c.in_ok-stepped.stepped in
+    let all = c.in_ok-stepped.ensures.stepped in
     let h = has_rounded i.model.value i.lists.clones i.ends i.clocks.rounds i.clocks.now.items i.clocks.next.items
     i.procs.items
     c.args.self c.self.invariant c.self.view_is c.bound_by.new.buffers.bounds.items c.as_slice.result.now first second
-    c.deref.result.now c.ends-2.result.now
-    s.procs.items s.buffers.sent.items s.over c.args.steps.now c.step_in_place.new.steps c.deref.ensures
-    c.ends-2.ensures.value
-    c.in_ok-stepped.ensures.stepped in
+    i.model.value i.ends
+    all.news all.sent s.over c.args.steps.now c.step.new.steps refl refl all.stepped in
     let place = c.in-Some.place + 1 in
-    subst (IsRoundFault c.args.self.net c.args.self.clones c.args.self.rounds c.args.steps.now
-    c.step_in_place.new.steps)
-    (sym (c.beyond_limit.ensures.value ∙ ap (λ (n : Net). EventLimit place c.in-Some.who n.limit)
-    c.deref-in-Some.ensures))
+    subst (IsRoundFault c.args.self.net c.args.self.clones c.args.self.rounds c.args.steps.now c.step.new.steps)
+    (sym (c.beyond_limit.ensures.value ∙ ap (λ (n : Net). EventLimit place c.in-Some.who n.limit) c.deref.ensures))
     (h.fault (c.in-Some.place, c.in-Some.who) c.in-Some.is)
-
--- ---- what was sent
-
-pub deliver_all-requires : goal.deliver_all-requires
-deliver_all-requires g c =
-    let i = c.self.inside in
-    let first = c.in_ok-bound_by.ensures.same in
-    let second = c.as_slice.ensures.value in
-    let s = c.in_ok-stepped.stepped in
-    let h = has_rounded i.model.value i.lists.clones i.ends i.clocks.rounds i.clocks.now.items i.clocks.next.items
-    i.procs.items
-    c.args.self c.self.invariant c.self.view_is c.bound_by.new.buffers.bounds.items c.as_slice.result.now first second
-    c.deref.result.now c.ends-2.result.now
-    s.procs.items s.buffers.sent.items s.over c.args.steps.now c.step_in_place.new.steps c.deref.ensures
-    c.ends-2.ensures.value
-    c.in_ok-stepped.ensures.stepped in
-    record { in_order = h.may_give.in_order }
 
 -- ---- the world after the round
 
@@ -91,18 +69,16 @@ invariant_of-result g c =
     let first = c.in_ok-bound_by.ensures.same in
     let second = c.as_slice.ensures.value in
     let s = c.in_ok-stepped.stepped in
+    let all = c.in_ok-stepped.ensures.stepped in
     let h = has_rounded i.model.value i.lists.clones i.ends i.clocks.rounds i.clocks.now.items i.clocks.next.items
     i.procs.items
     c.args.self c.self.invariant c.self.view_is c.bound_by.new.buffers.bounds.items c.as_slice.result.now first second
-    c.deref.result.now c.ends-2.result.now
-    s.procs.items s.buffers.sent.items s.over c.args.steps.now c.step_in_place.new.steps c.deref.ensures
-    c.ends-2.ensures.value
-    c.in_ok-stepped.ensures.stepped in
+    i.model.value i.ends
+    all.news all.sent s.over c.args.steps.now c.step.new.steps refl refl all.stepped in
     let clocks = c.after_round-clocks.result in
     let after = c.after_round-clocks.ensures in
-    h.stands c.in_default.is c.deliver_all.new.procs.items clocks.rounds clocks.now.items clocks.next.items
-    (subst (λ (k : MarkedMessages). AllDelivered k s.procs.items c.deliver_all.new.procs.items)
-    c.as_slice-2.ensures.value c.in_ok-deliver_all.ensures.given) after.counted
+    h.stands c.in_default.is c.step.new.procs.items clocks.rounds clocks.now.items clocks.next.items
+    (all.delivered c.in_default.is) after.counted
     (subst (λ (n : Net). HasClocks n clocks.rounds clocks.now.items clocks.next.items) c.deref-2.ensures after.clocks)
 
 pub returns-clause-value : goal.returns-clause-value
@@ -118,13 +94,12 @@ returns-clause-steps g c =
     let first = c.in_ok-bound_by.ensures.same in
     let second = c.as_slice.ensures.value in
     let s = c.in_ok-stepped.stepped in
+    let all = c.in_ok-stepped.ensures.stepped in
     let h = has_rounded i.model.value i.lists.clones i.ends i.clocks.rounds i.clocks.now.items i.clocks.next.items
     i.procs.items
     c.args.self c.self.invariant c.self.view_is c.bound_by.new.buffers.bounds.items c.as_slice.result.now first second
-    c.deref.result.now c.ends-2.result.now
-    s.procs.items s.buffers.sent.items s.over c.args.steps.now c.step_in_place.new.steps c.deref.ensures
-    c.ends-2.ensures.value
-    c.in_ok-stepped.ensures.stepped in
+    i.model.value i.ends
+    all.news all.sent s.over c.args.steps.now c.step.new.steps refl refl all.stepped in
     h.steps c.in_default.is
 
 pub returns-clause-length_max : goal.returns-clause-length_max
@@ -133,11 +108,10 @@ returns-clause-length_max g c =
     let first = c.in_ok-bound_by.ensures.same in
     let second = c.as_slice.ensures.value in
     let s = c.in_ok-stepped.stepped in
+    let all = c.in_ok-stepped.ensures.stepped in
     let h = has_rounded i.model.value i.lists.clones i.ends i.clocks.rounds i.clocks.now.items i.clocks.next.items
     i.procs.items
     c.args.self c.self.invariant c.self.view_is c.bound_by.new.buffers.bounds.items c.as_slice.result.now first second
-    c.deref.result.now c.ends-2.result.now
-    s.procs.items s.buffers.sent.items s.over c.args.steps.now c.step_in_place.new.steps c.deref.ensures
-    c.ends-2.ensures.value
-    c.in_ok-stepped.ensures.stepped in
+    i.model.value i.ends
+    all.news all.sent s.over c.args.steps.now c.step.new.steps refl refl all.stepped in
     h.length_max c.in_default.is
