@@ -9,7 +9,6 @@ use Rattle.decision_script.specs.Reading.{script}
 use Rattle.decision_script.specs.Stating.{ScriptView}
 use Rattle.command_words.specs.declared.request.Mode.{Mode}
 use Rattle.command_words.specs.declared.request.Mode.TheVariants.{Links, Save, Solo}
-use Rattle.watch_points.specs.declared.watch.Watch as watch
 use Rattle.watch_points.specs.Triggers.{clones_with_branches}
 use Rattle.study_run.specs.Limits.{until}
 use Rattle.linked_run.specs.Linking.{IsOverrun}

@@ -1,8 +1,8 @@
 -- The result of a run with watches.
 use Rattle.std.proofs.Common.{◌≡◌, ◌<◌, ◌≤◌, ℕ, zero, suc, ◌+◌, Bool, true, false, cond, nat_lt, arith, refl, sym}
-use Rattle.std.proofs.Common.{◌⊎◌, ap, subst, ◌∙◌, inl, inr, List, [], ◌∷◌, ◌++◌, length, length-append, map, Option}
+use Rattle.std.proofs.Common.{◌⊎◌, ap, subst, ◌∙◌, inl, inr, List, [], ◌∷◌, length, length-append, map, Option}
 use Rattle.std.proofs.Common.{Some}
-use Rattle.std.proofs.Common.{None, Ok, Result}
+use Rattle.std.proofs.Common.{None, Ok}
 use Rattle.std.specs.Prelude.{IsPermutation}
 use Rattle.std.proofs.lemmas.List.{length-map}
 use Rattle.std.proofs.lemmas.List.Sorted.{IsPermutation-sym}
@@ -24,7 +24,7 @@ use Rattle.watch_laws.specs.Branches.{due_time, initial_branch, with_branch}
 use Rattle.watch_laws.specs.Orders.{IsPlaceOrder, in_order}
 use Rattle.watch_laws.proofs.Branches.{branch_named-in, in-with_branch}
 use Rattle.watch_laws.proofs.Orders.{in_order-permutation, in_permuted}
-use Rattle.trace_report.specs.Outputs.{figures_of, figures_to, report}
+use Rattle.trace_report.specs.Outputs.{figures_to, report}
 use Rattle.world_core.specs.Overs.{most_handled}
 use Rattle.world_core.specs.Worlds.{total_handled}
 use Rattle.trace_writer.specs.WorldTraces.{AreShort}

@@ -24,7 +24,7 @@ use std::thread::Threads;
 use study_run::StudyFault;
 
 // Runs all clones in rounds up to the horizon, in this thread or with several workers.
-fn run_clones<G: Gate, L: Ledger, R: Threads + Wait + Sync>(
+fn run_clones<G: Gate + Sync, L: Ledger, R: Threads + Wait + Sync>(
     resources: &Resources<'_, G, R>,
     plan: &Plan,
     steps: &mut Steps<L>,
@@ -34,7 +34,7 @@ fn run_clones<G: Gate, L: Ledger, R: Threads + Wait + Sync>(
 {
     let calls = plan.book.calls();
     if resources.workers.count == 1 {
-        return run_linked_sequentially(resources.alloc, &plan.model, calls, steps);
+        return run_linked_sequentially(resources.alloc, resources.gate, &plan.model, calls, steps);
     }
     run_linked(
         resources.rt,
@@ -48,7 +48,7 @@ fn run_clones<G: Gate, L: Ledger, R: Threads + Wait + Sync>(
 }
 
 // Returns the world of all clones at the horizon, and the number of rounds.
-fn run_world<G: Gate, L: Ledger, R: Threads + Wait + Sync>(
+fn run_world<G: Gate + Sync, L: Ledger, R: Threads + Wait + Sync>(
     resources: &Resources<'_, G, R>,
     plan: &Plan,
     steps: &mut Steps<L>,
@@ -73,7 +73,7 @@ fn run_world<G: Gate, L: Ledger, R: Threads + Wait + Sync>(
 }
 
 /// Runs all clones in rounds, and writes their traces, the report and the number of rounds.
-pub(crate) fn write_links<O: Sink, G: Gate, L: Ledger, R: Threads + Wait + Sync>(
+pub(crate) fn write_links<O: Sink, G: Gate + Sync, L: Ledger, R: Threads + Wait + Sync>(
     resources: &Resources<'_, G, R>,
     plan: &Plan,
     out: &mut O,

@@ -56,7 +56,7 @@ fn world_or_halt(model: &Model, live: LiveRun, journal: Vec<u8>) -> Result<(Worl
 }
 
 // Runs the study, and writes the text of its journal into memory.
-fn run_and_journal<G: Gate, L: Ledger, R: Threads + Wait + Sync>(
+fn run_and_journal<G: Gate + Sync, L: Ledger, R: Threads + Wait + Sync>(
     resources: &Resources<'_, G, R>,
     study: &Study,
     steps: &mut Steps<L>,
@@ -78,7 +78,7 @@ fn run_and_journal<G: Gate, L: Ledger, R: Threads + Wait + Sync>(
 }
 
 // Runs the study to its end. Returns the world at the horizon and the text of its journal.
-fn run_to_end<G: Gate, L: Ledger, R: Threads + Wait + Sync>(
+fn run_to_end<G: Gate + Sync, L: Ledger, R: Threads + Wait + Sync>(
     resources: &Resources<'_, G, R>,
     study: &Study,
     steps: &mut Steps<L>,
@@ -94,7 +94,7 @@ fn run_to_end<G: Gate, L: Ledger, R: Threads + Wait + Sync>(
 }
 
 /// Runs a study while its analysts decide and look, and writes its journal, the traces of all clones and the report.
-pub(crate) fn write_live<O: Sink, G: Gate, L: Ledger, R: Threads + Wait + Sync>(
+pub(crate) fn write_live<O: Sink, G: Gate + Sync, L: Ledger, R: Threads + Wait + Sync>(
     resources: &Resources<'_, G, R>,
     study: &Study,
     out: &mut O,

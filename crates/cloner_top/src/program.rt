@@ -27,7 +27,7 @@ use std::sync::ledger::Ledger;
 use std::thread::Threads;
 
 // Prepares a study, runs it and writes its texts.
-fn prepare_and_write<I: Inputs, O: Sink, G: Gate, L: Ledger, R: Threads + Wait + Sync>(
+fn prepare_and_write<I: Inputs, O: Sink, G: Gate + Sync, L: Ledger, R: Threads + Wait + Sync>(
     rt: &R,
     alloc: Global,
     request: &Request,
@@ -99,7 +99,7 @@ fn words_refused(fault: WordsFault) -> Refusal
 }
 
 // Runs the command line, and writes the error line if there is no output. Returns the exit status.
-fn run_or_report<I: Inputs, O: Sink, E: Sink, G: Gate, L: Ledger, R: Threads + Wait + Sync>(
+fn run_or_report<I: Inputs, O: Sink, E: Sink, G: Gate + Sync, L: Ledger, R: Threads + Wait + Sync>(
     rt: &R,
     alloc: Global,
     words: &[Word],
@@ -165,7 +165,7 @@ fn run_or_report<I: Inputs, O: Sink, E: Sink, G: Gate, L: Ledger, R: Threads + W
 /// 11. the text of the snapshot would be longer than a file may be.
 ///
 /// After every status except 0 and 8 the output is unchanged.
-pub fn cloner<R: Threads + Wait + Sync, I: Inputs, O: Sink, E: Sink, G: Gate, L: Ledger>(
+pub fn cloner<R: Threads + Wait + Sync, I: Inputs, O: Sink, E: Sink, G: Gate + Sync, L: Ledger>(
     rt: &R,
     alloc: Global,
     words: &[Word],

@@ -11,7 +11,7 @@ pub(crate) struct Resources<'a, G: Gate, R: Threads + Wait + Sync> {
     pub(crate) rt: &'a R,
     /// Where memory comes from.
     pub(crate) alloc: Global,
-    /// Called before each task of a crew.
+    /// Called before each station of each window, and before each call of an analyst.
     pub(crate) gate: &'a G,
     /// The number of workers, the calling thread among them.
     pub(crate) workers: Workers,

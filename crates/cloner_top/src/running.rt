@@ -40,7 +40,7 @@ pub(crate) fn limit_at(model: &Model, station: u32, clone: Name) -> Excess
 }
 
 // Runs all clones in one world up to the horizon, in this thread or with several workers.
-fn run_clones<G: Gate, L: Ledger, R: Threads + Wait + Sync>(
+fn run_clones<G: Gate + Sync, L: Ledger, R: Threads + Wait + Sync>(
     resources: &Resources<'_, G, R>,
     plan: &Plan,
     steps: &mut Steps<L>,
@@ -50,7 +50,7 @@ fn run_clones<G: Gate, L: Ledger, R: Threads + Wait + Sync>(
 {
     let calls = plan.book.calls();
     if resources.workers.count == 1 {
-        return run_study_sequentially(resources.alloc, &plan.model, calls, steps);
+        return run_study_sequentially(resources.alloc, resources.gate, &plan.model, calls, steps);
     }
     run_study(
         resources.rt,
@@ -64,7 +64,7 @@ fn run_clones<G: Gate, L: Ledger, R: Threads + Wait + Sync>(
 }
 
 // Runs all clones in one world up to the horizon.
-fn run_world<G: Gate, L: Ledger, R: Threads + Wait + Sync>(
+fn run_world<G: Gate + Sync, L: Ledger, R: Threads + Wait + Sync>(
     resources: &Resources<'_, G, R>,
     plan: &Plan,
     steps: &mut Steps<L>,
@@ -93,7 +93,7 @@ fn run_world<G: Gate, L: Ledger, R: Threads + Wait + Sync>(
 }
 
 /// Runs all clones, and writes their traces and the report.
-pub(crate) fn write_run<O: Sink, G: Gate, L: Ledger, R: Threads + Wait + Sync>(
+pub(crate) fn write_run<O: Sink, G: Gate + Sync, L: Ledger, R: Threads + Wait + Sync>(
     resources: &Resources<'_, G, R>,
     plan: &Plan,
     out: &mut O,
@@ -110,7 +110,7 @@ pub(crate) fn write_run<O: Sink, G: Gate, L: Ledger, R: Threads + Wait + Sync>(
 }
 
 /// Runs all clones, and writes the report only.
-pub(crate) fn write_report<O: Sink, G: Gate, L: Ledger, R: Threads + Wait + Sync>(
+pub(crate) fn write_report<O: Sink, G: Gate + Sync, L: Ledger, R: Threads + Wait + Sync>(
     resources: &Resources<'_, G, R>,
     plan: &Plan,
     out: &mut O,
@@ -127,7 +127,7 @@ pub(crate) fn write_report<O: Sink, G: Gate, L: Ledger, R: Threads + Wait + Sync
 }
 
 /// Runs all clones, and writes the statistics of their servers.
-pub(crate) fn write_stats<O: Sink, G: Gate, L: Ledger, R: Threads + Wait + Sync>(
+pub(crate) fn write_stats<O: Sink, G: Gate + Sync, L: Ledger, R: Threads + Wait + Sync>(
     resources: &Resources<'_, G, R>,
     plan: &Plan,
     out: &mut O,

@@ -25,7 +25,7 @@ use watch_points::numbered_name;
 use watched_run::{WatchedWorld, run_watched, run_watched_sequentially};
 
 // Runs all clones with their watches up to the horizon, in this thread or with several workers.
-fn run_clones<G: Gate, L: Ledger, R: Threads + Wait + Sync>(
+fn run_clones<G: Gate + Sync, L: Ledger, R: Threads + Wait + Sync>(
     resources: &Resources<'_, G, R>,
     watching: &Watching,
     steps: &mut Steps<L>,
@@ -41,6 +41,7 @@ fn run_clones<G: Gate, L: Ledger, R: Threads + Wait + Sync>(
     if resources.workers.count == 1 {
         return run_watched_sequentially(
             resources.alloc,
+            resources.gate,
             &plan.model,
             calls,
             &watching.watches,
@@ -60,7 +61,7 @@ fn run_clones<G: Gate, L: Ledger, R: Threads + Wait + Sync>(
 }
 
 // Returns the world of all clones and their branches at the horizon.
-fn run_world<G: Gate, L: Ledger, R: Threads + Wait + Sync>(
+fn run_world<G: Gate + Sync, L: Ledger, R: Threads + Wait + Sync>(
     resources: &Resources<'_, G, R>,
     watching: &Watching,
     steps: &mut Steps<L>,
@@ -89,7 +90,7 @@ fn run_world<G: Gate, L: Ledger, R: Threads + Wait + Sync>(
 }
 
 /// Runs all clones with their watches. Writes their traces, in the order of the watches, and the report.
-pub(crate) fn write_watched<O: Sink, G: Gate, L: Ledger, R: Threads + Wait + Sync>(
+pub(crate) fn write_watched<O: Sink, G: Gate + Sync, L: Ledger, R: Threads + Wait + Sync>(
     resources: &Resources<'_, G, R>,
     watching: &Watching,
     out: &mut O,

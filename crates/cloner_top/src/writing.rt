@@ -27,7 +27,7 @@ use std::sync::ledger::Ledger;
 use std::thread::Threads;
 
 // Runs a plan in its mode, and writes its texts.
-fn write_decided<O: Sink, G: Gate, L: Ledger, R: Threads + Wait + Sync>(
+fn write_decided<O: Sink, G: Gate + Sync, L: Ledger, R: Threads + Wait + Sync>(
     resources: &Resources<'_, G, R>,
     decided: &Decided,
     out: &mut O,
@@ -52,7 +52,7 @@ fn write_decided<O: Sink, G: Gate, L: Ledger, R: Threads + Wait + Sync>(
 }
 
 /// Runs a prepared study, and writes its texts.
-pub(crate) fn write_prepared<O: Sink, G: Gate, L: Ledger, R: Threads + Wait + Sync>(
+pub(crate) fn write_prepared<O: Sink, G: Gate + Sync, L: Ledger, R: Threads + Wait + Sync>(
     resources: &Resources<'_, G, R>,
     prepared: &Prepared,
     out: &mut O,

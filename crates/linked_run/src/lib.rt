@@ -27,7 +27,7 @@
 //! the links and the horizon, and is at most the horizon over the lookahead, rounded down, plus one. The steps rose by
 //! what the clones handle, each shared message once. If the limit is met, the fault names a log that is beyond it at
 //! the horizon. The contract does not depend on the number of workers or on the gate. `run_linked_sequentially` takes
-//! no handle that may wait, so it is proved to return.
+//! no handle that may wait, so it is proved to return if its gate does.
 #![tactic(auto)]
 
 pub mod rounds;

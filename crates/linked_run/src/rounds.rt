@@ -16,8 +16,9 @@ use world_core::Window;
 
 // Makes rounds in the caller's thread: all that are left or, on request, those before the first for which a crew pays
 // off.
-fn go_in_place<L: Ledger>(
+fn go_in_place<G: Gate, L: Ledger>(
     alloc: Global,
+    gate: &G,
     world: LinkWorld,
     until_shared: bool,
     steps: &mut Steps<L>,
@@ -31,7 +32,7 @@ fn go_in_place<L: Ledger>(
         if until_shared && world.wants_crew() {
             return Ok(world);
         }
-        let round = world.round_in_place(alloc, steps);
+        let round = world.round_in_place(alloc, gate, steps);
         world = match round {
             Ok(world) => world,
             Err(fault) => return Err(fault_of_window(fault)),
@@ -85,7 +86,7 @@ fn finish_beside<G: Gate, L: Ledger, R: Wait>(
 }
 
 // Runs the members' part, unless it has run already.
-fn serve_members<G: Gate, R: Threads + Wait + Sync>(
+fn serve_members<G: Gate + Sync, R: Threads + Wait + Sync>(
     rt: &R,
     alloc: Global,
     bell: &Bell,
@@ -97,7 +98,7 @@ fn serve_members<G: Gate, R: Threads + Wait + Sync>(
 }
 
 // Makes all rounds that are left, concurrently with the members of a crew. All threads are joined.
-fn go_beside<G: Gate, L: Ledger, R: Threads + Wait + Sync>(
+fn go_beside<G: Gate + Sync, L: Ledger, R: Threads + Wait + Sync>(
     rt: &R,
     alloc: Global,
     crew: Crew<'_, Window, G>,
@@ -125,7 +126,7 @@ fn go_beside<G: Gate, L: Ledger, R: Threads + Wait + Sync>(
 }
 
 // Makes all rounds that are left with a crew, or in the caller's thread if there is no memory for one.
-fn go_with_crew<G: Gate, L: Ledger, R: Threads + Wait + Sync>(
+fn go_with_crew<G: Gate + Sync, L: Ledger, R: Threads + Wait + Sync>(
     rt: &R,
     alloc: Global,
     workers: Workers,
@@ -145,29 +146,16 @@ fn go_with_crew<G: Gate, L: Ledger, R: Threads + Wait + Sync>(
                 bell,
             },
         ) => go_beside(rt, alloc, crew, members, &bell, world, steps),
-        None => go_in_place(alloc, world, false, steps),
+        None => go_in_place(alloc, gate, world, false, steps),
     }
 }
 
-/// Makes all rounds in the caller's thread.
+/// Makes all rounds in the caller's thread, which calls the gate before each station of each round.
 ///
 /// # Errors
 ///
 /// The world is dropped if out of memory, or if a log would get longer than the limit.
-pub fn go_alone<L: Ledger>(
-    alloc: Global,
-    world: LinkWorld,
-    steps: &mut Steps<L>,
-) -> Result<LinkWorld, StudyFault>
-    ensures goes { IfOk result (λ w. HasGoneOn world w steps.old steps.new) }
-    ensures stops { IfErr result (λ e. HasStopped world steps.old steps.new e) }
-    ensures done { IfOk result (λ w. AreAllDone w.net w.rounds) }
-{
-    go_in_place(alloc, world, false, steps)
-}
-
-// Makes rounds in the caller's thread until a crew pays off. The gate may require a crew immediately.
-fn go_until_shared<G: Gate, L: Ledger>(
+pub fn go_alone<G: Gate, L: Ledger>(
     alloc: Global,
     gate: &G,
     world: LinkWorld,
@@ -175,20 +163,18 @@ fn go_until_shared<G: Gate, L: Ledger>(
 ) -> Result<LinkWorld, StudyFault>
     ensures goes { IfOk result (λ w. HasGoneOn world w steps.old steps.new) }
     ensures stops { IfErr result (λ e. HasStopped world steps.old steps.new e) }
+    ensures done { IfOk result (λ w. AreAllDone w.net w.rounds) }
 {
-    if gate.shares_small_work() {
-        return Ok(world);
-    }
-    go_in_place(alloc, world, true, steps)
+    go_in_place(alloc, gate, world, false, steps)
 }
 
 /// Makes all rounds. They run in the caller's thread until two or more stations have something due in one round. From
-/// then on a crew of this number of workers runs them. The gate may require a crew immediately.
+/// then on a crew of this number of workers runs them.
 ///
 /// # Errors
 ///
 /// The world is dropped if out of memory, or if a log would get longer than the limit.
-pub fn go_to_end<G: Gate, L: Ledger, R: Threads + Wait + Sync>(
+pub fn go_to_end<G: Gate + Sync, L: Ledger, R: Threads + Wait + Sync>(
     rt: &R,
     alloc: Global,
     workers: Workers,
@@ -200,7 +186,7 @@ pub fn go_to_end<G: Gate, L: Ledger, R: Threads + Wait + Sync>(
     ensures stops { IfErr result (λ e. HasStopped world steps.old steps.new e) }
     ensures done { IfOk result (λ w. AreAllDone w.net w.rounds) }
 {
-    match go_until_shared(alloc, gate, world, steps) {
+    match go_in_place(alloc, gate, world, true, steps) {
         Ok(world) => {
             // no round is left for a crew, so no thread is started
             if world.is_done() {

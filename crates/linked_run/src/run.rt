@@ -60,22 +60,23 @@ fn finish(world: LinkWorld) -> LinkedWorld
 }
 
 // Runs the clones of a world before its first round to the horizon, in the caller's thread.
-fn run_alone_to_horizon<L: Ledger>(
+fn run_alone_to_horizon<G: Gate, L: Ledger>(
     alloc: Global,
+    gate: &G,
     world: LinkWorld,
     steps: &mut Steps<L>,
 ) -> Result<LinkedWorld, StudyFault>
     requires first { world.rounds ≡ 0 }
     ensures runs { IsLinkedRun world.net world.clones steps.old steps.new result }
 {
-    match go_alone(alloc, world, steps) {
+    match go_alone(alloc, gate, world, steps) {
         Ok(world) => Ok(finish(world)),
         Err(fault) => Err(fault),
     }
 }
 
 // Runs the clones of a world before its first round to the horizon, with this number of workers.
-fn run_to_horizon<G: Gate, L: Ledger, R: Threads + Wait + Sync>(
+fn run_to_horizon<G: Gate + Sync, L: Ledger, R: Threads + Wait + Sync>(
     rt: &R,
     alloc: Global,
     workers: Workers,
@@ -93,13 +94,15 @@ fn run_to_horizon<G: Gate, L: Ledger, R: Threads + Wait + Sync>(
 }
 
 /// Runs a study in rounds, in the caller's thread. The world of a model takes the calls, which were accepted, at front
-/// 0, and advances to the horizon. It never waits, so its contract promises that it returns.
+/// 0, and advances to the horizon. It calls the gate before each station of each round. It waits only if the gate does,
+/// so its contract promises that it returns if the gate does.
 ///
 /// # Errors
 ///
 /// Out of memory, or the limit is met: the station, and the place of the clone among all clones.
-pub fn run_linked_sequentially<L: Ledger>(
+pub fn run_linked_sequentially<G: Gate, L: Ledger>(
     alloc: Global,
+    gate: &G,
     model: &Arc<Model>,
     calls: &[Call],
     steps: &mut Steps<L>,
@@ -109,7 +112,7 @@ pub fn run_linked_sequentially<L: Ledger>(
         steps.old steps.new result }
 {
     match open_link_world(alloc, model, calls) {
-        Ok(world) => run_alone_to_horizon(alloc, world, steps),
+        Ok(world) => run_alone_to_horizon(alloc, gate, world, steps),
         Err(NoMemory) => Err(StudyFault::NoMemory),
     }
 }
@@ -122,7 +125,7 @@ pub fn run_linked_sequentially<L: Ledger>(
 /// # Errors
 ///
 /// Out of memory, or the limit is met: the station, and the place of the clone among all clones.
-pub fn run_linked<G: Gate, L: Ledger, R: Threads + Wait + Sync>(
+pub fn run_linked<G: Gate + Sync, L: Ledger, R: Threads + Wait + Sync>(
     rt: &R,
     alloc: Global,
     workers: Workers,
@@ -136,7 +139,7 @@ pub fn run_linked<G: Gate, L: Ledger, R: Threads + Wait + Sync>(
         steps.old steps.new result }
 {
     if workers.count == 1 {
-        return run_linked_sequentially(alloc, model, calls, steps);
+        return run_linked_sequentially(alloc, gate, model, calls, steps);
     }
     match open_link_world(alloc, model, calls) {
         Ok(world) => run_to_horizon(rt, alloc, workers, gate, world, steps),

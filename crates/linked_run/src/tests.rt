@@ -2,7 +2,7 @@
 ghost use Rattle.std.specs.Prelude.{◌≡◌, ◌<◌, ◌≤◌, IfSome, length};
 
 use crate::run::{LinkedWorld, run_linked, run_linked_sequentially};
-use crew_pool::{Gate, Workers};
+use crew_pool::{Gate, NoGate, Workers};
 use link_clocks::LinkWorld;
 use net_model::{Model, read_model};
 use sample_models::ONE_DESK;
@@ -70,7 +70,7 @@ fn next_round<L: Ledger>(
     if world.clock(1) != clocks[0] || world.clock(2) != clocks[1] || world.is_done() {
         return None;
     }
-    world.round_in_place(alloc, steps).ok()
+    world.round_in_place(alloc, &NoGate, steps).ok()
 }
 
 /// Whether the first two clocks of a network are 0 at first, these after one and two rounds, and the third round is the
@@ -114,7 +114,7 @@ fn run_base<L: Ledger>(
     requires nonempty { 0 < L.parts }
 {
     let mut steps = Steps::<L>::new(blank);
-    run_linked_sequentially(alloc, model, &[], &mut steps)
+    run_linked_sequentially(alloc, &NoGate, model, &[], &mut steps)
 }
 
 /// The number of rounds of a model.
@@ -124,22 +124,18 @@ fn rounds_of(alloc: Global, text: &str) -> Option<u64> {
     Some(linked.rounds)
 }
 
-/// Counts the tasks of a crew that shares small work as well.
+/// Counts the calls before stations.
 #[derive(Drop)]
 struct Tasks {
     begun: AtomicU64,
 }
 
 impl Gate for Tasks {
-    fn before<R: Wait>(&self, _rt: &R, _worker: u32, _task: u32) {
+    fn before(&self, _worker: u32, _task: u32) {
         self.begun.fetch_add(1, Ordering::SeqCst);
     }
 
-    fn before_call<R: Wait>(&self, _rt: &R, _analyst: u32, _k: u32) {}
-
-    fn shares_small_work(&self) -> bool {
-        true
-    }
+    fn before_call(&self, _analyst: u32, _k: u32) {}
 }
 
 /// Whether four workers make three rounds of three tasks, and the desk handles what it would handle alone.

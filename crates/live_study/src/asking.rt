@@ -120,14 +120,14 @@ pub(crate) fn act_all<J: Naming, G: Gate, R: Wait>(
     ensures acted { HasActed (desk_id desk.now) model.now (analyst.old, seat.old) (analyst.new, seat.new) }
 {
     for k in 0..analyst.todo.len() {
-        gate.before_call(rt, analyst.number, k as u32);
+        gate.before_call(analyst.number, k as u32);
         let act = analyst.todo[k];
         act_once(rt, desk, model, analyst, seat, act);
     }
 }
 
 /// Runs all analysts, each in its own thread.
-pub(crate) fn act_everyone<J: Naming + Send + Sync, G: Gate, R: Threads + Wait + Sync>(
+pub(crate) fn act_everyone<J: Naming + Send + Sync, G: Gate + Sync, R: Threads + Wait + Sync>(
     rt: &R,
     desk: &Desk,
     gate: &G,

@@ -19,7 +19,7 @@ use world_core::{Window, World};
 
 /// The engine runs to the horizon, publishes on its way, and returns helm and stocker in any case. Its counter is its
 /// own.
-pub(crate) fn run_engine<G: Gate, J: Naming, W: Wait + Drop, R: Threads + Wait + Sync>(
+pub(crate) fn run_engine<G: Gate + Sync, J: Naming, W: Wait + Drop, R: Threads + Wait + Sync>(
     rt: &R,
     alloc: Global,
     workers: Workers,
@@ -50,7 +50,14 @@ pub(crate) fn run_engine<G: Gate, J: Naming, W: Wait + Drop, R: Threads + Wait +
 
 // The same, with a counter made of the blank, and with a crew whose members have a thread each. Out of memory for its
 // crew, the engine runs without one.
-fn drive_with_crew<'g, G: Gate, J: Naming, L: Ledger, W: Wait + Drop, R: Threads + Wait + Sync>(
+fn drive_with_crew<
+    'g,
+    G: Gate + Sync,
+    J: Naming,
+    L: Ledger,
+    W: Wait + Drop,
+    R: Threads + Wait + Sync,
+>(
     rt: &R,
     alloc: Global,
     workers: Workers,
@@ -70,14 +77,14 @@ fn drive_with_crew<'g, G: Gate, J: Naming, L: Ledger, W: Wait + Drop, R: Threads
         stocker.readers result.1.has_published (length result.1.spares.items) }
 {
     let mut steps = Steps::<L>::new(blank);
-    let mut crew: Option<Crew<'g, Window, G>> = None;
+    let mut crew: Crew<'g, Window, G> = Crew::single(gate);
     if let Some(made) = begin_crew(alloc, gate, workers) {
         let NewCrew {
             crew: own,
             members,
             bell,
         } = made;
-        crew = Some(own);
+        crew = own;
         if !members.is_empty() {
             let bell: &Bell = &bell;
             let (_, done) = thread::join(

@@ -1,8 +1,6 @@
 //! The engine: conservative time windows up to the fronts that the desk returns, until the horizon.
-ghost use Rattle.std.specs.Prelude.{◌≡◌, ◌+◌, ◌-◌, ◌<◌, ◌≤◌, length, IfOk, IfErr, OnOk};
+ghost use Rattle.std.specs.Prelude.{◌≡◌, ◌-◌, ◌<◌, length, IfOk, IfErr, OnOk};
 ghost use Rattle.net_model.specs.Net.{HasStation};
-ghost use Rattle.stations.specs.Runs.{next_front};
-ghost use Rattle.world_core.specs.Overs.{IsFault, NoneBeyond};
 ghost use Rattle.world_core.specs.Worlds.{total_handled};
 ghost use Rattle.decision_desk.specs.Desks.{desk_id};
 ghost use Rattle.decision_desk.specs.Leasts.{leasts_of};
@@ -18,7 +16,7 @@ use std::alloc::Global;
 use std::sync::Wait;
 use std::sync::ledger::Ledger;
 use study_run::{StudyFault, fault_of_window};
-use world_core::{Window, World, WorldFault};
+use world_core::{Window, World};
 
 // The time of the next pending message of each clone.
 fn least_due_times(alloc: Global, world: &World) -> Result<Vec<Option<u64>>, NoMemory>
@@ -112,34 +110,11 @@ fn show<J: Naming, W: Wait + Drop>(
     Ok(())
 }
 
-// The window to a bound: by the crew, or in this thread if there is none.
-fn run_window<G: Gate, L: Ledger, R: Wait>(
-    rt: &R,
-    alloc: Global,
-    crew: &mut Option<Crew<'_, Window, G>>,
-    world: World,
-    bound: u64,
-    steps: &mut Steps<L>,
-) -> Result<World, WorldFault>
-    requires above { world.front < bound }
-    requires within { bound ≤ next_front world.net world.clones world.front }
-    ensures value { IfOk result (λ w. w ≡ record world { front = bound }) }
-    ensures steps { IfOk result (λ w. steps.new + total_handled world.net world.clones world.front
-        ≡ steps.old + total_handled world.net world.clones bound) }
-    ensures length_max { IfOk result (λ w. NoneBeyond world.net world.clones bound) }
-    ensures fault { IfErr result (λ e. IsFault world.net world.clones world.front bound steps.old steps.new e) }
-{
-    match crew {
-        Some(crew) => world.window(rt, alloc, crew, bound, steps),
-        None => world.window_in_place(alloc, bound, steps),
-    }
-}
-
 // A turn of the helm, and its window.
 fn take_window<G: Gate, L: Ledger, R: Wait>(
     rt: &R,
     alloc: Global,
-    crew: &mut Option<Crew<'_, Window, G>>,
+    crew: &mut Crew<'_, Window, G>,
     desk: &Desk,
     helm: &mut Helm,
     world: World,
@@ -158,7 +133,7 @@ fn take_window<G: Gate, L: Ledger, R: Wait>(
     let Ok((world, bound)) = take_turn(rt, alloc, desk, helm, world) else {
         return Err(StudyFault::NoMemory);
     };
-    match run_window(rt, alloc, crew, world, bound, steps) {
+    match world.window(rt, alloc, crew, bound, steps) {
         Ok(world) => Ok(world),
         Err(fault) => Err(fault_of_window(fault)),
     }
@@ -168,7 +143,7 @@ fn take_window<G: Gate, L: Ledger, R: Wait>(
 fn take_window_and_show<G: Gate, J: Naming, L: Ledger, W: Wait + Drop, R: Wait>(
     rt: &R,
     alloc: Global,
-    crew: &mut Option<Crew<'_, Window, G>>,
+    crew: &mut Crew<'_, Window, G>,
     desk: &Desk,
     helm: &mut Helm,
     world: World,
@@ -204,7 +179,7 @@ fn take_window_and_show<G: Gate, J: Naming, L: Ledger, W: Wait + Drop, R: Wait>(
 pub(crate) fn drive<G: Gate, J: Naming, L: Ledger, W: Wait + Drop, R: Wait>(
     rt: &R,
     alloc: Global,
-    crew: &mut Option<Crew<'_, Window, G>>,
+    crew: &mut Crew<'_, Window, G>,
     desk: &Desk,
     mut helm: Helm,
     mut world: World,

@@ -28,7 +28,12 @@ use study_run::StudyFault;
 use world_core::World;
 
 // Runs the engine and all analysts concurrently. All threads are joined.
-fn side_by_side<G: Gate, J: Naming + Send + Sync, W: Wait + Drop + Send, R: Threads + Wait + Sync>(
+fn side_by_side<
+    G: Gate + Sync,
+    J: Naming + Send + Sync,
+    W: Wait + Drop + Send,
+    R: Threads + Wait + Sync,
+>(
     rt: &R,
     alloc: Global,
     workers: Workers,
@@ -123,7 +128,7 @@ fn close_seats<J: Naming, W: Wait + Drop>(
 /// Runs the engine and all analysts, and closes the desk. All threads are joined, however it ends. Nothing is allocated
 /// after that, so the book and the looks are there in any case.
 pub(crate) fn run_live<
-    G: Gate,
+    G: Gate + Sync,
     J: Naming + Send + Sync,
     W: Wait + Drop + Send,
     R: Threads + Wait + Sync,

@@ -113,7 +113,12 @@ fn take_seats<J: Naming, W: Wait + Drop>(
 }
 
 // The study, over a history of racks that is named here.
-fn run_prepared<G: Gate, J: Naming + Send + Sync, W: Wait + Drop + Send, R: Threads + Wait + Sync>(
+fn run_prepared<
+    G: Gate + Sync,
+    J: Naming + Send + Sync,
+    W: Wait + Drop + Send,
+    R: Threads + Wait + Sync,
+>(
     rt: &R,
     waits: W,
     alloc: Global,
@@ -158,7 +163,7 @@ fn run_prepared<G: Gate, J: Naming + Send + Sync, W: Wait + Drop + Send, R: Thre
 
 /// Runs a live study: each analyst of the script decides and looks in its own thread while the engine runs. If memory
 /// runs out before the threads start, there is no journal; from then on there is one.
-pub fn live_study<G: Gate, L: Ledger, R: Threads + Wait + Sync>(
+pub fn live_study<G: Gate + Sync, L: Ledger, R: Threads + Wait + Sync>(
     rt: &R,
     alloc: Global,
     workers: Workers,

@@ -15,8 +15,9 @@ use std::thread::{Threads, join_mut};
 use world_core::{Window, World};
 
 // Runs windows in the caller's thread: all up to the horizon or, on request, only until one was large.
-fn go_in_place<A: Onwards, L: Ledger>(
+fn go_in_place<A: Onwards, G: Gate, L: Ledger>(
     alloc: Global,
+    gate: &G,
     follow_up: &mut A,
     world: World,
     until_large: bool,
@@ -33,7 +34,7 @@ fn go_in_place<A: Onwards, L: Ledger>(
             return Ok(world);
         }
         let bound = world.bound();
-        let window = world.window_in_place(alloc, bound, steps);
+        let window = world.window_in_place(alloc, gate, bound, steps);
         world = match follow_up.after_window(alloc, window) {
             Ok(world) => world,
             Err(fault) => return Err(fault),
@@ -92,7 +93,7 @@ fn finish_beside<A: Onwards, G: Gate, L: Ledger, R: Wait>(
 }
 
 // Runs the members' part, unless it has run already.
-fn serve_members<G: Gate, R: Threads + Wait + Sync>(
+fn serve_members<G: Gate + Sync, R: Threads + Wait + Sync>(
     rt: &R,
     alloc: Global,
     bell: &Bell,
@@ -104,7 +105,7 @@ fn serve_members<G: Gate, R: Threads + Wait + Sync>(
 }
 
 // Runs the windows up to the horizon, concurrently with the members of a crew. All threads are joined.
-fn go_beside<A: Onwards, G: Gate, L: Ledger, R: Threads + Wait + Sync>(
+fn go_beside<A: Onwards, G: Gate + Sync, L: Ledger, R: Threads + Wait + Sync>(
     rt: &R,
     alloc: Global,
     crew: Crew<'_, Window, G>,
@@ -133,26 +134,8 @@ fn go_beside<A: Onwards, G: Gate, L: Ledger, R: Threads + Wait + Sync>(
     done
 }
 
-// Runs windows in the caller's thread until a crew pays off. The gate may require a crew immediately.
-fn go_until_large<A: Onwards, G: Gate, L: Ledger>(
-    alloc: Global,
-    gate: &G,
-    follow_up: &mut A,
-    world: World,
-    steps: &mut Steps<L>,
-) -> Result<World, StudyFault>
-    requires come { HasComeTo A.has_gone_on (run_state follow_up.old world steps.old) }
-    ensures goes { GoesOn A.has_gone_on A.has_stopped (run_state follow_up.old world steps.old) follow_up.new steps.new
-        result }
-{
-    if gate.shares_small_work() {
-        return Ok(world);
-    }
-    go_in_place(alloc, follow_up, world, true, steps)
-}
-
 // Runs the windows up to the horizon with a crew, or in the caller's thread if there is no memory for one.
-fn go_with_crew<A: Onwards, G: Gate, L: Ledger, R: Threads + Wait + Sync>(
+fn go_with_crew<A: Onwards, G: Gate + Sync, L: Ledger, R: Threads + Wait + Sync>(
     rt: &R,
     alloc: Global,
     workers: Workers,
@@ -174,13 +157,14 @@ fn go_with_crew<A: Onwards, G: Gate, L: Ledger, R: Threads + Wait + Sync>(
                 bell,
             },
         ) => go_beside(rt, alloc, crew, members, &bell, follow_up, world, steps),
-        None => go_in_place(alloc, follow_up, world, false, steps),
+        None => go_in_place(alloc, gate, follow_up, world, false, steps),
     }
 }
 
-/// Runs the windows up to the horizon in the caller's thread.
-pub fn go_alone<A: Onwards, L: Ledger>(
+/// Runs the windows up to the horizon in the caller's thread, which calls the gate before each station of each window.
+pub fn go_alone<A: Onwards, G: Gate, L: Ledger>(
     alloc: Global,
+    gate: &G,
     follow_up: &mut A,
     world: World,
     steps: &mut Steps<L>,
@@ -190,12 +174,12 @@ pub fn go_alone<A: Onwards, L: Ledger>(
         result }
     ensures front { IfOk result (λ w. w.front ≡ w.net.horizon) }
 {
-    go_in_place(alloc, follow_up, world, false, steps)
+    go_in_place(alloc, gate, follow_up, world, false, steps)
 }
 
 /// Runs the windows up to the horizon: in the caller's thread until a window was large, and from then on by a crew of
 /// this number of workers. The contract does not depend on the number of workers or on the gate.
-pub fn go_to_horizon<A: Onwards, G: Gate, L: Ledger, R: Threads + Wait + Sync>(
+pub fn go_to_horizon<A: Onwards, G: Gate + Sync, L: Ledger, R: Threads + Wait + Sync>(
     rt: &R,
     alloc: Global,
     workers: Workers,
@@ -209,7 +193,7 @@ pub fn go_to_horizon<A: Onwards, G: Gate, L: Ledger, R: Threads + Wait + Sync>(
         result }
     ensures front { IfOk result (λ w. w.front ≡ w.net.horizon) }
 {
-    let world = go_until_large(alloc, gate, follow_up, world, steps)?;
+    let world = go_in_place(alloc, gate, follow_up, world, true, steps)?;
     // no window is left for a crew, so no thread is started
     if world.front() >= world.model().horizon() {
         return Ok(world);

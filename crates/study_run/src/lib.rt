@@ -20,7 +20,8 @@
 //! clone alone costs one step for each message of its trace. A study without a large window starts no thread.
 //!
 //! A run that changes its clones between windows passes its own [`Onwards`] to [`go_to_horizon`] or [`go_alone`].
-//! `run_study_sequentially`, `run_alone` and `go_alone` take no handle that may wait, so they are proved to return.
+//! `run_alone` is proved to return. `run_study_sequentially` and `go_alone` take no handle that may wait, so they are
+//! proved to return if their gate does.
 //!
 //! The promises: **bounded work, each shared message handled once**. At the horizon the steps rose by exactly the
 //! report's total. If a log would get longer than the limit, the run stops at the first window end at which one is. The

@@ -34,8 +34,9 @@ fn open_world(alloc: Global, model: &Arc<Model>, calls: &[Call]) -> Result<World
 }
 
 // Runs the clones of a world at front 0 to the horizon, in the caller's thread.
-fn run_alone_to_horizon<L: Ledger>(
+fn run_alone_to_horizon<G: Gate, L: Ledger>(
     alloc: Global,
+    gate: &G,
     world: World,
     steps: &mut Steps<L>,
 ) -> Result<World, StudyFault>
@@ -43,11 +44,11 @@ fn run_alone_to_horizon<L: Ledger>(
     ensures runs { IsStudyRun world.net world.clones steps.old steps.new result }
 {
     let _valid = world.model().horizon();
-    go_alone(alloc, &mut PlainRun, world, steps)
+    go_alone(alloc, gate, &mut PlainRun, world, steps)
 }
 
 // Runs the clones of a world at front 0 to the horizon, with this number of workers.
-fn run_to_horizon<G: Gate, L: Ledger, R: Threads + Wait + Sync>(
+fn run_to_horizon<G: Gate + Sync, L: Ledger, R: Threads + Wait + Sync>(
     rt: &R,
     alloc: Global,
     workers: Workers,
@@ -63,9 +64,11 @@ fn run_to_horizon<G: Gate, L: Ledger, R: Threads + Wait + Sync>(
 }
 
 /// Runs a study in the caller's thread. The world of a model takes the calls, which were accepted, at front 0, and
-/// advances to the horizon. It never waits, so its contract promises that it returns.
-pub fn run_study_sequentially<L: Ledger>(
+/// advances to the horizon. It calls the gate before each station of each window. It waits only if the gate does, so
+/// its contract promises that it returns if the gate does.
+pub fn run_study_sequentially<G: Gate, L: Ledger>(
     alloc: Global,
+    gate: &G,
     model: &Arc<Model>,
     calls: &[Call],
     steps: &mut Steps<L>,
@@ -87,7 +90,7 @@ pub fn run_study_sequentially<L: Ledger>(
         IsFaultOfAll model.now.value (clones_after_calls model.now.value (base ∷ []) calls.now) steps.old steps.new e) }
 {
     match open_world(alloc, model, calls) {
-        Ok(world) => run_alone_to_horizon(alloc, world, steps),
+        Ok(world) => run_alone_to_horizon(alloc, gate, world, steps),
         Err(NoMemory) => Err(StudyFault::NoMemory),
     }
 }
@@ -96,7 +99,7 @@ pub fn run_study_sequentially<L: Ledger>(
 /// advances to the horizon. With one worker it is `run_study_sequentially`.
 ///
 /// The contract does not depend on the number of workers or on the gate.
-pub fn run_study<G: Gate, L: Ledger, R: Threads + Wait + Sync>(
+pub fn run_study<G: Gate + Sync, L: Ledger, R: Threads + Wait + Sync>(
     rt: &R,
     alloc: Global,
     workers: Workers,
@@ -122,7 +125,7 @@ pub fn run_study<G: Gate, L: Ledger, R: Threads + Wait + Sync>(
         IsFaultOfAll model.now.value (clones_after_calls model.now.value (base ∷ []) calls.now) steps.old steps.new e) }
 {
     if workers.count == 1 {
-        return run_study_sequentially(alloc, model, calls, steps);
+        return run_study_sequentially(alloc, gate, model, calls, steps);
     }
     match open_world(alloc, model, calls) {
         Ok(world) => run_to_horizon(rt, alloc, workers, gate, world, steps),

@@ -22,7 +22,7 @@
 //! clones handle, each shared message once. If the limit is met, some log of these clones is longer, and the fault
 //! names that clone by its number. The number is the clone's place in the script, or the place of its watch after all
 //! of those. The contract does not depend on the number of workers or on the gate. `run_watched_sequentially` takes no
-//! handle that may wait, so it is proved to return.
+//! handle that may wait, so it is proved to return if its gate does.
 #![tactic(auto)]
 
 pub mod follow_up;

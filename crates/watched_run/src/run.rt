@@ -102,8 +102,9 @@ fn put_in_order(
 }
 
 // Runs the windows up to the horizon in the caller's thread.
-fn go_on_alone<L: Ledger>(
+fn go_on_alone<G: Gate, L: Ledger>(
     alloc: Global,
+    gate: &G,
     beginning: Beginning,
     steps: &mut Steps<L>,
 ) -> Result<WatchedWorld, StudyFault>
@@ -116,14 +117,14 @@ fn go_on_alone<L: Ledger>(
         world,
         mut follow_up,
     } = beginning;
-    match go_alone(alloc, &mut follow_up, world, steps) {
+    match go_alone(alloc, gate, &mut follow_up, world, steps) {
         Ok(world) => put_in_order(alloc, &follow_up, world),
         Err(fault) => Err(fault),
     }
 }
 
 // Runs the windows up to the horizon with this number of workers.
-fn go_on<G: Gate, L: Ledger, R: Threads + Wait + Sync>(
+fn go_on<G: Gate + Sync, L: Ledger, R: Threads + Wait + Sync>(
     rt: &R,
     alloc: Global,
     workers: Workers,
@@ -148,9 +149,11 @@ fn go_on<G: Gate, L: Ledger, R: Threads + Wait + Sync>(
 
 /// Runs a study with watches in the caller's thread. The world of a model takes the calls, which were accepted, at
 /// front 0, and advances to the horizon. After each window the branches of the watches that are due are created. It
-/// never waits, so its contract promises that it returns.
-pub fn run_watched_sequentially<L: Ledger>(
+/// calls the gate before each station of each window. It waits only if the gate does, so its contract promises that it
+/// returns if the gate does.
+pub fn run_watched_sequentially<G: Gate, L: Ledger>(
     alloc: Global,
+    gate: &G,
     model: &Arc<Model>,
     calls: &[Call],
     w: &Watches,
@@ -162,7 +165,7 @@ pub fn run_watched_sequentially<L: Ledger>(
         steps.old steps.new result }
 {
     match begin(alloc, model, calls, w) {
-        Ok(beginning) => go_on_alone(alloc, beginning, steps),
+        Ok(beginning) => go_on_alone(alloc, gate, beginning, steps),
         Err(NoMemory) => Err(StudyFault::NoMemory),
     }
 }
@@ -172,7 +175,7 @@ pub fn run_watched_sequentially<L: Ledger>(
 /// one worker it is `run_watched_sequentially`.
 ///
 /// The contract does not depend on the number of workers or on the gate.
-pub fn run_watched<G: Gate, L: Ledger, R: Threads + Wait + Sync>(
+pub fn run_watched<G: Gate + Sync, L: Ledger, R: Threads + Wait + Sync>(
     rt: &R,
     alloc: Global,
     workers: Workers,
@@ -188,7 +191,7 @@ pub fn run_watched<G: Gate, L: Ledger, R: Threads + Wait + Sync>(
         steps.old steps.new result }
 {
     if workers.count == 1 {
-        return run_watched_sequentially(alloc, model, calls, w, steps);
+        return run_watched_sequentially(alloc, gate, model, calls, w, steps);
     }
     match begin(alloc, model, calls, w) {
         Ok(beginning) => go_on(rt, alloc, workers, gate, beginning, steps),

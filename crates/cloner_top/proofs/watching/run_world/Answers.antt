@@ -1,4 +1,3 @@
-use Rattle.std.proofs.Common.{refl}
 use Rattle.cloner_top.proofs.WatchedRuns.{watched_exceeds, watched_may_put, watched_wrote}
 use Rattle.cloner_top.proofs.watching.run_world.Goals as goal
 

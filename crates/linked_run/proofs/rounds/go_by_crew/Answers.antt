@@ -4,8 +4,8 @@ use Rattle.linked_run.specs.Linking.{HasStopped}
 use Rattle.linked_run.proofs.Onwards.{HasGoneOn-round, HasStopped-round, fewer-left}
 use Rattle.linked_run.proofs.rounds.go_by_crew.Goals as goal
 
-pub round-round-requires-clause-going : goal.round-round-requires-clause-going
-round-round-requires-clause-going g c κs within done = absurd (false≢true (c.round-test.ensures.value.1 done))
+pub round-round-requires : goal.round-round-requires
+round-round-requires g c = record { going = λ done. absurd (false≢true (c.round-test.ensures.value.1 done)) }
 
 pub returns-in-Err-clause-stops : goal.returns-in-Err-clause-stops
 returns-in-Err-clause-stops g c =

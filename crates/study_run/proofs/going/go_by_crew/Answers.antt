@@ -7,7 +7,7 @@ use Rattle.study_run.proofs.Leading.{next_window}
 use Rattle.study_run.proofs.going.go_by_crew.Goals as goal
 
 pub window-window-requires-clause-above : goal.window-window-requires-clause-above
-window-window-requires-clause-above g c κs within =
+window-window-requires-clause-above g c =
     let w = c.window.world in
     let net = c.model.ensures.value in
     let valid = subst IsNet net c.horizon.ensures.valid in
