@@ -1,0 +1,4 @@
+pub mod Merging
+pub mod SetMarks
+pub mod Firsts
+pub mod Bounds
