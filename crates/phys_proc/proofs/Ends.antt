@@ -1,6 +1,7 @@
 -- The clones that have ended at a time.
 use Rattle.std.proofs.Common.{◌≡◌, ℕ, ◌<◌, ◌≤◌, ◌==◌, ◌&&◌, ◌||◌, not, min, Bool, true, false, cond, List}
 use Rattle.std.proofs.Common.{[], ◌∷◌, ◌++◌, inl, inr, refl, sym, ap, ◌∙◌, subst, arith, nat_lt, nat_le}
+use Rattle.std.proofs.Common.{get_or, length, zero, suc}
 use Rattle.std.proofs.lemmas.Bool.{cases_lt, lt-ltb, le-ltb, le-leb, lt-leb}
 use Rattle.sim_base.specs.declared.lists.TheConstants.{MAX_CLONES}
 use Rattle.phys_proc.specs.Ends.{ends_in, has_ended, AreEndsOfClones}
@@ -83,3 +84,10 @@ ends_in-bound horizon (e ∷ rest) c = by_test (e.0 == c) (ends_in-bound horizon
         → cond b (min e.1 (ends_in horizon rest c)) (ends_in horizon rest c) ≤ horizon
     by_test true l = omega (arith, l)
     by_test false l = l
+
+-- the number read from the ends is a valid clone number
+pub number_below : (es : List (ℕ × ℕ)) (i : ℕ) (d : ℕ × ℕ) → AreEndsOfClones es → i < length es → d ≡ get_or es i d
+    → d.0 < MAX_CLONES
+number_below [] i d f l e = absurd (omega arith)
+number_below (x ∷ es) zero d f l e = let h = ap (λ y. y.0) e in omega (arith, f.0, h)
+number_below (x ∷ es) (suc i) d f l e = number_below es i d f.1 (omega arith) e

@@ -1,8 +1,12 @@
 -- The end of a copy that has stopped.
 use Rattle.std.proofs.Common.{◌≡◌, ℕ, ◌+◌, ◌<◌, ◌≤◌, ◌&&◌, true, List, [], ◌∷◌, ◌++◌, refl, sym, ap, ◌∙◌, subst, arith}
+use Rattle.std.proofs.Common.{not}
+use Rattle.std.proofs.lemmas.Bool.{false≢true, and_parts}
 use Rattle.sim_base.specs.declared.message.Msg.{Msg}
 use Rattle.clone_sets.specs.Sets.{has, minus, union, size}
 use Rattle.clone_sets.specs.declared.set.CloneSet.{CloneSet}
+use Rattle.clone_sets.proofs.SetLaws.{has-empty, has-minus}
+use Rattle.copy_pending.specs.Merged.{IsPart}
 use Rattle.net_model.specs.Net.{Net}
 use Rattle.run_laws.proofs.Parts.{all_part_of}
 use Rattle.phys_proc.specs.Own.{StationCopy, MarkedMessages, IsCopy, IsAdvance, ComesFrom, NextDue, NothingDue, half}
@@ -11,6 +15,15 @@ use Rattle.phys_proc.specs.Stops.{IsFull, IsParting}
 use Rattle.phys_proc.proofs.Halves.{same_none}
 use Rattle.phys_proc.proofs.ComesFrom.{comes_from-start, advance-done, advance-over, advance-split, advance-from}
 use Rattle.phys_proc.proofs.ComesFrom.{first_half, second_half, first_smaller, second_smaller, parts_few}
+
+-- ---- the halves of a copy
+
+-- the others of a copy are some of its clones, if there are any
+pub others_part : (set takers c : CloneSet) → has (minus set takers) c ≡ true → IsPart (minus set takers) set
+others_part set takers c one = record {
+  some = λ e. false≢true (sym (has-empty c) ∙ ap (λ s. has s c) (sym e) ∙ one);
+  within = λ d h. (and_parts (has set d) (not (has takers d)) (sym (has-minus set takers d) ∙ h)).0;
+}
 
 -- ---- NothingDue and NextDue, about the present copy
 

@@ -15,3 +15,4 @@ pub mod RackViews
 pub mod Finishing
 pub mod InPlace
 pub mod CopyBounds
+pub mod Together

@@ -5,3 +5,4 @@ pub mod Racks
 pub mod StepOutputs
 pub mod Stops
 pub mod Events
+pub mod Together

@@ -1,5 +1,5 @@
 //! Advances one physical process (copy) to a window boundary.
-ghost use Rattle.std.specs.Prelude.{◌≡◌, [], ◌+◌, OnOk, IfOk};
+ghost use Rattle.std.specs.Prelude.{◌≡◌, [], ◌+◌, length, OnOk, IfOk, IfSome, IfNone};
 ghost use Rattle.clone_sets.specs.Sets.{empty};
 ghost use Rattle.phys_proc.specs.Own.{MayAdvance, IsAdvance, ComesFrom};
 ghost use Rattle.phys_proc.specs.Stops.{IsStop};
@@ -9,6 +9,7 @@ use crate::clone_ends::CloneEnds;
 use crate::copies::{Copies, lower_bound_of};
 use crate::copy::{PhysCopy, next_due};
 use crate::event::handle_least;
+use crate::quick::handle_packed;
 use arrayvec::ArrayVec;
 use clone_sets::CloneSet;
 use net_model::Model;
@@ -88,19 +89,52 @@ pub(crate) fn handle_together<L: Ledger>(
     ensures handled { OnOk result (stage.new.handled + steps.old ≡ stage.old.handled + steps.new) }
 {
     loop {
-        let Some(takers) = next_due(copy, ends, bound, model.horizon()) else {
+        let count = handle_packed(copy, model, station, ends, bound, &mut stage.sent, steps)?;
+        stage.handled += count;
+        if lower_bound_of(copy) >= bound {
             return Ok(Stop::Settled);
-        };
-        if takers == copy.set() {
-            if copy.log().len() >= model.limit() {
-                return Ok(Stop::Full);
-            }
-            stage.handled += 1;
-            handle_least(copy, model, station, out, &mut stage.sent, steps)?;
-        } else {
-            stage.takers = takers;
-            return Ok(Stop::Parts);
         }
+        if let Some(stop) = handle_next(copy, model, station, ends, bound, out, stage, steps)? {
+            return Ok(stop);
+        }
+    }
+}
+
+// Handles the next message if all clones take it. Otherwise returns why the copy stops.
+#[inline(never)]
+fn handle_next<L: Ledger>(
+    copy: &mut PhysCopy,
+    model: &Model,
+    station: u32,
+    ends: &CloneEnds,
+    bound: u64,
+    out: &mut ArrayVec<Msg, MAX_SENDS>,
+    stage: &mut StepOutput,
+    steps: &mut Steps<L>,
+) -> Result<Option<Stop>, NoMemory>
+    requires may_advance { MayAdvance model.now station bound stage.old.handled copy.old }
+    ensures onward { OnOk result (ComesFrom model.now station (ends_in model.now.horizon ends.now) bound copy.old
+        copy.new stage.old.sent.items stage.new.sent.items steps.old steps.new) }
+    ensures stop { IfOk result (λ o. IfSome o (λ stop. IsStop model.now.limit (ends_in model.now.horizon ends.now) bound
+        copy.new stage.new.takers stop)) }
+    ensures more { IfOk result (λ o. IfNone o (length copy.new.log ≡ length copy.old.log + 1)) }
+    ensures done { OnOk result (stage.new.done ≡ stage.old.done) }
+    ensures over { OnOk result (stage.new.over ≡ stage.old.over) }
+    ensures handled { OnOk result (stage.new.handled + steps.old ≡ stage.old.handled + steps.new) }
+{
+    let Some(takers) = next_due(copy, ends, bound, model.horizon()) else {
+        return Ok(Some(Stop::Settled));
+    };
+    if takers == copy.set() {
+        if copy.log().len() >= model.limit() {
+            return Ok(Some(Stop::Full));
+        }
+        stage.handled += 1;
+        handle_least(copy, model, station, out, &mut stage.sent, steps)?;
+        Ok(None)
+    } else {
+        stage.takers = takers;
+        Ok(Some(Stop::Parts))
     }
 }
 
@@ -130,7 +164,7 @@ pub(crate) fn bring_to_bound<L: Ledger>(
             stage.done.put(copy, lower_bound)?;
         }
         Stop::Full => {
-            stage.over = stage.over.union(copy.set);
+            stage.over = stage.over.union(copy.set());
         }
         Stop::Parts => {
             let (mut some, mut others) = copy.halves(alloc, stage.takers)?;

@@ -1,7 +1,7 @@
 //! Ends of clones: a list of clone numbers and times. From its end on a clone takes no message.
 //!
 //! If a clone is listed more than once, the least time counts; a clone that is not listed ends at the horizon.
-ghost use Rattle.std.specs.Prelude.{◌≡◌, ℕ, ◌<◌, ◌∷◌, ◌++◌, [], OnOk, OnErr};
+ghost use Rattle.std.specs.Prelude.{◌≡◌, ℕ, ◌<◌, ◌≤◌, ◌∷◌, ◌++◌, [], true, min, OnOk, OnErr};
 ghost use Rattle.sim_base.specs.declared.lists.TheConstants.{MAX_CLONES};
 ghost use Rattle.clone_sets.specs.Sets.{has};
 ghost use Rattle.phys_proc.specs.Ends.{ends_in, EndsWith, has_ended};
@@ -63,6 +63,32 @@ impl CloneEnds {
             }
         }
         end
+    }
+
+    /// A time before which none of these clones ends.
+    #[inline(always)]
+    pub fn first_of(&self, set: CloneSet) -> u64
+        ensures first { (horizon c : ℕ) → has set c ≡ true → min horizon result ≤ ends_in horizon self.now c }
+    {
+        if self.ended.is_empty() {
+            return u64::MAX;
+        }
+        self.first_end_of(set)
+    }
+
+    // The same if some clone ends.
+    #[inline(never)]
+    fn first_end_of(&self, set: CloneSet) -> u64
+        ensures first { (horizon c : ℕ) → has set c ≡ true → min horizon result ≤ ends_in horizon self.now c }
+    {
+        let mut first = u64::MAX;
+        for i in 0..self.ended.len() {
+            let (clone, end) = self.ended[i];
+            if set.has(clone) {
+                first = first.min(end);
+            }
+        }
+        first
     }
 
     /// The clones that have ended at this time.

@@ -39,13 +39,9 @@ impl Model for Copies {
 
 // A lower bound of the pending times of a copy.
 pub(crate) fn lower_bound_of(copy: &PhysCopy) -> u64
-    requires sorted { SortedMarked msg_cmp copy.now.pending }
     ensures lower { IsLowerBound result copy.now }
 {
-    match copy.pending.least_time() {
-        Some(time) => time,
-        None => u64::MAX,
-    }
+    copy.pending.lower_bound()
 }
 
 // A time that is not after any of these.
@@ -66,7 +62,7 @@ fn give(copy: &mut PhysCopy, lower_bound: &mut u64, msg: Msg, set: CloneSet) -> 
     ensures same { but_pending copy.new ≡ but_pending copy.old }
     ensures lower { IsLowerBound lower_bound.new copy.new }
 {
-    let shared = copy.set.meet(set);
+    let shared = copy.pending.set().meet(set);
     if !shared.is_empty() {
         copy.pending.insert(msg, shared)?;
         *lower_bound = (*lower_bound).min(msg.key.time);
@@ -93,7 +89,7 @@ fn deliver_in_order(
         if rest.is_empty() {
             return Ok(i.saturating_sub(1));
         }
-        rest = rest.minus(copies[i].set);
+        rest = rest.minus(copies[i].set());
         give(&mut copies[i], &mut bounds[i], msg, set)?;
     }
     Ok(copies.len().saturating_sub(1))
@@ -115,7 +111,7 @@ fn deliver_from(
     if guess >= copies.len() {
         return deliver_in_order(copies, bounds, msg, set);
     }
-    let rest = set.minus(copies[guess].set);
+    let rest = set.minus(copies[guess].set());
     give(&mut copies[guess], &mut bounds[guess], msg, set)?;
     if rest.is_empty() {
         return Ok(guess);
@@ -129,9 +125,8 @@ fn fork_copy(copy: &mut PhysCopy, old: u32, new: u32)
     requires numbers { AreCloneNumbers old new }
     ensures forked { copy.new ≡ copy_after_fork old new copy.old }
 {
-    if copy.set.has(old) {
-        copy.set = copy.set.with(new);
-        copy.pending.spread(CloneSet::one(old), CloneSet::one(new));
+    if copy.pending.set().has(old) {
+        copy.pending.fork(old, new);
     }
 }
 

@@ -6,33 +6,42 @@ ghost use Rattle.sim_base.specs.Order.{msg_cmp};
 ghost use Rattle.sim_base.specs.Marked.{SortedMarked};
 ghost use Rattle.phys_proc.specs.Own.{NextDue, NothingDue, half};
 ghost use Rattle.phys_proc.specs.Ends.{ends_in};
+ghost use Rattle.copy_pending.specs.Merged.{IsPart};
 
 use crate::clone_ends::CloneEnds;
 use clone_sets::CloneSet;
+use copy_pending::CopyPending;
 use log_chain::Log;
-use sim_base::{NoMemory, Pending};
+use sim_base::NoMemory;
 use stations::State;
 use std::alloc::Global;
 
-/// Physical process: a set of clones, their common state and log, and their pending messages.
+/// Physical process: the common state and log of a set of clones, and their pending messages.
 #[derive(Drop)]
 pub struct PhysCopy {
-    pub(crate) set: CloneSet,
     pub(crate) state: State,
     pub(crate) log: Log,
-    pub(crate) pending: Pending<CloneSet>,
+    // with the set of clones
+    pub(crate) pending: CopyPending,
 }
 
 impl std::marker::Model for PhysCopy {
     ghost use Rattle.phys_proc.specs.Own.{StationCopy};
+    ghost use Rattle.copy_pending.specs.Merged.{messages_of};
 
     ghost Value = { StationCopy };
 
-    ghost view = { λ p. record { set = p.set; state = p.state; log = p.log; pending = p.pending } };
+    ghost view = { λ p. record {
+      set = p.pending.set;
+      state = p.state;
+      log = p.log;
+      pending = messages_of p.pending;
+    } };
 }
 
 // The clones that take the next message: the least one before the bound that some clone of the copy takes. Messages
 // that none takes are skipped. The message is not removed: only its time and its marks are read.
+#[inline(never)]
 pub(crate) fn next_due(
     copy: &mut PhysCopy,
     ends: &CloneEnds,
@@ -51,7 +60,11 @@ pub(crate) fn next_due(
         let Some(marks) = copy.pending.least_marks() else {
             unreachable!()
         };
-        let takers = copy.set.meet(marks).minus(ends.ended_clones(time));
+        let takers = copy
+            .pending
+            .set()
+            .meet(marks)
+            .minus(ends.ended_clones(time));
         if !takers.is_empty() {
             return Some(takers);
         }
@@ -65,7 +78,7 @@ impl PhysCopy {
     pub fn set(&self) -> CloneSet
         ensures value { result ≡ self.now.set }
     {
-        self.set
+        self.pending.set()
     }
 
     /// The log of its station.
@@ -75,34 +88,32 @@ impl PhysCopy {
         &self.log
     }
 
-    /// The copy for some of its clones, and the copy for the others, which keeps the list of pending messages.
+    /// The copy for some of its clones, and the copy for the others, which keeps the heap of pending messages.
     pub(crate) fn halves(
         self,
         alloc: Global,
         some: CloneSet,
     ) -> Result<(PhysCopy, PhysCopy), NoMemory>
+        requires some { IsPart some self.set }
+        requires others { IsPart (minus self.set some) self.set }
         ensures first { IfOk result (λ p. p.0 ≡ half self some) }
         ensures second { IfOk result (λ p. p.1 ≡ half self (minus self.set some)) }
     {
         let PhysCopy {
-            set,
             state,
             mut log,
-            mut pending,
+            pending,
         } = self;
+        let others = pending.set().minus(some);
         let first = PhysCopy {
-            set: some,
             state: state.copy(alloc)?,
             log: log.share(alloc)?,
             pending: pending.cut(alloc, some)?,
         };
-        let others = set.minus(some);
-        pending.keep(others);
         let second = PhysCopy {
-            set: others,
             state,
             log,
-            pending,
+            pending: pending.keep(alloc, others)?,
         };
         Ok((first, second))
     }

@@ -24,7 +24,7 @@ pub(crate) fn least_of_clone(copy: &PhysCopy, c: u32, end: u64) -> Option<u64>
     ensures least { (ends : ℕ → ℕ) → end ≡ ends c → IsLeastTime (λ m. Carries has copy.now c ×
         In m (taken_at ends c copy.now.pending)) result }
 {
-    if !copy.set.has(c) {
+    if !copy.pending.set().has(c) {
         return None;
     }
     let Some(first) = copy.pending.least_with(CloneSet::one(c)) else {
@@ -39,7 +39,7 @@ pub(crate) fn least_of_copy(copy: &PhysCopy, ends: &CloneEnds, horizon: u64) -> 
     requires sorted { SortedMarked msg_cmp copy.now.pending }
     ensures least { IsLeastOfCopy (ends_in horizon ends.now) copy.now result }
 {
-    let mut alive = copy.set;
+    let mut alive = copy.pending.set();
     while let Some(first) = copy.pending.least_with(alive) {
         let time = first.0.key.time;
         if time >= horizon {

@@ -35,6 +35,7 @@ pub mod copy;
 mod event;
 mod leasts;
 pub mod proc;
+mod quick;
 pub mod rack;
 mod stepping;
 

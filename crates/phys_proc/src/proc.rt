@@ -12,6 +12,7 @@ ghost use Rattle.phys_proc.specs.Own.{IsLowerBoundOfAll};
 ghost use Rattle.phys_proc.specs.Ends.{ends_in};
 ghost use Rattle.phys_proc.specs.Procs.{IsProc, AreShared};
 ghost use Rattle.phys_proc.specs.Racks.{ShowsClones, view_of_copy};
+ghost use Rattle.copy_pending.specs.Merged.{messages_of};
 
 use crate::advancing::StepOutput;
 use crate::clone_ends::CloneEnds;
@@ -21,9 +22,10 @@ use crate::rack::Rack;
 use crate::stepping::step_copies;
 use arrayvec::ArrayVec;
 use clone_sets::CloneSet;
+use copy_pending::CopyPending;
 use log_chain::Log;
 use net_model::Model;
-use sim_base::{Lists, MAX_CLONES, Msg, NoMemory, Pending, Steps};
+use sim_base::{Lists, MAX_CLONES, Msg, NoMemory, Steps};
 use stations::MAX_SENDS;
 use stations::state::setup;
 use std::alloc::Global;
@@ -73,16 +75,13 @@ pub struct Gain {
 }
 
 // A first message, if there is one, pending for these clones.
-fn first_pending(
-    alloc: Global,
-    first: Option<Msg>,
-    set: CloneSet,
-) -> Result<Pending<CloneSet>, NoMemory>
-    ensures first { IfOk result (λ p. p ≡ first_pending' set first) }
+fn first_pending(alloc: Global, first: Option<Msg>, set: CloneSet) -> Result<CopyPending, NoMemory>
+    ensures set { IfOk result (λ p. p.set ≡ set) }
+    ensures first { IfOk result (λ p. messages_of p ≡ first_pending' set first) }
 {
-    let mut pending = Pending::new(alloc);
+    let mut pending = CopyPending::new(alloc, set);
     if let Some(msg) = first {
-        pending.insert(msg, set)?;
+        pending.insert_for_all(msg)?;
     }
     Ok(pending)
 }
@@ -101,7 +100,6 @@ fn opening(alloc: Global, model: &Model, station: u32) -> Result<Copies, NoMemor
     let mut copies = Copies::none(alloc);
     copies.put(
         PhysCopy {
-            set,
             state,
             log: Log::new(alloc),
             pending,

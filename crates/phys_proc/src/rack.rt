@@ -149,6 +149,7 @@ impl PhysCopy {
         ensures same { self.new ≡ self.old }
     {
         let log = self.log.share(alloc)?;
-        Ok(RackCopy { set: self.set, log })
+        let set = self.pending.set();
+        Ok(RackCopy { set, log })
     }
 }

@@ -1,10 +1,10 @@
-use Rattle.std.proofs.Common.{◌+◌, ◌<◌, ◌≤◌, ◌∙◌, ap, arith, subst}
-use Rattle.clone_sets.specs.Sets.{size, union}
+use Rattle.std.proofs.Common.{◌+◌, ◌<◌, ◌≤◌, ◌∙◌, ap, arith, subst, refl}
+use Rattle.clone_sets.specs.Sets.{minus, size, union}
 use Rattle.stations.specs.declared.sender.TheConstants.{MAX_COUNTS}
 use Rattle.phys_proc.specs.Ends.{ends_in}
-use Rattle.phys_proc.specs.Own.{StationCopy, may_handle}
+use Rattle.phys_proc.specs.Own.{half, may_handle}
 use Rattle.phys_proc.proofs.Finishing.{advance-settled, advance-full, advance-parts, some_fits, others_fit}
-use Rattle.phys_proc.proofs.Finishing.{some_smaller, others_smaller, both_few}
+use Rattle.phys_proc.proofs.Finishing.{some_smaller, others_smaller, both_few, others_part}
 use Rattle.phys_proc.proofs.ComesFrom.{left_few}
 use Rattle.phys_proc.proofs.advancing.+bring_to_bound.Goals as goal
 
@@ -23,7 +23,18 @@ returns-in-Full-clause-comes g t c = advance-full c.args.model.now c.args.statio
     (ends_in c.args.model.now.horizon c.args.ends.now) c.args.bound c.args.copy c.args.stage.now.sent.items
     c.args.steps.now c.requires.may_advance.fits c.args.stage.now.done c.args.stage.now.over c.union-stage.result
     (rw c.in-Full.is at c.requires.stop)
-    (c.union-stage.ensures.value ∙ ap (λ (u : StationCopy). union c.args.stage.now.over u.set) c.copy.view_is)
+    (c.union-stage.ensures.value ∙ ap (union c.args.stage.now.over) c.set.ensures.value)
+
+-- ---- Parts: the others are some of the clones
+
+pub halves-requires-clause-others : goal.halves-requires-clause-others
+halves-requires-clause-others g t c =
+    let set = c.args.copy.set in
+    let takers = c.args.stage.now.takers in
+    let fits = others_fit c.args.model.now c.args.station (ends_in c.args.model.now.horizon c.args.ends.now)
+    c.args.bound c.args.copy c.args.stage.now.sent.items c.args.steps.now c.requires.may_advance.fits takers
+    (rw c.in-Parts.is at c.requires.stop) (half c.args.copy (minus set takers)) refl in
+    others_part set takers fits.inhabited.0 fits.inhabited.1
 
 -- ---- Parts: those that take the message
 

@@ -1,25 +1,15 @@
-use Rattle.std.proofs.Common.{◌≡◌, ℕ, List, ◌<◌, arith, sym, ap, subst, ◌∙◌, length, eqb-true, refl}
-use Rattle.std.proofs.lemmas.Bool.{eqb-false}
-use Rattle.sim_base.specs.declared.message.Msg.{Msg}
-use Rattle.clone_sets.specs.declared.set.CloneSet.{CloneSet}
-use Rattle.phys_proc.specs.Own.{StationCopy, NextDue, NothingDue}
+use Rattle.std.proofs.Common.{◌∙◌, refl, arith}
 use Rattle.phys_proc.specs.Ends.{ends_in}
-use Rattle.phys_proc.proofs.Finishing.{settled_here, due_here}
-use Rattle.phys_proc.proofs.ComesFrom.{comes_from-start, comes_from-same, comes_from-new, comes_from-handle}
-use Rattle.phys_proc.proofs.ComesFrom.{fewer_left, longer_log}
+use Rattle.phys_proc.proofs.Finishing.{idle_here}
+use Rattle.phys_proc.proofs.ComesFrom.{comes_from-start, left_few}
+use Rattle.phys_proc.proofs.LowerBounds.{IsLowerBound-before}
+use Rattle.phys_proc.proofs.Together.{comes_from-on}
 use Rattle.phys_proc.proofs.advancing.handle_together.Goals as goal
-
--- the message that is due next is so by a horizon that is the same
-due_by_horizon : (ends : List (ℕ × ℕ)) {here horizon bound : ℕ} {copy new : StationCopy} {m : Msg} {takers : CloneSet}
-    → here ≡ horizon → NextDue (ends_in here ends) bound copy new m takers
-    → NextDue (ends_in horizon ends) bound copy new m takers
-due_by_horizon ends {here} {horizon} {bound} {copy} {new} {m} {takers} e d =
-    subst (λ h. NextDue (ends_in h ends) bound copy new m takers) e d
 
 -- ---- the loop begins
 
-pub loop-takers-init : goal.loop-takers-init
-loop-takers-init g c = record {
+pub loop-count-init : goal.loop-count-init
+loop-count-init g c = record {
   onward = comes_from-start c.args.model.now c.args.station (ends_in c.args.model.now.horizon c.args.ends.now)
       c.args.bound c.args.copy.now c.args.stage.now.sent.items c.args.steps.now c.requires.may_advance.fits;
   done = refl;
@@ -27,101 +17,79 @@ loop-takers-init g c = record {
   handled = refl;
 }
 
--- ---- Settled
+pub handle_packed-requires-clause-fits : goal.handle_packed-requires-clause-fits
+handle_packed-requires-clause-fits g c = c.loop-count.invariant.onward.fits
 
-pub returns-in_default-clause-onward : goal.returns-in_default-clause-onward
-returns-in_default-clause-onward g c =
-    let d = subst (λ h. NothingDue (ends_in h c.args.ends.now) c.args.bound c.loop-takers.copy c.next_due.new.copy)
-    c.horizon.ensures.value c.in_default.ensures.none in
-    comes_from-same c.args.model.now c.args.station (ends_in c.args.model.now.horizon c.args.ends.now) c.args.bound
-    c.args.copy.now c.loop-takers.copy c.next_due.new.copy c.args.stage.now.sent.items c.loop-takers.stage.sent.items
-    c.args.steps.now c.loop-takers.steps c.loop-takers.invariant.onward d.same
+-- ---- Settled: nothing is pending before the bound
 
-pub returns-in_default-clause-stop : goal.returns-in_default-clause-stop
-returns-in_default-clause-stop g c =
-    settled_here (ends_in c.args.model.now.horizon c.args.ends.now) c.args.bound c.loop-takers.copy c.next_due.new.copy
-    (subst (λ h. NothingDue (ends_in h c.args.ends.now) c.args.bound c.loop-takers.copy c.next_due.new.copy)
-    c.horizon.ensures.value c.in_default.ensures.none)
+pub returns-then-lower_bound_of-bound-clause-onward : goal.returns-then-lower_bound_of-bound-clause-onward
+returns-then-lower_bound_of-bound-clause-onward g c =
+    let l = c.loop-count in
+    comes_from-on c.args.model.now c.args.station (ends_in c.args.model.now.horizon c.args.ends.now) c.args.bound
+    c.args.copy.now l.copy c.handle_packed.new.copy c.args.stage.now.sent.items l.stage.sent.items
+    c.handle_packed.new.sent.items c.args.steps.now l.steps c.handle_packed.new.steps l.invariant.onward
+    c.in_ok-count.ensures.onward
 
--- ---- Full
+pub returns-then-lower_bound_of-bound-clause-stop : goal.returns-then-lower_bound_of-bound-clause-stop
+returns-then-lower_bound_of-bound-clause-stop g c =
+    idle_here (ends_in c.args.model.now.horizon c.args.ends.now) c.args.bound c.handle_packed.new.copy
+    c.handle_packed.new.copy
+    (IsLowerBound-before c.args.bound c.lower_bound_of.result c.handle_packed.new.copy c.if-lower_bound_of-bound.true
+    c.lower_bound_of.ensures.lower)
 
-pub returns-then-len-limit-clause-onward : goal.returns-then-len-limit-clause-onward
-returns-then-len-limit-clause-onward g c =
-    let d = due_by_horizon c.args.ends.now c.horizon.ensures.value c.in-Some.ensures.some.1 in
-    comes_from-same c.args.model.now c.args.station (ends_in c.args.model.now.horizon c.args.ends.now) c.args.bound
-    c.args.copy.now c.loop-takers.copy c.next_due.new.copy c.args.stage.now.sent.items c.loop-takers.stage.sent.items
-    c.args.steps.now c.loop-takers.steps c.loop-takers.invariant.onward d.same
+-- ---- another message
 
-pub returns-then-len-limit-clause-stop : goal.returns-then-len-limit-clause-stop
-returns-then-len-limit-clause-stop g c =
-    let d = due_by_horizon c.args.ends.now c.horizon.ensures.value c.in-Some.ensures.some.1 in
-    let log = ap length c.log.ensures.value in
+pub handle_next-requires : goal.handle_next-requires
+handle_next-requires g c =
+    let l = c.loop-count in
+    let net = c.args.model.now in
+    let ends = ends_in net.horizon c.args.ends.now in
+    let here = comes_from-on net c.args.station ends c.args.bound c.args.copy.now l.copy c.handle_packed.new.copy
+    c.args.stage.now.sent.items l.stage.sent.items c.handle_packed.new.sent.items c.args.steps.now l.steps
+    c.handle_packed.new.steps l.invariant.onward c.in_ok-count.ensures.onward in
+    let few = left_few net c.args.station ends c.args.bound c.args.copy.now c.handle_packed.new.copy
+    c.args.stage.now.sent.items c.handle_packed.new.sent.items c.args.steps.now c.handle_packed.new.steps here in
+    let most = c.requires.may_advance.at_most in
+    let h = l.invariant.handled in
+    let k = c.in_ok-count.ensures.counted in
+    let t = here.counted in
     record {
-      msg = c.in-Some.ensures.some.0;
-      takers = c.in-Some.takers;
-      due = due_here (ends_in c.args.model.now.horizon c.args.ends.now) c.args.bound c.loop-takers.copy
-          c.next_due.new.copy c.in-Some.ensures.some.0 c.in-Some.takers d;
-      all = eqb-true c.in-Some.takers c.set.result (sym c.if-eq.ensures) ∙ c.set.ensures.value;
-      full = let l = c.if-len-limit.true in let a = c.len.ensures in let b = c.limit.ensures.value in
-          omega (arith, l, a, b, log);
+      may_advance = record {
+        fits = here.fits;
+        time_max = c.requires.may_advance.time_max;
+        at_most = omega (arith, few, most, h, k, t);
+      };
     }
 
--- ---- Parts
+pub returns-in-Some-clause-onward : goal.returns-in-Some-clause-onward
+returns-in-Some-clause-onward g c =
+    let l = c.loop-count in
+    let net = c.args.model.now in
+    let ends = ends_in net.horizon c.args.ends.now in
+    let here = comes_from-on net c.args.station ends c.args.bound c.args.copy.now l.copy c.handle_packed.new.copy
+    c.args.stage.now.sent.items l.stage.sent.items c.handle_packed.new.sent.items c.args.steps.now l.steps
+    c.handle_packed.new.steps l.invariant.onward c.in_ok-count.ensures.onward in
+    comes_from-on net c.args.station ends c.args.bound c.args.copy.now c.handle_packed.new.copy c.handle_next.new.copy
+    c.args.stage.now.sent.items c.handle_packed.new.sent.items c.handle_next.new.stage.sent.items c.args.steps.now
+    c.handle_packed.new.steps c.handle_next.new.steps here c.in_ok-stop.ensures.onward
 
-pub returns-else-eq-clause-onward : goal.returns-else-eq-clause-onward
-returns-else-eq-clause-onward g c =
-    let d = due_by_horizon c.args.ends.now c.horizon.ensures.value c.in-Some.ensures.some.1 in
-    comes_from-same c.args.model.now c.args.station (ends_in c.args.model.now.horizon c.args.ends.now) c.args.bound
-    c.args.copy.now c.loop-takers.copy c.next_due.new.copy c.args.stage.now.sent.items c.loop-takers.stage.sent.items
-    c.args.steps.now c.loop-takers.steps c.loop-takers.invariant.onward d.same
-
-pub returns-else-eq-clause-stop : goal.returns-else-eq-clause-stop
-returns-else-eq-clause-stop g c =
-    let d = due_by_horizon c.args.ends.now c.horizon.ensures.value c.in-Some.ensures.some.1 in
+pub loop-count-preserved : goal.loop-count-preserved
+loop-count-preserved g c =
+    let l = c.loop-count in
+    let net = c.args.model.now in
+    let ends = ends_in net.horizon c.args.ends.now in
+    let here = comes_from-on net c.args.station ends c.args.bound c.args.copy.now l.copy c.handle_packed.new.copy
+    c.args.stage.now.sent.items l.stage.sent.items c.handle_packed.new.sent.items c.args.steps.now l.steps
+    c.handle_packed.new.steps l.invariant.onward c.in_ok-count.ensures.onward in
+    let h = l.invariant.handled in
+    let k = c.in_ok-count.ensures.counted in
+    let n = c.in_ok-stop.ensures.handled in
     record {
-      msg = c.in-Some.ensures.some.0;
-      due = due_here (ends_in c.args.model.now.horizon c.args.ends.now) c.args.bound c.loop-takers.copy
-          c.next_due.new.copy c.in-Some.ensures.some.0 c.in-Some.takers d;
-      differ = λ e. eqb-false c.in-Some.takers c.set.result (sym c.if-eq.ensures) (e ∙ sym c.set.ensures.value);
-    }
-
--- ---- a message that all clones take
-
-pub handle_least-requires-clause-fits : goal.handle_least-requires-clause-fits
-handle_least-requires-clause-fits g c =
-    let d = due_by_horizon c.args.ends.now c.horizon.ensures.value c.in-Some.ensures.some.1 in
-    (comes_from-new c.args.model.now c.args.station (ends_in c.args.model.now.horizon c.args.ends.now) c.args.bound
-    c.args.copy.now c.loop-takers.copy c.next_due.new.copy c.args.stage.now.sent.items c.loop-takers.stage.sent.items
-    c.args.steps.now c.loop-takers.steps c.loop-takers.invariant.onward
-    c.in-Some.ensures.some.0 c.in-Some.takers d).fits
-
-pub loop-takers-smaller : goal.loop-takers-smaller
-loop-takers-smaller g c =
-    let d = due_by_horizon c.args.ends.now c.horizon.ensures.value c.in-Some.ensures.some.1 in
-    let log = ap length c.log.ensures.value in
-    let less : length c.next_due.new.copy.log < c.args.model.now.limit = let l = c.if-len-limit.false in let a =
-    c.len.ensures in let b = c.limit.ensures.value in omega (arith, l, a, b, log) in
-    fewer_left c.args.model.now.limit (length c.next_due.new.copy.log) (length c.handle_least.new.copy.log)
-    (length c.loop-takers.copy.log) (longer_log c.args.model.now c.args.station c.next_due.new.copy
-    c.handle_least.new.copy _ _ c.in-Some.ensures.some.0 d.marks d.rest d.pending c.in_ok-handle_least.ensures.handled)
-    (ap (λ l. length l) d.same.copy.log) less
-
-pub loop-takers-preserved : goal.loop-takers-preserved
-loop-takers-preserved g c =
-    let d = due_by_horizon c.args.ends.now c.horizon.ensures.value c.in-Some.ensures.some.1 in
-    let inv = c.loop-takers.invariant in
-    let log = ap length c.log.ensures.value in
-    let less : length c.next_due.new.copy.log < c.args.model.now.limit = let l = c.if-len-limit.false in let a =
-    c.len.ensures in let b = c.limit.ensures.value in omega (arith, l, a, b, log) in
-    record {
-      onward = comes_from-handle c.args.model.now c.args.station (ends_in c.args.model.now.horizon c.args.ends.now)
-          c.args.bound c.args.copy.now c.loop-takers.copy c.next_due.new.copy c.args.stage.now.sent.items
-          c.loop-takers.stage.sent.items c.args.steps.now c.loop-takers.steps
-          inv.onward c.in-Some.ensures.some.0 c.in-Some.takers d
-          c.handle_least.new.copy c.handle_least.new.sent.items c.handle_least.new.steps
-          (eqb-true c.in-Some.takers c.set.result (sym c.if-eq.ensures) ∙ c.set.ensures.value) less
-          c.in_ok-handle_least.ensures.handled c.in_ok-handle_least.ensures.counted;
-      done = inv.done;
-      over = inv.over;
-      handled = let h = inv.handled in let k = c.in_ok-handle_least.ensures.counted in omega (arith, h, k);
+      onward = comes_from-on net c.args.station ends c.args.bound c.args.copy.now c.handle_packed.new.copy
+          c.handle_next.new.copy c.args.stage.now.sent.items c.handle_packed.new.sent.items
+          c.handle_next.new.stage.sent.items c.args.steps.now c.handle_packed.new.steps c.handle_next.new.steps here
+          c.in_ok-stop.ensures.onward;
+      done = c.in_ok-stop.ensures.done ∙ l.invariant.done;
+      over = c.in_ok-stop.ensures.over ∙ l.invariant.over;
+      handled = omega (arith, h, k, n);
     }

@@ -45,8 +45,8 @@ returns-then-is_empty-clause-given c =
     c.minus-rest.result c.give.new.copy
     (omega (arith, c.if-guess-len.false, c.len.ensures, c.args.copies.now.ok.0))
     c.requires.may_deliver.disjoint
-    (c.minus-rest.ensures.value ∙ ap (λ (u : StationCopy). minus c.args.set u.set)
-    (c.behind-copies.view_is ∙ c.index.ensures))
+    (c.minus-rest.ensures.value ∙ ap (minus c.args.set) c.set.ensures.value
+    ∙ ap (λ (u : StationCopy). minus c.args.set u.set) c.index.ensures)
     (c.in_ok-give.ensures.given ∙ ap (with_message c.args.msg c.args.set) c.index_mut.ensures.value)
     (eqb-true c.minus-rest.result empty (sym c.if-is_empty.ensures.value))
 
@@ -83,8 +83,8 @@ returns-clause-given c = c.in_ok-place.ensures.given
     c.minus-rest.result c.give.new.copy
     (omega (arith, c.if-guess-len.false, c.len.ensures, c.args.copies.now.ok.0))
     c.requires.may_deliver.disjoint
-    (c.minus-rest.ensures.value ∙ ap (λ (u : StationCopy). minus c.args.set u.set)
-    (c.behind-copies.view_is ∙ c.index.ensures))
+    (c.minus-rest.ensures.value ∙ ap (minus c.args.set) c.set.ensures.value
+    ∙ ap (λ (u : StationCopy). minus c.args.set u.set) c.index.ensures)
     (c.in_ok-give.ensures.given ∙ ap (with_message c.args.msg c.args.set) c.index_mut.ensures.value)
 
 pub returns-clause-same : goal.returns-clause-same

@@ -51,8 +51,8 @@ loop-i-preserved c =
           (c.in_ok-give.ensures.same ∙ ap but_pending c.index_mut.ensures.value) ∙ c.loop-i.invariant.same;
       each = bounds_set c.loop-i.bounds.items c.loop-i.copies.items c.loop-i.i c.give.new.lower_bound c.give.new.copy
           c.loop-i.invariant.each c.in_ok-give.ensures.lower;
-      rest = c.minus-rest.ensures.value ∙ ap₂ minus c.loop-i.invariant.rest (ap (λ (u : StationCopy). u.set)
-          (c.behind-copies.view_is ∙ (c.index.ensures ∙ ap (λ l. get_or l c.loop-i.i c.index.result.now) h)))
+      rest = c.minus-rest.ensures.value ∙ ap₂ minus c.loop-i.invariant.rest (c.set.ensures.value
+          ∙ ap (λ (u : StationCopy). u.set) (c.index.ensures ∙ ap (λ l. get_or l c.loop-i.i c.index.result.now) h))
           ∙ rest_more f c.args.set c.args.copies.now.items c.loop-i.i c.index.result.now
           (omega (arith, c.loop-i-test.true, c.loop-i.auto.i-end, c.len-i-end.ensures, c.args.copies.now.ok.0));
     }

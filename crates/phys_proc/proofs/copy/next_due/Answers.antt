@@ -1,4 +1,4 @@
-use Rattle.std.proofs.Common.{sym, refl, ap, subst, ◌∙◌, eqb-true, arith}
+use Rattle.std.proofs.Common.{◌&&◌, sym, refl, ap, subst, ◌∙◌, eqb-true, arith}
 use Rattle.std.proofs.lemmas.Bool.{eqb-false}
 use Rattle.clone_sets.specs.Sets.{has, empty}
 use Rattle.clone_sets.proofs.SetLaws.{has-empty}
@@ -21,7 +21,8 @@ returns-then-not-is_empty-clause-some c =
       f.0,
       next_is_due c.args.horizon c.args.ends.now c.args.bound c.requires.time_max c.args.copy.now _ f.0
           c.in-Some-least_marks.marks c.minus-takers.result c.meet.result c.ended_clones.result c.loop-time.invariant
-          c.meet.ensures.members c.minus-takers.ensures.members
+          (λ x. c.meet.ensures.members x ∙ ap (λ s. has s x && has c.in-Some-least_marks.marks x) c.set.ensures.value)
+          c.minus-takers.ensures.members
           (λ x. c.ended_clones.ensures.ended x ∙ ap (λ t. has_ended t c.args.ends.now x) (sym f.2))
           (let l = c.if-time-bound.false in let t = f.2 in omega (arith, l, t))
           (λ e. eqb-false c.minus-takers.result empty (sym c.if-not-is_empty.ensures.value) e) f.1,
@@ -42,10 +43,12 @@ loop-time-preserved c =
     let f = first_marked _ c.in-Some.time c.in-Some-least_marks.marks c.in-Some.ensures.value
     c.in-Some-least_marks.ensures.value in
     same_more (ends_in c.args.horizon c.args.ends.now) c.args.copy.now _ _ f.0 c.in-Some-least_marks.marks
-    c.loop-time.invariant (first_is _ _ _ _ f.1 c.take_message-passed.ensures.value.1) refl refl refl
+    c.loop-time.invariant (first_is _ _ _ _ f.1 c.take_message-passed.ensures.value.1)
+    c.take_message-passed.ensures.same refl refl
     (none_takes c.args.horizon c.args.ends.now c.args.bound c.requires.time_max c.args.copy.now _ f.0
     c.in-Some-least_marks.marks c.minus-takers.result c.meet.result c.ended_clones.result c.loop-time.invariant
-    c.meet.ensures.members c.minus-takers.ensures.members
+    (λ x. c.meet.ensures.members x ∙ ap (λ s. has s x && has c.in-Some-least_marks.marks x) c.set.ensures.value)
+    c.minus-takers.ensures.members
     (λ x. c.ended_clones.ensures.ended x ∙ ap (λ t. has_ended t c.args.ends.now x) (sym f.2))
     (let l = c.if-time-bound.false in let t = f.2 in omega (arith, l, t))
     (λ x. ap (λ k. has k x) (eqb-true c.minus-takers.result empty (sym c.if-not-is_empty.ensures.value)) ∙ has-empty x))

@@ -1,7 +1,8 @@
-use Rattle.std.proofs.Common.{◌<◌, arith, ap, sym, subst, length}
-use Rattle.sim_base.specs.declared.message.Msg.{Msg}
-use Rattle.phys_proc.specs.Own.{StationCopy, IsCopy, IsHandled}
-use Rattle.phys_proc.specs.Events.{HasTaken}
+use Rattle.std.proofs.Common.{◌≡◌, ◌<◌, arith, ap, sym, subst, length}
+use Rattle.clone_sets.specs.declared.set.CloneSet.{CloneSet}
+use Rattle.copy_pending.specs.Merged.{messages_of}
+use Rattle.phys_proc.specs.Own.{StationCopy, IsCopy, IsHandled, pending_after}
+use Rattle.phys_proc.specs.Together.{copy_of}
 use Rattle.phys_proc.proofs.Handling.{taken_is_handled}
 use Rattle.phys_proc.proofs.event.handle_least.Goals as goal
 
@@ -12,41 +13,31 @@ take_message-msg-requires g c =
     let n = ap length d.3 in
     record { nonempty = omega (arith, is, n) }
 
-pub returns-in-Some-clause-handled : goal.returns-in-Some-clause-handled
-returns-in-Some-clause-handled g c =
-    let a : StationCopy = record {
-      set = c.copy.inside.set;
-      state = c.copy.inside.state;
-      log = c.copy.inside.log;
-      pending = c.copy.inside.pending;
-    } in
-    let net = c.args.model.now in
-    let same = c.copy.view_is in
-    let fits = subst (IsCopy net c.args.station) (sym same) c.requires.fits in
-    let below = subst (λ (u : StationCopy). length u.log < net.limit) (sym same) c.requires.length_max in
-    subst (λ (u : StationCopy). IsHandled net c.args.station u c.log_quick.new.copy c.args.sent.now.items
-    c.log_quick.new.sent.items) same
-    (taken_is_handled net c.args.station a c.log_quick.new.copy c.take_message-msg.result
-    c.take_message-msg.ensures.value.0 c.take_message-msg.new.self c.args.sent.now.items c.log_quick.new.sent.items
-    c.take_message-msg.ensures.value.1 fits below
-    (subst (λ (m : Msg). HasTaken net c.args.station m (record a { pending = c.take_message-msg.new.self })
-    c.log_quick.new.copy c.args.sent.now.items c.log_quick.new.sent.items) c.in-Some.ensures.packed
-    c.in_ok-log_quick.ensures.taken))
-
 pub returns-clause-handled : goal.returns-clause-handled
 returns-clause-handled g c =
-    let a : StationCopy = record {
-      set = c.copy.inside.set;
-      state = c.copy.inside.state;
-      log = c.copy.inside.log;
-      pending = c.copy.inside.pending;
-    } in
+    let i = c.copy.inside in
+    let a : StationCopy = copy_of i.pending i.state i.log in
+    let new : StationCopy = copy_of c.send_all.new.pending c.handle.new.state c.push.new.self in
     let net = c.args.model.now in
-    let same = c.copy.view_is in
-    let fits = subst (IsCopy net c.args.station) (sym same) c.requires.fits in
-    let below = subst (λ (u : StationCopy). length u.log < net.limit) (sym same) c.requires.length_max in
-    subst (λ (u : StationCopy). IsHandled net c.args.station u c.log_whole.new.copy c.args.sent.now.items
-    c.log_whole.new.sent.items) same
-    (taken_is_handled net c.args.station a c.log_whole.new.copy c.take_message-msg.result
-    c.take_message-msg.ensures.value.0 c.take_message-msg.new.self c.args.sent.now.items c.log_whole.new.sent.items
-    c.take_message-msg.ensures.value.1 fits below c.in_ok-log_whole.ensures.taken)
+    let taken = c.take_message-msg.ensures in
+    let fits = subst (IsCopy net c.args.station) (sym c.copy.view_is) c.requires.fits in
+    let below = subst (λ (u : StationCopy). length u.log < net.limit) (sym c.copy.view_is) c.requires.length_max in
+    subst (λ (u : StationCopy). IsHandled net c.args.station u new c.args.sent.now.items c.send_all.new.sent.items)
+    c.copy.view_is
+    (taken_is_handled net c.args.station a new c.take_message-msg.result taken.value.0
+    (messages_of c.take_message-msg.new.self) c.args.sent.now.items c.send_all.new.sent.items
+    taken.value.1 fits below (record {
+      set = rw (taken.same) at c.in_ok-send_all.ensures.same;
+      sends = c.handle.new.out.items;
+      line = c.in_ok-line.line;
+      handles = c.in_ok-line.ensures.ok;
+      log = c.in_ok-push.ensures.ok;
+      pending = subst (λ (k : CloneSet). messages_of c.send_all.new.pending ≡ pending_after c.args.station k
+          c.handle.new.out.items (messages_of c.take_message-msg.new.self)) taken.same
+          (rw c.as_slice.ensures.value at c.in_ok-send_all.ensures.pending);
+      aside = rw (c.as_slice.ensures.value, taken.same) at c.in_ok-send_all.ensures.aside;
+      fits = c.in_ok-line.ensures.fits;
+      suits = c.in_ok-line.ensures.suits;
+      station = c.in_ok-line.ensures.own;
+      handled = c.in_ok-line.ensures.one_more;
+    }))
