@@ -105,8 +105,8 @@ fn word(walk: &Walk<'_>, place: u64) -> u64
     requires fit { FitWords walk.now }
     ensures value { result ≡ word_of place walk.now }
 {
-    match walk.key() {
-        Some(key) => key.word(place),
+    match walk.word(place) {
+        Some(word) => word,
         None => NO_WORD,
     }
 }

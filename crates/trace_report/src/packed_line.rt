@@ -2,7 +2,7 @@
 //!
 //! Its numbers have at most 32 bits, except for the count of a source, delay or router and a sink's sum of times. Each
 //! piece is one store of fixed size, and the next piece overwrites what it writes past its end.
-ghost use Rattle.std.specs.Prelude.{◌≡◌, ◌+◌, ◌/◌, ◌%◌, ◌^◌, ◌≤◌, ◌++◌, length, take, codes, decimal};
+ghost use Rattle.std.specs.Prelude.{◌≡◌, ◌≢◌, ◌+◌, ◌/◌, ◌%◌, ◌^◌, ◌≤◌, ◌++◌, length, take, codes, decimal};
 ghost use Rattle.sim_base.specs.declared.name.TheConstants.{MAX_NAME_LEN};
 ghost use Rattle.msg_heap.specs.Lines.{line_of};
 ghost use Rattle.msg_heap.specs.Packing.{key_at, receiver_at, payload_at};
@@ -133,6 +133,19 @@ fn put_set(bytes: &mut [u8], at: usize, model: &Model, names: &Names, low: u64) 
     line::put_payload(bytes, at, model, names, &payload_of_word(low))
 }
 
+// A space and the word of a job, for kind 1, or of a done.
+#[inline(always)]
+fn job_word(kind: u64) -> [u8; 8]
+    ensures job { kind ≡ 1 → take 5 result ≡ codes " job " }
+    ensures done { kind ≢ 1 → take 6 result ≡ codes " done " }
+{
+    if kind == 1 {
+        *b" job    "
+    } else {
+        *b" done   "
+    }
+}
+
 // Writes a space and the payload of a message, from the message's second word.
 #[inline(always)]
 fn put_payload(bytes: &mut [u8], at: usize, model: &Model, names: &Names, low: u64) -> usize
@@ -141,17 +154,15 @@ fn put_payload(bytes: &mut [u8], at: usize, model: &Model, names: &Names, low: u
     ensures written { WritesPiece (codes " " ++ payload_text model.now (payload_at low)) MAX_PAYLOAD
         at result bytes.old bytes.new }
 {
-    match low >> 62 {
-        0 => put8(bytes, at, *b" tick   ", 5),
-        1 => {
-            let at = put8(bytes, at, *b" job    ", 5);
-            put_job(bytes, at, model, names, low)
-        }
-        2 => {
-            let at = put8(bytes, at, *b" done   ", 6);
-            put_job(bytes, at, model, names, low)
-        }
-        _ => put_set(bytes, at, model, names, low),
+    let kind = low >> 62;
+    if kind == 0 {
+        put8(bytes, at, *b" tick   ", 5)
+    } else if kind == 3 {
+        put_set(bytes, at, model, names, low)
+    } else {
+        // one store for both words: a server's jobs and dones alternate, and such a jump is often predicted wrong
+        let at = put8(bytes, at, job_word(kind), 4 + kind as usize);
+        put_job(bytes, at, model, names, low)
     }
 }
 
@@ -284,6 +295,7 @@ fn put_counts(bytes: &mut [u8], at: usize, groups: &Groups, word: u64) -> usize
 }
 
 /// Writes the line of a packed entry at a place, and returns the place after it, as `write_line` does.
+#[inline(always)]
 pub fn write_packed(
     bytes: &mut [u8],
     at: usize,
