@@ -6,11 +6,11 @@
 //! ```text
 //! sim_base_lists, sim_base_messages, sim_base_pending    sim_base
 //! packed_limits                                          msg_heap and log_chain
-//! clone_sets_tests         log_merge_tests          solo_run_tests
+//! clone_sets_tests         log_chain_tests          sim_outer_tests
+//! copy_pending_tests       log_merge_tests          solo_run_tests
 //! decision_book_tests      msg_heap_tests           stations_tests
 //! decision_script_tests    msg_route_tests          study_generator_tests
 //! journal_text_tests       net_model_tests          trace_report_tests
-//! log_chain_tests          sim_outer_tests
 //! ```
 //!
 //! `counts` and `lines` test no crate. Five modules write their tables with `counts`, and two read their decisions
@@ -24,6 +24,8 @@
 
 #[cfg(test)]
 mod clone_sets_tests;
+#[cfg(test)]
+mod copy_pending_tests;
 #[cfg(test)]
 mod counts;
 #[cfg(test)]

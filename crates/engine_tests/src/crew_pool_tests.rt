@@ -94,7 +94,6 @@ pub(crate) enum Held {
 #[derive(Drop)]
 pub(crate) struct Notes {
     held: Held,
-    shares_small_work: bool,
     begun: AtomicU64,
     // a bit for each worker
     workers: AtomicU64,
@@ -102,10 +101,9 @@ pub(crate) struct Notes {
 }
 
 impl Notes {
-    pub(crate) fn new(held: Held, shares_small_work: bool) -> Notes {
+    pub(crate) fn new(held: Held) -> Notes {
         Notes {
             held,
-            shares_small_work,
             begun: AtomicU64::new(0),
             workers: AtomicU64::new(0),
             missed: AtomicU64::new(0),
@@ -124,7 +122,7 @@ impl Notes {
 }
 
 impl Gate for Notes {
-    fn before<R: Wait>(&self, _rt: &R, worker: u32, task: u32) {
+    fn before(&self, worker: u32, task: u32) {
         self.workers.fetch_or(1 << (worker % 64), Ordering::SeqCst);
         let before = self.begun.fetch_add(1, Ordering::SeqCst);
         let came = match self.held {
@@ -139,11 +137,7 @@ impl Gate for Notes {
         }
     }
 
-    fn before_call<R: Wait>(&self, _rt: &R, _analyst: u32, _k: u32) {}
-
-    fn shares_small_work(&self) -> bool {
-        self.shares_small_work
-    }
+    fn before_call(&self, _analyst: u32, _k: u32) {}
 }
 
 /// The items 0, 1, 2 and so on.
@@ -365,7 +359,7 @@ fn lead_crew<R: Threads + Wait + Sync>(
 
 /// Whether five tasks by two workers finish under a gate that holds these.
 fn five_held<R: Threads + Wait + Sync>(rt: &R, alloc: Global, held: Held) -> bool {
-    let gate = Notes::new(held, false);
+    let gate = Notes::new(held);
     let right = lead_crew(rt, alloc, &gate, Workers { count: 2 }, Plan::Five);
     right == Some(true) && gate.begun() == 5 && gate.have_begun(0b11)
 }
@@ -373,14 +367,14 @@ fn five_held<R: Threads + Wait + Sync>(rt: &R, alloc: Global, held: Held) -> boo
 /// Calls of all sizes by a crew of this number of workers.
 fn all_sizes_by<R: Threads + Wait + Sync>(rt: &R, alloc: Global, count: u32) -> Option<bool> {
     let workers = Workers::new(count)?;
-    let gate = Notes::new(Held::Nothing, false);
+    let gate = Notes::new(Held::Nothing);
     lead_crew(rt, alloc, &gate, workers, Plan::AllSizes(workers))
 }
 
 /// Calls of all sizes by a crew whose members are never started: the caller takes back their tasks.
 fn all_sizes_alone<R: Threads + Wait + Sync>(rt: &R, alloc: Global) -> Option<bool> {
     let workers = Workers { count: 4 };
-    let gate = Notes::new(Held::Nothing, false);
+    let gate = Notes::new(Held::Nothing);
     let (crew, _members) = Crew::begin(alloc, &gate, workers).ok()?;
     let bell = crew.bell().ok()?;
     Some(lead(rt, alloc, crew, Plan::AllSizes(workers), &bell))
@@ -420,7 +414,7 @@ fn workers_meet(rt: HostRuntime) {
 /// A member runs what the caller has started while the caller does other work.
 #[test]
 fn a_call_is_finished_later(rt: HostRuntime) {
-    let gate = Notes::new(Held::Nothing, false);
+    let gate = Notes::new(Held::Nothing);
     let right = lead_crew(
         &rt,
         rt.alloc(),

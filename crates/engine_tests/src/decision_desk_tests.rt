@@ -10,6 +10,7 @@ ghost use Rattle.decision_desk.specs.declared.desk.TheConstants.{MAX_PASSES};
 ghost use Rattle.live_study.specs.Driving.{MayTurn};
 ghost use Rattle.live_study.specs.Engines.{InStep, IsAhead};
 
+use crew_pool::NoGate;
 use decision_book::{Call, Reply};
 use decision_desk::{Desk, Helm, Pass, Receipt};
 use net_model::{Model, read_model};
@@ -361,7 +362,7 @@ fn take_turn_counted<L: Ledger, R: Wait>(
 {
     let (world, bound) = raise_front(rt, alloc, desk, helm, world)?;
     let mut steps = Steps::<L>::new(blank);
-    match world.window_in_place(alloc, bound, &mut steps) {
+    match world.window_in_place(alloc, &NoGate, bound, &mut steps) {
         Ok(world) => Ok(world),
         Err(_) => Err(NoMemory),
     }

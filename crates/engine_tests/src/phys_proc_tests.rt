@@ -199,3 +199,111 @@ fn desks_part(alloc: Global) -> Option<bool> {
 fn clones_part_at_a_set(rt: HostRuntime) {
     assert!(rt; desks_part(rt.alloc()) == Some(true));
 }
+
+/// The job of this count, number and time from two copies of its sender, one for each clone.
+fn in_parts(time: u64, number: u64, count: u64) -> [(Msg, CloneSet); 2] {
+    let msg = job(time, number, count, 3);
+    [(msg, CloneSet::one(0)), (msg, CloneSet::one(1))]
+}
+
+/// What comes at 5 in two parts is handled once for both clones, before a set for one of them separates them.
+fn parts_before_a_split(alloc: Global) -> Option<bool> {
+    let [zero, one] = in_parts(5, 1, 0);
+    let later = [
+        zero,
+        (job(8, 3, 1, 6), both()),
+        one,
+        (faster(8), CloneSet::one(1)),
+    ];
+    let flow = step_desk(alloc, ONE_DESK, 2, &later, &CloneEnds::none(alloc))?;
+    Some(comes_to(&flow, 8, 2, (0, 4, 1), (1, 5, 1)))
+}
+
+/// What comes at 10 in two parts is handled by each of the copies that the set at 8 separates.
+fn parts_after_a_split(alloc: Global) -> Option<bool> {
+    let [zero, one] = in_parts(10, 3, 1);
+    let later = [
+        (job(5, 1, 0, 3), both()),
+        one,
+        (faster(8), CloneSet::one(1)),
+        zero,
+    ];
+    let flow = step_desk(alloc, ONE_DESK, 2, &later, &CloneEnds::none(alloc))?;
+    Some(comes_to(&flow, 8, 2, (0, 4, 1), (1, 5, 1)))
+}
+
+/// Clone 1 ends at this time; the lengths of the logs of clone 0 and clone 1 after these messages.
+fn ended(
+    alloc: Global,
+    msgs: &[(Msg, CloneSet)],
+    end: u64,
+    handled: u64,
+    len: u64,
+) -> Option<bool> {
+    let mut ends = CloneEnds::none(alloc);
+    ends.end(1, end).ok()?;
+    let flow = step_desk(alloc, ONE_DESK, 2, msgs, &ends)?;
+    Some(comes_to(&flow, handled, 2, (0, 4, 1), (1, len, 1)))
+}
+
+/// Of a set and a job at its end a clone takes nothing.
+fn set_at_an_end(alloc: Global) -> Option<bool> {
+    ended(alloc, &jobs(), 8, 4, 1)
+}
+
+/// Jobs before its end, one of them in two parts, are taken by both clones, and what comes at its end by the other.
+fn parts_before_an_end(alloc: Global) -> Option<bool> {
+    let [zero, one] = in_parts(8, 3, 1);
+    ended(alloc, &[zero, (job(5, 1, 0, 3), both()), one], 9, 4, 2)
+}
+
+#[test]
+fn equal_messages_are_handled_once(rt: HostRuntime) {
+    assert!(rt;
+        parts_before_a_split(rt.alloc()) == Some(true),
+        "before a split"
+    );
+    assert!(rt;
+        parts_after_a_split(rt.alloc()) == Some(true),
+        "after a split"
+    );
+    assert!(rt; set_at_an_end(rt.alloc()) == Some(true), "a set at an end");
+    assert!(rt;
+        parts_before_an_end(rt.alloc()) == Some(true),
+        "before an end"
+    );
+}
+
+/// The desk with clone 2 next to clone 0.
+fn fork_third(proc: Proc, model: &Model) -> Option<Proc>
+    requires proc { IsProc model.now proc }
+    ensures proc { IfSome result (λ p. IsProc model.now p) }
+{
+    let mut proc = proc;
+    let living = proc.living();
+    if !living.has(0) || living.has(2) {
+        return None;
+    }
+    proc.fork(0, 2);
+    Some(proc)
+}
+
+/// A new clone takes what its old one takes, and not the set of another clone.
+fn third_is_like_the_first(alloc: Global) -> Option<bool> {
+    let model = read_model(alloc, ONE_DESK.as_bytes()).ok()?;
+    let proc = open_desk(alloc, &model, 2, &jobs())?;
+    let proc = fork_third(proc, &model)?;
+    let flow = step_to(
+        alloc,
+        proc,
+        &model,
+        &CloneEnds::none(alloc),
+        model.horizon(),
+    )?;
+    Some(comes_to(&flow, 8, 2, (2, 4, 2), (1, 5, 1)))
+}
+
+#[test]
+fn new_clone_takes_what_the_old_takes(rt: HostRuntime) {
+    assert!(rt; third_is_like_the_first(rt.alloc()) == Some(true));
+}

@@ -2,22 +2,24 @@
 //! and ends.
 ghost use Rattle.std.specs.Prelude.{◌≡◌, ◌<◌, ◌≤◌, ◌∷◌, [], IfOk, IfSome};
 ghost use Rattle.sim_base.specs.Clones.{base};
+ghost use Rattle.stations.specs.Runs.{next_front};
 ghost use Rattle.decision_book.specs.Journal.{after};
 ghost use Rattle.engine_tests.specs.Abreast.{AreAbreast};
 
 use crate::crew_pool_tests::{Held, Notes};
-use crew_pool::{Bell, Crew, Member, Workers, serve_all};
+use crew_pool::{Bell, Crew, Member, NoGate, Workers, serve_all};
 use decision_book::{Book, Call, Reply};
 use net_model::{Model, read_model};
 use phys_proc::{Found, Glance};
 use sample_models::{BUSY, ONE_DESK};
 use sim_base::{Change, Decision, Entry, Figures, Name, Param, Planned, Steps};
+use station_steps::WithCrew;
 use std::alloc::Global;
 use std::marker::Brand;
 use std::sync::ledger::{Blank, Ledger};
 use std::sync::{Arc, Wait};
-use std::thread;
 use std::thread::Threads;
+use std::{mem, thread};
 use world_core::{Window, World, WorldFault};
 
 /// A front, and the copies, the messages handled once and those handled alone, at the gate, the desk and the exit.
@@ -167,7 +169,7 @@ fn window_counted<L: Ledger>(
         return Ok(world);
     }
     let mut steps = Steps::<L>::new(blank);
-    world.window_in_place(alloc, bound, &mut steps)
+    world.window_in_place(alloc, &NoGate, bound, &mut steps)
 }
 
 /// The same with a new step counter.
@@ -177,12 +179,33 @@ pub(crate) fn window(alloc: Global, world: World, bound: u64) -> Result<World, W
     window_counted::<Brand>(alloc, world, bound, Blank::new(1))
 }
 
-/// A window of a crew to the next front, with the step counter of a blank.
+/// A window that the crew steps, although it may be small.
+fn step_by_crew<L: Ledger, R: Wait>(
+    rt: &R,
+    alloc: Global,
+    crew: &mut Crew<'_, Window, Notes>,
+    world: World,
+    bound: u64,
+    steps: &mut Steps<L>,
+) -> Result<World, WorldFault>
+    requires above { world.front < bound }
+    requires within { bound ≤ next_front world.net world.clones world.front }
+{
+    let gate = crew.gate();
+    let mut stepper = WithCrew::new(rt, mem::replace(crew, Crew::single(gate)));
+    let window = world.advance(alloc, &mut stepper, bound, steps);
+    *crew = stepper.into_crew();
+    window
+}
+
+/// A window to the next front, with the step counter of a blank. The crew steps it if it is to be shared, and otherwise
+/// if the last window was large.
 fn crew_window_counted<L: Ledger, R: Wait>(
     rt: &R,
     alloc: Global,
     crew: &mut Crew<'_, Window, Notes>,
     world: World,
+    shared: bool,
     blank: Blank,
 ) -> Result<World, WorldFault>
     requires name { blank.name ≡ L.name }
@@ -194,6 +217,9 @@ fn crew_window_counted<L: Ledger, R: Wait>(
         return Ok(world);
     }
     let mut steps = Steps::<L>::new(blank);
+    if shared {
+        return step_by_crew(rt, alloc, crew, world, bound, &mut steps);
+    }
     world.window(rt, alloc, crew, bound, &mut steps)
 }
 
@@ -203,8 +229,9 @@ fn crew_window<R: Wait>(
     alloc: Global,
     crew: &mut Crew<'_, Window, Notes>,
     world: World,
+    shared: bool,
 ) -> Result<World, WorldFault> {
-    crew_window_counted::<Brand, R>(rt, alloc, crew, world, Blank::new(1))
+    crew_window_counted::<Brand, R>(rt, alloc, crew, world, shared, Blank::new(1))
 }
 
 /// Whether the station's figures are these.
@@ -301,7 +328,7 @@ fn come_to_row<R: Wait>(
     world: World,
     row: Row,
 ) -> Option<World> {
-    let world = crew_window(rt, alloc, crew, world).ok()?;
+    let world = crew_window(rt, alloc, crew, world, true).ok()?;
     if has_row(&world, row) {
         Some(world)
     } else {
@@ -333,7 +360,7 @@ fn has_busy_windows<R: Wait>(
 ) -> Option<bool> {
     let mut world = busy(alloc)?;
     for _ in 0..3 {
-        world = crew_window(rt, alloc, crew, world).ok()?;
+        world = crew_window(rt, alloc, crew, world, false).ok()?;
     }
     Some(
         world.front() == 27001
@@ -629,11 +656,11 @@ fn limit_is_met(alloc: Global) -> Option<bool> {
     }
 }
 
-/// The gate is called for each of three stations in each of seven windows.
+/// The crew steps each window. The gate is called for each of three stations in each of seven windows.
 #[test]
 fn worked_example_by_any_number_of_workers(rt: HostRuntime) {
     for count in 1..=16 {
-        let gate = Notes::new(Held::Nothing, true);
+        let gate = Notes::new(Held::Nothing);
         let right = lead_crew(&rt, rt.alloc(), &gate, Workers { count }, Study::Worked);
         assert!(rt; right == Some(true) && gate.begun() == 21, "{}", count);
     }
@@ -642,7 +669,7 @@ fn worked_example_by_any_number_of_workers(rt: HostRuntime) {
 /// The caller is held at its first task of the second window until the member has begun one.
 #[test]
 fn busy_windows_run_by_a_crew(rt: HostRuntime) {
-    let gate = Notes::new(Held::Caller { except: 2 }, false);
+    let gate = Notes::new(Held::Caller { except: 2 });
     let right = lead_crew(&rt, rt.alloc(), &gate, Workers { count: 2 }, Study::Busy);
     assert!(rt; right == Some(true) && gate.have_begun(0b11));
 }

@@ -3,6 +3,7 @@ ghost use Rattle.std.specs.Prelude.{◌≡◌, ◌<◌};
 
 mod branches;
 mod failures;
+mod gates;
 mod great_numbers;
 mod kinds;
 mod last_station;
@@ -192,6 +193,17 @@ fn is_both(output: &[u8], traces: &str, report: &str) -> bool {
     }
 }
 
+/// The number of times that a piece occurs in a text.
+fn count_of(text: &[u8], piece: &[u8]) -> u32 {
+    let mut count: u32 = 0;
+    for at in 0..text.len() {
+        if text[at..].starts_with(piece) {
+            count = count.saturating_add(1);
+        }
+    }
+    count
+}
+
 /// What follows `begin` in the output; None if it begins in another way.
 fn rest_of<'a>(output: &'a [u8], begin: &[u8]) -> Option<&'a [u8]> {
     if !output.starts_with(begin) {
@@ -246,7 +258,7 @@ fn sink_of(alloc: Global, takes: usize, failing: &[(u32, usize)]) -> Result<MemS
 }
 
 /// The exit status of the program for these words, inputs and sinks, with the step counter of a blank.
-fn cloner_counted<G: Gate, L: Ledger, R: Threads + Wait + Sync>(
+fn cloner_counted<G: Gate + Sync, L: Ledger, R: Threads + Wait + Sync>(
     rt: &R,
     alloc: Global,
     gate: &G,
@@ -265,7 +277,7 @@ fn cloner_counted<G: Gate, L: Ledger, R: Threads + Wait + Sync>(
 }
 
 /// The result of the program for a model in the file `m`, a script in the file `s` and watches in the file `w`.
-fn run_with_watches<G: Gate, R: Threads + Wait + Sync>(
+fn run_with_watches<G: Gate + Sync, R: Threads + Wait + Sync>(
     rt: &R,
     alloc: Global,
     gate: &G,
@@ -293,7 +305,7 @@ fn run_with_watches<G: Gate, R: Threads + Wait + Sync>(
 }
 
 /// The result of the program for a model in the file `m` and a script in the file `s`.
-fn run_program<G: Gate, R: Threads + Wait + Sync>(
+fn run_program<G: Gate + Sync, R: Threads + Wait + Sync>(
     rt: &R,
     alloc: Global,
     gate: &G,

@@ -1,6 +1,7 @@
 //! Tests of live studies: analysts decide and look while the engine runs.
 use super::{
-    CUT, GOOD, LIMIT_3, LIVE, Outcome, Outside, RUN, comes, is_both, models, run_program, texts,
+    CUT, GOOD, LIMIT_3, LIVE, Outcome, Outside, RUN, comes, count_of, is_both, models, run_program,
+    texts,
 };
 use crew_pool::{Gate, NoGate};
 use sample_models::{BUSY, CLINIC, ONE_DESK, QUIET_JOURNAL};
@@ -21,24 +22,13 @@ fn place_of(text: &[u8], piece: &[u8]) -> Option<usize> {
     None
 }
 
-/// The number of times that a piece occurs in a text.
-fn count_of(text: &[u8], piece: &[u8]) -> u32 {
-    let mut count: u32 = 0;
-    for at in 0..text.len() {
-        if text[at..].starts_with(piece) {
-            count = count.saturating_add(1);
-        }
-    }
-    count
-}
-
 /// Whether a piece occurs in a text.
 fn has(text: &[u8], piece: &str) -> bool {
     place_of(text, piece.as_bytes()).is_some()
 }
 
 /// The result of `live` for one desk.
-fn live<G: Gate, R: Threads + Wait + Sync>(
+fn live<G: Gate + Sync, R: Threads + Wait + Sync>(
     rt: &R,
     alloc: Global,
     gate: &G,
@@ -207,13 +197,13 @@ struct CallsBesideTasks {
 }
 
 impl Gate for CallsBesideTasks {
-    fn before<R: Wait>(&self, _rt: &R, _worker: u32, _task: u32) {
+    fn before(&self, _worker: u32, _task: u32) {
         if self.tasks.fetch_add(1, Ordering::SeqCst) == 0 && !comes(&self.calls, 1) {
             self.missed.store(1, Ordering::SeqCst);
         }
     }
 
-    fn before_call<R: Wait>(&self, _rt: &R, analyst: u32, k: u32) {
+    fn before_call(&self, analyst: u32, k: u32) {
         if analyst == 1 && k == 1 {
             self.calls.fetch_add(1, Ordering::SeqCst);
             if !comes(&self.tasks, 1) {
@@ -255,11 +245,11 @@ struct LooksBesideTasks {
 }
 
 impl Gate for LooksBesideTasks {
-    fn before<R: Wait>(&self, _rt: &R, _worker: u32, _task: u32) {
+    fn before(&self, _worker: u32, _task: u32) {
         self.tasks.fetch_add(1, Ordering::SeqCst);
     }
 
-    fn before_call<R: Wait>(&self, _rt: &R, _analyst: u32, _k: u32) {
+    fn before_call(&self, _analyst: u32, _k: u32) {
         self.looks.fetch_add(1, Ordering::SeqCst);
         if !comes(&self.tasks, 4) {
             self.missed.store(1, Ordering::SeqCst);
@@ -293,7 +283,7 @@ struct WorkersMeet {
 }
 
 impl Gate for WorkersMeet {
-    fn before<R: Wait>(&self, _rt: &R, _worker: u32, _task: u32) {
+    fn before(&self, _worker: u32, _task: u32) {
         // while this task is held, only another worker can begin one
         let task = self.tasks.fetch_add(1, Ordering::SeqCst);
         if task == self.before && !comes(&self.tasks, task.saturating_add(2)) {
@@ -301,13 +291,13 @@ impl Gate for WorkersMeet {
         }
     }
 
-    fn before_call<R: Wait>(&self, _rt: &R, _analyst: u32, _k: u32) {}
+    fn before_call(&self, _analyst: u32, _k: u32) {}
 }
 
 /// Whether two workers meet in a busy window.
-fn meet<R: Threads + Wait + Sync>(rt: &R, alloc: Global, mode: &str, before: u64) -> bool {
+fn meet<R: Threads + Wait + Sync>(rt: &R, alloc: Global, mode: &str) -> bool {
     let gate = WorkersMeet {
-        before,
+        before: 2,
         tasks: AtomicU64::new(0),
         missed: AtomicU64::new(0),
     };
@@ -315,19 +305,18 @@ fn meet<R: Threads + Wait + Sync>(rt: &R, alloc: Global, mode: &str, before: u64
     match run_program(rt, alloc, &gate, &words, BUSY, "", &GOOD) {
         Ok(ended) => {
             ended.status == 0
-                && gate.tasks.load(Ordering::SeqCst) > before
+                && gate.tasks.load(Ordering::SeqCst) > gate.before
                 && gate.missed.load(Ordering::SeqCst) == 0
         }
         Err(_) => false,
     }
 }
 
-/// The caller steps the first window of two stations; in `run` it does so without the gate. The window is so large that
-/// the second one goes to the crew.
+/// The caller steps the first window of two stations. It is so large that the second one goes to the crew.
 #[test]
 fn workers_meet(rt: HostRuntime) -> Result<(), Fail> {
-    for (mode, before) in [("run", 0), ("live", 2)] {
-        assert!(rt; meet(&rt, rt.alloc(), mode, before), "{}", mode);
+    for mode in ["run", "live"] {
+        assert!(rt; meet(&rt, rt.alloc(), mode), "{}", mode);
     }
     Ok(())
 }

@@ -1,11 +1,10 @@
 //! Tests with many branches, many lines, and many workers.
-use super::{FAST, GOOD, PLAIN, REFUSED, RUN, Row, comes, is_both, models, run_program, texts};
-use crew_pool::{Gate, NoGate};
+use super::{FAST, GOOD, PLAIN, REFUSED, RUN, Row, models, run_program, texts};
+use crew_pool::NoGate;
 use sample_models::{BUSY, CLINIC, ONE_DESK};
 use sim_base::NoMemory;
 use std::alloc::Global;
 use std::sync::Wait;
-use std::sync::atomic::{AtomicU64, Ordering};
 use std::test::Fail;
 use std::thread::Threads;
 
@@ -193,58 +192,5 @@ fn busy_by_four_workers(rt: HostRuntime) -> Result<(), Fail> {
 #[test]
 fn clinic_by_four_workers(rt: HostRuntime) -> Result<(), Fail> {
     assert!(rt; same_for_all(&rt, rt.alloc(), "4", CLINIC, texts::CLINIC_SCRIPT));
-    Ok(())
-}
-
-/// Records the tasks of the windows of three stations. The first call is held until there is a second one, which only
-/// another worker can make.
-#[derive(Drop)]
-struct TaskNumbers {
-    calls: AtomicU64,
-    // three bits for each window, one for each task number
-    tasks: AtomicU64,
-    missed: AtomicU64,
-}
-
-impl Gate for TaskNumbers {
-    fn before<R: Wait>(&self, _rt: &R, _worker: u32, task: u32) {
-        let call = self.calls.fetch_add(1, Ordering::SeqCst);
-        if call < 21 && task < 3 {
-            let window = (call / 3) as u32;
-            self.tasks
-                .fetch_or(1 << (3 * window + task), Ordering::SeqCst);
-        }
-        if call == 0 && !comes(&self.calls, 2) {
-            self.missed.store(1, Ordering::SeqCst);
-        }
-    }
-
-    fn before_call<R: Wait>(&self, _rt: &R, _analyst: u32, _k: u32) {}
-
-    fn shares_small_work(&self) -> bool {
-        true
-    }
-}
-
-/// Each three consecutive calls have one each of tasks 0, 1 and 2: the three stations in each of seven windows.
-#[test]
-fn windows_counted(rt: HostRuntime) -> Result<(), Fail> {
-    let gate = TaskNumbers {
-        calls: AtomicU64::new(0),
-        tasks: AtomicU64::new(0),
-        missed: AtomicU64::new(0),
-    };
-    let words = ["run", "m", "s", "--workers", "4"];
-    let ended = run_program(&rt, rt.alloc(), &gate, &words, ONE_DESK, FAST, &GOOD)?;
-    assert!(rt;
-        is_both(
-            ended.output(),
-            texts::BASE_AND_FAST,
-            texts::BASE_AND_FAST_REPORT
-        )
-    );
-    assert!(rt; gate.calls.load(Ordering::SeqCst) == 21);
-    assert!(rt; gate.tasks.load(Ordering::SeqCst) == 0x1f_ffff);
-    assert!(rt; gate.missed.load(Ordering::SeqCst) == 0);
     Ok(())
 }
