@@ -1,4 +1,5 @@
 pub mod Ends
+pub mod Sent
 pub mod Own
 pub mod Procs
 pub mod Racks

@@ -20,6 +20,6 @@ pub record MayStepCopies (net : Net) (s bound : ℕ) (copies : List StationCopy)
 -- no copy has reached the bound yet, nothing was sent or handled, and no clone is over the limit
 pub record IsNewOutput (stage : StepOutput) : Type 0 where
   pub none : stage.done ≡ []
-  pub silent : stage.sent.items ≡ []
+  pub silent : stage.sent ≡ []
   pub under : stage.over ≡ empty
   pub idle : stage.handled ≡ 0

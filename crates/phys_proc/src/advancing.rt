@@ -10,6 +10,7 @@ use crate::copies::{Copies, lower_bound_of};
 use crate::copy::{PhysCopy, next_due};
 use crate::event::handle_least;
 use crate::quick::handle_packed;
+use crate::sent::SentMessages;
 use arrayvec::ArrayVec;
 use clone_sets::CloneSet;
 use net_model::Model;
@@ -25,7 +26,7 @@ pub(crate) struct StepOutput {
     /// The copies that have reached the bound.
     pub done: Copies,
     /// The messages to other stations so far, each with the clones that send it.
-    pub sent: Vec<(Msg, CloneSet)>,
+    pub sent: SentMessages,
     /// The clones whose logs would get longer than the limit.
     pub over: CloneSet,
     /// The number of messages handled.
@@ -35,20 +36,36 @@ pub(crate) struct StepOutput {
 }
 
 impl StepOutput {
-    /// A stage with nothing handled yet; sends are appended to these.
-    pub fn of(alloc: Global, sent: Vec<(Msg, CloneSet)>) -> StepOutput
+    /// A stage with nothing handled and nothing sent. It allocates nothing.
+    pub fn new(alloc: Global) -> StepOutput
         ensures done { result.done ≡ [] }
-        ensures sent { result.sent.items ≡ sent.items }
+        ensures sent { result.sent ≡ [] }
         ensures over { result.over ≡ empty }
         ensures handled { result.handled ≡ 0 }
     {
         StepOutput {
             done: Copies::none(alloc),
-            sent,
+            sent: SentMessages::new(alloc),
             over: CloneSet::empty(),
             handled: 0,
             takers: CloneSet::empty(),
         }
+    }
+
+    /// Begins again with nothing handled and nothing sent.
+    #[inline(always)]
+    pub fn restart(&mut self, alloc: Global)
+        ensures done { self.new.done ≡ [] }
+        ensures sent { self.new.sent ≡ [] }
+        ensures over { self.new.over ≡ empty }
+        ensures handled { self.new.handled ≡ 0 }
+    {
+        if !self.done.is_empty() {
+            self.done = Copies::none(alloc);
+        }
+        self.sent.clear();
+        self.over = CloneSet::empty();
+        self.handled = 0;
     }
 }
 
@@ -79,7 +96,7 @@ pub(crate) fn handle_together<L: Ledger>(
     requires may_advance { MayAdvance model.now station bound stage.old.handled copy.old }
     // result: the advanced copy, its sends, and a step for each message
     ensures onward { OnOk result (ComesFrom model.now station (ends_in model.now.horizon ends.now) bound copy.old
-        copy.new stage.old.sent.items stage.new.sent.items steps.old steps.new) }
+        copy.new stage.old.sent stage.new.sent steps.old steps.new) }
     // the reason to stop: nothing is due, the limit is reached, or its clones part
     ensures stop { IfOk result (λ stop. IsStop model.now.limit (ends_in model.now.horizon ends.now) bound copy.new
         stage.new.takers stop) }
@@ -114,7 +131,7 @@ fn handle_next<L: Ledger>(
 ) -> Result<Option<Stop>, NoMemory>
     requires may_advance { MayAdvance model.now station bound stage.old.handled copy.old }
     ensures onward { OnOk result (ComesFrom model.now station (ends_in model.now.horizon ends.now) bound copy.old
-        copy.new stage.old.sent.items stage.new.sent.items steps.old steps.new) }
+        copy.new stage.old.sent stage.new.sent steps.old steps.new) }
     ensures stop { IfOk result (λ o. IfSome o (λ stop. IsStop model.now.limit (ends_in model.now.horizon ends.now) bound
         copy.new stage.new.takers stop)) }
     ensures more { IfOk result (λ o. IfNone o (length copy.new.log ≡ length copy.old.log + 1)) }
@@ -154,7 +171,7 @@ pub(crate) fn bring_to_bound<L: Ledger>(
     requires may_advance { MayAdvance model.now station bound stage.old.handled copy }
     requires stop { IsStop model.now.limit (ends_in model.now.horizon ends.now) bound copy stage.old.takers stop }
     ensures comes { OnOk result (IsAdvance model.now station (ends_in model.now.horizon ends.now) bound copy
-        stage.old.done stage.new.done stage.old.sent.items stage.new.sent.items stage.old.over stage.new.over
+        stage.old.done stage.new.done stage.old.sent stage.new.sent stage.old.over stage.new.over
         steps.old steps.new) }
     ensures handled { OnOk result (stage.new.handled + steps.old ≡ stage.old.handled + steps.new) }
 {

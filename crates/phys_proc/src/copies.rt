@@ -1,17 +1,19 @@
 //! The physical processes of a station, with a lower bound for each of the time stamps of its pending messages.
-ghost use Rattle.std.specs.Prelude.{◌≡◌, ◌∷◌, ◌++◌, [], ◌<◌, ◌≤◌, ℕ, length, slice_index, OnOk, IfOk, map};
+ghost use Rattle.std.specs.Prelude.{◌≡◌, ◌≢◌, ◌∷◌, ◌++◌, [], ◌<◌, ◌≤◌, ◌↔◌, ℕ, length, true, false};
+ghost use Rattle.std.specs.Prelude.{slice_index, slice_get, Some, OnOk, IfOk, IsTrue, map};
 ghost use Rattle.std.specs.List.{AllZip};
 ghost use Rattle.sim_base.specs.Marked.{SortedMarked};
 ghost use Rattle.sim_base.specs.Order.{msg_cmp};
-ghost use Rattle.clone_sets.specs.Sets.{has};
+ghost use Rattle.clone_sets.specs.Sets.{has, empty};
 ghost use Rattle.run_laws.specs.Copies.{Disjoint};
 ghost use Rattle.phys_proc.specs.Racks.{view_of_copy};
 ghost use Rattle.phys_proc.specs.Own.{with_message, copy_after_fork, but_pending, IsLowerBound, IsLowerBoundOfAll};
-ghost use Rattle.phys_proc.specs.Own.{MayDeliver, AreCloneNumbers};
+ghost use Rattle.phys_proc.specs.Own.{MayDeliver, AreCloneNumbers, StationCopy};
 
 use crate::copy::PhysCopy;
 use crate::rack::RackCopy;
 use clone_sets::CloneSet;
+use msg_heap::PackedMsg;
 use sim_base::{Msg, NoMemory};
 use std::alloc::Global;
 use std::marker::Model;
@@ -20,9 +22,9 @@ use std::mem;
 /// Copies of one station, and for each a lower bound of the times of its pending messages.
 #[derive(Drop)]
 pub(crate) struct Copies {
-    copies: Vec<PhysCopy>,
+    pub(crate) copies: Vec<PhysCopy>,
     // for each copy, at the same index, a lower bound of its pending times: reading it does not touch the copy's memory
-    bounds: Vec<u64>,
+    pub(crate) bounds: Vec<u64>,
 }
 
 impl Model for Copies {
@@ -120,6 +122,29 @@ fn deliver_from(
     Ok(place)
 }
 
+// Adds a message for all clones of the copy.
+#[inline(always)]
+fn give_all(copy: &mut PhysCopy, lower_bound: &mut u64, msg: PackedMsg) -> Result<(), NoMemory>
+    requires nonempty { copy.old.set ≢ empty }
+    requires lower { IsLowerBound lower_bound.old copy.old }
+    ensures given { OnOk result (copy.new ≡ with_message msg copy.old.set copy.old) }
+    ensures same { but_pending copy.new ≡ but_pending copy.old }
+    ensures lower { IsLowerBound lower_bound.new copy.new }
+{
+    copy.pending.insert_packed(msg)?;
+    *lower_bound = (*lower_bound).min(msg.time());
+    Ok(())
+}
+
+// Whether the copy at `guess` has exactly these clones, and there is one.
+#[inline(always)]
+fn is_at(copies: &[PhysCopy], set: CloneSet, guess: usize) -> bool
+    ensures at { IsTrue result → (a : StationCopy) × (slice_get copies.now guess ≡ Some a) × (a.set ≡ set) }
+    ensures some { IsTrue result → set ≢ empty }
+{
+    guess < copies.len() && !set.is_empty() && copies[guess].set() == set
+}
+
 // Adds the clone `new` next to the clone `old`, if the copy has that one.
 fn fork_copy(copy: &mut PhysCopy, old: u32, new: u32)
     requires numbers { AreCloneNumbers old new }
@@ -176,25 +201,30 @@ impl Copies {
         Ok(())
     }
 
-    /// Puts copies before these. `bounds` bounds the pending times of each. If out of memory, all copies are lost.
-    pub fn put_before(
-        &mut self,
-        alloc: Global,
-        copies: Vec<PhysCopy>,
-        bounds: Vec<u64>,
-    ) -> Result<(), NoMemory>
-        requires each { AllZip IsLowerBound bounds.items copies.items }
-        ensures all { OnOk result (self.new ≡ copies.items ++ self.old) }
+    /// Puts copies behind these. If out of memory, all copies are lost.
+    #[inline(never)]
+    pub fn append(&mut self, alloc: Global, more: Copies) -> Result<(), NoMemory>
+        ensures all { OnOk result (self.new ≡ self.old ++ more) }
     {
-        let mut copies = copies;
-        let mut bounds = bounds;
-        let mut last = mem::replace(&mut self.copies, Vec::new(alloc));
-        let mut last_bounds = mem::replace(&mut self.bounds, Vec::new(alloc));
+        let Copies {
+            copies: mut last,
+            bounds: mut last_bounds,
+        } = more;
+        let mut copies = mem::replace(&mut self.copies, Vec::new(alloc));
+        let mut bounds = mem::replace(&mut self.bounds, Vec::new(alloc));
         copies.append(&mut last)?;
         bounds.append(&mut last_bounds)?;
         self.copies = copies;
         self.bounds = bounds;
         Ok(())
+    }
+
+    /// Whether there are none.
+    #[inline(always)]
+    pub fn is_empty(&self) -> bool
+        ensures value { IsTrue result ↔ (self.now ≡ []) }
+    {
+        self.copies.is_empty()
     }
 
     /// Adds a message to the copies, for their clones in the set. The search begins at the index `guess`, and the index
@@ -211,6 +241,26 @@ impl Copies {
     {
         let place = deliver_from(&mut self.copies, &mut self.bounds, msg, set, guess)?;
         Ok(place)
+    }
+
+    /// Adds a packed message to the copy at `guess`, if that has exactly these clones. Returns whether it has.
+    #[inline(always)]
+    pub fn deliver_packed(
+        &mut self,
+        msg: PackedMsg,
+        set: CloneSet,
+        guess: usize,
+    ) -> Result<bool, NoMemory>
+        requires disjoint { Disjoint has self.old }
+        ensures given { IfOk result (λ done. done ≡ true → self.new ≡ map (with_message msg set) self.old) }
+        ensures left { IfOk result (λ done. done ≡ false → self.new ≡ self.old) }
+        ensures same { map but_pending self.new ≡ map but_pending self.old }
+    {
+        if is_at(self.copies.as_slice(), set, guess) {
+            give_all(&mut self.copies[guess], &mut self.bounds[guess], msg)?;
+            return Ok(true);
+        }
+        Ok(false)
     }
 
     /// Adds the clone `new` next to the clone `old`.
@@ -235,15 +285,6 @@ impl Copies {
         ensures lower { IsLowerBoundOfAll result self.now }
     {
         least_of(self.bounds())
-    }
-
-    /// The copies, and for each a lower bound of its pending times.
-    pub fn into_parts(self) -> (Vec<PhysCopy>, Vec<u64>)
-        ensures same { result.0.items ≡ self }
-        ensures each { AllZip IsLowerBound result.1.items self }
-    {
-        let Copies { copies, bounds } = self;
-        (copies, bounds)
     }
 
     /// For each copy, at the same index, a lower bound of its pending times.

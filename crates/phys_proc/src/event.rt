@@ -6,8 +6,8 @@ ghost use Rattle.sim_base.specs.declared.message.Msg.{Msg as Msg'};
 ghost use Rattle.phys_proc.specs.Own.{IsCopy, IsHandled, sent_after, pending_after};
 
 use crate::copy::PhysCopy;
+use crate::sent::SentMessages;
 use arrayvec::ArrayVec;
-use clone_sets::CloneSet;
 use copy_pending::CopyPending;
 use net_model::Model;
 use sim_base::{Entry, Msg, NoMemory, Steps};
@@ -21,14 +21,14 @@ pub(crate) fn handle_least<L: Ledger>(
     model: &Model,
     station: u32,
     out: &mut ArrayVec<Msg, MAX_SENDS>,
-    sent: &mut Vec<(Msg, CloneSet)>,
+    sent: &mut SentMessages,
     steps: &mut Steps<L>,
 ) -> Result<(), NoMemory>
     requires due { (m : Msg') × (k : CloneSet') × (q : List (Msg' × CloneSet')) × (copy.old.pending ≡ (m, k) ∷ q) ×
         (m.key.time < model.now.horizon) }
     requires fits { IsCopy model.now station copy.old }
     requires length_max { length copy.old.log < model.now.limit }
-    ensures handled { OnOk result (IsHandled model.now station copy.old copy.new sent.old.items sent.new.items) }
+    ensures handled { OnOk result (IsHandled model.now station copy.old copy.new sent.old sent.new) }
     ensures counted { OnOk result (steps.new ≡ steps.old + 1) }
 {
     let msg = copy.pending.take_message();
@@ -44,18 +44,18 @@ fn send_all(
     station: u32,
     sends: &[Msg],
     pending: &mut CopyPending,
-    sent: &mut Vec<(Msg, CloneSet)>,
+    sent: &mut SentMessages,
 ) -> Result<(), NoMemory>
     ensures pending { OnOk result (messages_of pending.new
         ≡ pending_after station pending.old.set sends.now (messages_of pending.old)) }
     ensures same { OnOk result (pending.new.set ≡ pending.old.set) }
-    ensures aside { OnOk result (sent.new.items ≡ sent_after station pending.old.set sends.now sent.old.items) }
+    ensures aside { OnOk result (sent.new ≡ sent_after station pending.old.set sends.now sent.old) }
 {
     for msg in sends {
         if msg.to == station {
             pending.insert_for_all(*msg)?;
         } else {
-            sent.push((*msg, pending.set()))?;
+            sent.push(*msg, pending.set())?;
         }
     }
     Ok(())

@@ -18,7 +18,7 @@
 //!
 //! ```text
 //! let gain = proc.advance(alloc, &model, &ends, bound, &mut sent, &mut steps)?;
-//! for (msg, set) in sent { /* the receiver's */ proc.deliver(msg, set)?; }
+//! for i in 0..sent.len() { let (msg, set) = sent.at(i); /* the receiver's */ proc.deliver(msg, set)?; }
 //! ```
 //!
 //! Cost: a station with nothing due costs one comparison. A copy is stepped in place, and a message costs the same as
@@ -37,9 +37,11 @@ mod leasts;
 pub mod proc;
 mod quick;
 pub mod rack;
+pub mod sent;
 mod stepping;
 
 pub use clone_ends::CloneEnds;
 pub use copy::PhysCopy;
 pub use proc::{Gain, Proc};
 pub use rack::{Found, Glance, Rack};
+pub use sent::{SentMessages, SentMsg};

@@ -11,6 +11,7 @@ ghost use Rattle.phys_proc.specs.Own.{with_message, copy_after_fork, but_pending
 ghost use Rattle.phys_proc.specs.Own.{IsLowerBoundOfAll};
 ghost use Rattle.phys_proc.specs.Ends.{ends_in};
 ghost use Rattle.phys_proc.specs.Procs.{IsProc, AreShared};
+ghost use Rattle.phys_proc.specs.StepOutputs.{IsNewOutput};
 ghost use Rattle.phys_proc.specs.Racks.{ShowsClones, view_of_copy};
 ghost use Rattle.copy_pending.specs.Merged.{messages_of};
 
@@ -19,11 +20,13 @@ use crate::clone_ends::CloneEnds;
 use crate::copies::Copies;
 use crate::copy::PhysCopy;
 use crate::rack::Rack;
+use crate::sent::SentMessages;
 use crate::stepping::step_copies;
 use arrayvec::ArrayVec;
 use clone_sets::CloneSet;
 use copy_pending::CopyPending;
 use log_chain::Log;
+use msg_heap::PackedMsg;
 use net_model::Model;
 use sim_base::{Lists, MAX_CLONES, Msg, NoMemory, Steps};
 use stations::MAX_SENDS;
@@ -48,6 +51,8 @@ pub struct Proc {
     // buffer for the sends of one message, allocated by the first step and then reused: an empty one is over a kilobyte
     // to write
     out: Option<Box<ArrayVec<Msg, MAX_SENDS>>>,
+    // what a step has done so far, also kept to reuse its memory
+    stage: Option<Box<StepOutput>>,
 }
 
 impl std::marker::Model for Proc {
@@ -120,8 +125,17 @@ fn guess_of(places: &[u8], set: CloneSet) -> usize {
     }
 }
 
+// Stores the hint for the copy of the first of these clones, if it is another than before.
+#[inline(always)]
+fn note_place(places: &mut Vec<u8>, set: CloneSet, before: usize, place: usize) {
+    if place != before {
+        store_place(places, set, place);
+    }
+}
+
 // Stores the hint for the copy of the first of these clones.
-fn note_place(places: &mut Vec<u8>, set: CloneSet, place: usize) {
+#[inline(never)]
+fn store_place(places: &mut Vec<u8>, set: CloneSet, place: usize) {
     if let Some(who) = set.first() {
         if let Some(guess) = places.get_mut(who as usize) {
             *guess = place.min(GUESSES - 1) as u8;
@@ -137,6 +151,34 @@ fn buffer(
     match used {
         Some(out) => Ok(out),
         None => Ok(Box::new(alloc, ArrayVec::new())?),
+    }
+}
+
+// The progress of a step at its start: what was used before, or a new one.
+#[inline(always)]
+fn fresh(alloc: Global, used: Option<Box<StepOutput>>) -> Result<Box<StepOutput>, NoMemory>
+    ensures new { IfOk result (λ stage. IsNewOutput stage.value) }
+{
+    match used {
+        Some(mut stage) => {
+            stage.restart(alloc);
+            Ok(stage)
+        }
+        None => Ok(Box::new(alloc, StepOutput::new(alloc))?),
+    }
+}
+
+// The result of a step at its end. Its sends are exchanged for those in `sent`.
+#[inline(always)]
+fn gain_of(stage: &mut StepOutput, sent: &mut SentMessages) -> Gain
+    ensures sent { sent.new ≡ stage.old.sent }
+    ensures over { result.over ≡ stage.old.over }
+    ensures handled { result.handled ≡ stage.old.handled }
+{
+    mem::swap(&mut stage.sent, sent);
+    Gain {
+        over: stage.over,
+        handled: stage.handled,
     }
 }
 
@@ -165,10 +207,11 @@ impl Proc {
             copies,
             places,
             out: None,
+            stage: None,
         })
     }
 
-    /// Steps the copies to the bound, in place; their sends to other stations are put into `sent`, which must be empty.
+    /// Steps the copies to the bound, in place; their sends to other stations replace those in `sent`.
     /// If out of memory, or if some clone is over the limit, the copies and `sent` are meaningless.
     pub fn advance<L: Ledger>(
         &mut self,
@@ -176,16 +219,15 @@ impl Proc {
         model: &Model,
         ends: &CloneEnds,
         bound: u64,
-        sent: &mut Vec<(Msg, CloneSet)>,
+        sent: &mut SentMessages,
         steps: &mut Steps<L>,
     ) -> Result<Gain, NoMemory>
         requires proc { IsProc model.now self.old }
         requires time_max { bound ≤ model.now.horizon }
-        requires silent { sent.old.items ≡ [] }
         // result: the copies at the bound and their sends, if no log is over the limit
         ensures windows { IfOk result (λ g. g.over ≡ empty →
             IsStepped (simulation model.now) has (ends_in model.now.horizon ends.now) self.old.station bound
-            self.old.copies self.new.copies sent.new.items) }
+            self.old.copies self.new.copies sent.new) }
         // or the clones whose logs would get longer than the limit
         ensures over { IfOk result (λ g. AreOver (simulation model.now) has (ends_in model.now.horizon ends.now)
             self.old.station bound self.old.copies g.over) }
@@ -202,16 +244,13 @@ impl Proc {
     {
         // for its clause: the model is a network that keeps the rules
         let _horizon = model.horizon();
-        let living = self.living;
-        let before = self.handled;
         // for its clauses: the number of living clones is within the limit
-        let _clones = living.len();
+        let _clones = self.living.len();
         let mut out = buffer(alloc, self.out.take())?;
-        let mut stage = StepOutput::of(alloc, mem::replace(sent, Vec::new(alloc)));
-        let copies = self.take_copies(alloc);
-        step_copies(
+        let mut stage = fresh(alloc, self.stage.take())?;
+        let stepped = step_copies(
             alloc,
-            copies,
+            &mut self.copies,
             model,
             self.station,
             ends,
@@ -219,42 +258,30 @@ impl Proc {
             &mut out,
             &mut stage,
             steps,
-        )?;
-        let StepOutput {
-            done,
-            sent: all,
-            over,
-            handled,
-            takers: _,
-        } = stage;
-        self.out = Some(out);
-        *sent = all;
-        if over.is_empty() {
-            self.copies = done;
-            self.living = living;
-            self.handled = before + handled;
+        );
+        if let Err(error) = stepped {
+            self.living = CloneSet::empty();
+            self.handled = 0;
+            self.copies = Copies::none(alloc);
+            return Err(error);
         }
-        Ok(Gain { over, handled })
-    }
-
-    // Takes the copies out. Then no clone lives.
-    fn take_copies(&mut self, alloc: Global) -> Copies
-        ensures copies { result ≡ self.old.copies }
-        ensures none { self.new ≡ record {
-          station = self.old.station;
-          living = empty;
-          handled = 0;
-          copies = [];
-        } }
-    {
-        self.living = CloneSet::empty();
-        self.handled = 0;
-        mem::replace(&mut self.copies, Copies::none(alloc))
+        let gain = gain_of(&mut stage, sent);
+        self.out = Some(out);
+        self.stage = Some(stage);
+        if gain.over.is_empty() {
+            self.handled += gain.handled;
+        } else {
+            self.living = CloneSet::empty();
+            self.handled = 0;
+            self.copies = Copies::none(alloc);
+        }
+        Ok(gain)
     }
 
     /// Adds a message for its clones in the set.
     ///
     /// If out of memory, some of the copies may have it; nothing else of them has changed.
+    #[inline(never)]
     pub fn deliver(&mut self, msg: Msg, set: CloneSet) -> Result<(), NoMemory>
         requires target { msg.to ≡ self.old.station }
         // result: the message is pending for the station's clones in the set
@@ -268,8 +295,28 @@ impl Proc {
     {
         let guess = guess_of(self.places.as_slice(), set);
         let place = self.copies.deliver_by_hint(msg, set, guess)?;
-        note_place(&mut self.places, set, place);
+        note_place(&mut self.places, set, guess, place);
         Ok(())
+    }
+
+    /// Adds a packed message for its clones in the set, as `deliver` does.
+    #[inline(always)]
+    pub fn deliver_packed(&mut self, msg: PackedMsg, set: CloneSet) -> Result<(), NoMemory>
+        requires target { msg.to ≡ self.old.station }
+        // result: the message is pending for the station's clones in the set
+        ensures given { OnOk result (self.new.copies ≡ map (with_message msg set) self.old.copies) }
+        ensures proc { OnOk result ((net : Net) → IsProc net self.old → IsProc net self.new) }
+        // invariant, also if out of memory: everything except the pending messages
+        ensures same { map but_pending self.new.copies ≡ map but_pending self.old.copies }
+        ensures station { self.new.station ≡ self.old.station }
+        ensures living { self.new.living ≡ self.old.living }
+        ensures handled { self.new.handled ≡ self.old.handled }
+    {
+        let guess = guess_of(self.places.as_slice(), set);
+        if self.copies.deliver_packed(msg, set, guess)? {
+            return Ok(());
+        }
+        self.deliver(msg.msg(), set)
     }
 
     /// Adds the clone `new`, which has no end, next to the clone `old`: to its copy, and to the marks of its pending

@@ -17,12 +17,12 @@ ghost use Rattle.phys_proc.specs.Together.{AreAlive, copy_of, is_to};
 
 use crate::clone_ends::CloneEnds;
 use crate::copy::PhysCopy;
-use clone_sets::CloneSet;
+use crate::sent::SentMessages;
 use copy_pending::CopyPending;
 use log_chain::Log;
 use msg_heap::{Content, OptionalMsg, PackedMsg};
 use net_model::{Model, Station};
-use sim_base::{Msg, NoMemory, Steps};
+use sim_base::{NoMemory, Steps};
 use stations::state::{handle_quick, is_quick};
 use stations::{QuickSends, State};
 use std::sync::ledger::Ledger;
@@ -35,13 +35,13 @@ pub(crate) fn handle_packed<L: Ledger>(
     station: u32,
     ends: &CloneEnds,
     bound: u64,
-    sent: &mut Vec<(Msg, CloneSet)>,
+    sent: &mut SentMessages,
     steps: &mut Steps<L>,
 ) -> Result<u64, NoMemory>
     requires fits { IsCopy model.now station copy.old }
     requires time_max { bound ≤ model.now.horizon }
     ensures onward { OnOk result (ComesFrom model.now station (ends_in model.now.horizon ends.now) bound copy.old
-        copy.new sent.old.items sent.new.items steps.old steps.new) }
+        copy.new sent.old sent.new steps.old steps.new) }
     ensures counted { IfOk result (λ count. steps.new ≡ steps.old + count) }
 {
     let together = bound
@@ -69,7 +69,7 @@ fn run_packed<L: Ledger>(
     model: &Model,
     station: u32,
     together: u64,
-    sent: &mut Vec<(Msg, CloneSet)>,
+    sent: &mut SentMessages,
     steps: &mut Steps<L>,
 ) -> Result<u64, NoMemory>
     requires fits { IsCopy model.now station (copy_of pending.old state.old log.old) }
@@ -77,7 +77,7 @@ fn run_packed<L: Ledger>(
     requires time_max { together ≤ model.now.horizon }
     ensures onward { (ends : ℕ → ℕ) (bound : ℕ) → AreAlive ends bound together pending.old.set → OnOk result
         (ComesFrom model.now station ends bound (copy_of pending.old state.old log.old)
-        (copy_of pending.new state.new log.new) sent.old.items sent.new.items steps.old steps.new) }
+        (copy_of pending.new state.new log.new) sent.old sent.new steps.old steps.new) }
     ensures counted { IfOk result (λ count. steps.new ≡ steps.old + count) }
 {
     let room = model.limit() - log.len();
@@ -125,7 +125,7 @@ fn take_event<L: Ledger>(
     model: &Model,
     site: &Station,
     event: QuickEvent,
-    sent: &mut Vec<(Msg, CloneSet)>,
+    sent: &mut SentMessages,
     steps: &mut Steps<L>,
 ) -> Result<(), NoMemory>
     // required: the station of the network, which may take the message, and its numbers are small
@@ -138,7 +138,7 @@ fn take_event<L: Ledger>(
     // result: the copy without this message has taken it
     ensures taken { OnOk result (HasTaken model.now event.msg.to event.msg
         (copy_of (without_first pending.old) state.old log.old) (copy_of pending.new state.new log.new)
-        sent.old.items sent.new.items) }
+        sent.old sent.new) }
     ensures counted { OnOk result (steps.new ≡ steps.old + 1) }
     // its numbers stay small for one message less, and other messages stay as they are
     ensures quick { OnOk result ((n : ℕ) → IsQuick (n + 1) state.old → IsQuick n state.new) }
@@ -157,14 +157,14 @@ fn send_quick(
     first: PackedMsg,
     sends: QuickSends,
     pending: &mut CopyPending,
-    sent: &mut Vec<(Msg, CloneSet)>,
+    sent: &mut SentMessages,
 ) -> Result<(), NoMemory>
     requires first { IsFirstForAll first pending.old }
     requires later { AllByRecursion (λ m. first.key.time < m.key.time) (sends_of sends) }
     ensures pending { OnOk result (messages_of pending.new
         ≡ pending_after first.to pending.old.set (sends_of sends) (messages_of (without_first pending.old))) }
-    ensures aside { OnOk result (sent.new.items
-        ≡ sent_after first.to pending.old.set (sends_of sends) sent.old.items) }
+    ensures aside { OnOk result (sent.new
+        ≡ sent_after first.to pending.old.set (sends_of sends) sent.old) }
     ensures set { OnOk result (pending.new.set ≡ pending.old.set) }
     ensures partial { OnOk result (pending.new.partial ≡ pending.old.partial) }
 {
@@ -197,11 +197,11 @@ fn send_packed(
     station: u32,
     msg: OptionalMsg,
     pending: &mut CopyPending,
-    sent: &mut Vec<(Msg, CloneSet)>,
+    sent: &mut SentMessages,
 ) -> Result<(), NoMemory>
     ensures pending { OnOk result (messages_of pending.new
         ≡ pending_after station pending.old.set (as_list msg) (messages_of pending.old)) }
-    ensures aside { OnOk result (sent.new.items ≡ sent_after station pending.old.set (as_list msg) sent.old.items) }
+    ensures aside { OnOk result (sent.new ≡ sent_after station pending.old.set (as_list msg) sent.old) }
     ensures set { OnOk result (pending.new.set ≡ pending.old.set) }
     ensures partial { OnOk result (pending.new.partial ≡ pending.old.partial) }
 {
@@ -209,7 +209,7 @@ fn send_packed(
         if msg.to() == station {
             pending.insert_packed(msg)?;
         } else {
-            sent.push((msg.msg(), pending.set()))?;
+            sent.push_packed(msg, pending.set())?;
         }
     }
     Ok(())

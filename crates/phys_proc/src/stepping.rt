@@ -14,6 +14,7 @@ use net_model::Model;
 use sim_base::{Msg, NoMemory, Steps};
 use stations::MAX_SENDS;
 use std::alloc::Global;
+use std::mem;
 use std::sync::ledger::Ledger;
 
 // Steps the copies in place. Copies whose clones part are taken out, and the resulting copies are put with the finished
@@ -35,7 +36,7 @@ fn step_copies_in_place<L: Ledger>(
     requires new { IsNewOutput stage.old }
     // result: the copies at the bound, in place or finished, their sends, and the clones over the limit
     ensures stepped { OnOk result (IsStepResult model.now station (ends_in model.now.horizon ends.now) bound
-        copies.old.items (copies.new.items ++ stage.new.done) stage.new.sent.items stage.new.over steps.old steps.new) }
+        copies.old.items (copies.new.items ++ stage.new.done) stage.new.sent stage.new.over steps.old steps.new) }
     // lower bounds of the pending times of each copy in place
     ensures each { OnOk result (AllZip IsLowerBound bounds.new.items copies.new.items) }
     // counts: the messages handled
@@ -78,9 +79,10 @@ fn step_copies_in_place<L: Ledger>(
 
 /// Steps all copies of a station to the bound, each in place. If out of memory, they are lost. `out` is a buffer for
 /// the sends of one message.
+#[inline(always)]
 pub(crate) fn step_copies<L: Ledger>(
     alloc: Global,
-    copies: Copies,
+    copies: &mut Copies,
     model: &Model,
     station: u32,
     ends: &CloneEnds,
@@ -89,17 +91,16 @@ pub(crate) fn step_copies<L: Ledger>(
     stage: &mut StepOutput,
     steps: &mut Steps<L>,
 ) -> Result<(), NoMemory>
-    requires may_step { MayStepCopies model.now station bound copies }
+    requires may_step { MayStepCopies model.now station bound copies.old }
     requires new { IsNewOutput stage.old }
-    ensures stepped { OnOk result (IsStepResult model.now station (ends_in model.now.horizon ends.now) bound copies
-        stage.new.done stage.new.sent.items stage.new.over steps.old steps.new) }
+    ensures stepped { OnOk result (IsStepResult model.now station (ends_in model.now.horizon ends.now) bound copies.old
+        copies.new stage.new.sent stage.new.over steps.old steps.new) }
     ensures handled { OnOk result (stage.new.handled + steps.old ≡ steps.new) }
 {
-    let (mut standing, mut bounds) = copies.into_parts();
-    step_copies_in_place(
+    let stepped = step_copies_in_place(
         alloc,
-        &mut standing,
-        &mut bounds,
+        &mut copies.copies,
+        &mut copies.bounds,
         model,
         station,
         ends,
@@ -107,7 +108,14 @@ pub(crate) fn step_copies<L: Ledger>(
         out,
         stage,
         steps,
-    )?;
-    stage.done.put_before(alloc, standing, bounds)?;
+    );
+    if let Err(error) = stepped {
+        copies.copies.clear();
+        copies.bounds.clear();
+        return Err(error);
+    }
+    if !stage.done.is_empty() {
+        copies.append(alloc, mem::replace(&mut stage.done, Copies::none(alloc)))?;
+    }
     Ok(())
 }

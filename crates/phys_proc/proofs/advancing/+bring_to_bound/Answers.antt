@@ -12,7 +12,7 @@ use Rattle.phys_proc.proofs.advancing.+bring_to_bound.Goals as goal
 
 pub returns-in_ok-put-in-Settled-clause-comes : goal.returns-in_ok-put-in-Settled-clause-comes
 returns-in_ok-put-in-Settled-clause-comes g t c = advance-settled c.args.model.now c.args.station
-    (ends_in c.args.model.now.horizon c.args.ends.now) c.args.bound c.args.copy c.args.stage.now.sent.items
+    (ends_in c.args.model.now.horizon c.args.ends.now) c.args.bound c.args.copy c.args.stage.now.sent
     c.args.steps.now c.requires.may_advance.fits c.args.stage.now.done c.put.new.self c.args.stage.now.over
     (rw c.in-Settled.is at c.requires.stop) c.in_ok-put-in-Settled.ensures.more
 
@@ -20,7 +20,7 @@ returns-in_ok-put-in-Settled-clause-comes g t c = advance-settled c.args.model.n
 
 pub returns-in-Full-clause-comes : goal.returns-in-Full-clause-comes
 returns-in-Full-clause-comes g t c = advance-full c.args.model.now c.args.station
-    (ends_in c.args.model.now.horizon c.args.ends.now) c.args.bound c.args.copy c.args.stage.now.sent.items
+    (ends_in c.args.model.now.horizon c.args.ends.now) c.args.bound c.args.copy c.args.stage.now.sent
     c.args.steps.now c.requires.may_advance.fits c.args.stage.now.done c.args.stage.now.over c.union-stage.result
     (rw c.in-Full.is at c.requires.stop)
     (c.union-stage.ensures.value ∙ ap (union c.args.stage.now.over) c.set.ensures.value)
@@ -32,7 +32,7 @@ halves-requires-clause-others g t c =
     let set = c.args.copy.set in
     let takers = c.args.stage.now.takers in
     let fits = others_fit c.args.model.now c.args.station (ends_in c.args.model.now.horizon c.args.ends.now)
-    c.args.bound c.args.copy c.args.stage.now.sent.items c.args.steps.now c.requires.may_advance.fits takers
+    c.args.bound c.args.copy c.args.stage.now.sent c.args.steps.now c.requires.may_advance.fits takers
     (rw c.in-Parts.is at c.requires.stop) (half c.args.copy (minus set takers)) refl in
     others_part set takers fits.inhabited.0 fits.inhabited.1
 
@@ -41,11 +41,11 @@ halves-requires-clause-others g t c =
 pub handle_together-requires : goal.handle_together-requires
 handle_together-requires g t c =
     let fits = some_fits c.args.model.now c.args.station (ends_in c.args.model.now.horizon c.args.ends.now)
-    c.args.bound c.args.copy c.args.stage.now.sent.items c.args.steps.now c.requires.may_advance.fits
+    c.args.bound c.args.copy c.args.stage.now.sent c.args.steps.now c.requires.may_advance.fits
     c.args.stage.now.takers (rw c.in-Parts.is at c.requires.stop) c.in_ok-some-in-Parts.some
     c.in_ok-some-in-Parts.ensures.first in
     let both = both_few c.args.model.now c.args.station (ends_in c.args.model.now.horizon c.args.ends.now)
-    c.args.bound c.args.copy c.args.stage.now.sent.items c.args.steps.now c.requires.may_advance.fits
+    c.args.bound c.args.copy c.args.stage.now.sent c.args.steps.now c.requires.may_advance.fits
     c.args.stage.now.takers (rw c.in-Parts.is at c.requires.stop) c.in_ok-some-in-Parts.some
     c.in_ok-some-in-Parts.others c.in_ok-some-in-Parts.ensures.first c.in_ok-some-in-Parts.ensures.second in
     let few = c.requires.may_advance.at_most in
@@ -66,13 +66,13 @@ bring_to_bound-requires g t c =
     let first = c.in_ok-first-in-Parts.ensures in
     let o = first.onward in
     let fall : size a1.set < size c.args.copy.set = some_smaller net c.args.station ends c.args.bound c.args.copy
-    c.args.stage.now.sent.items c.args.steps.now c.requires.may_advance.fits c.args.stage.now.takers
+    c.args.stage.now.sent c.args.steps.now c.requires.may_advance.fits c.args.stage.now.takers
     (rw c.in-Parts.is at c.requires.stop) a a1 c.in_ok-some-in-Parts.ensures.first o.set in
-    let both = both_few net c.args.station ends c.args.bound c.args.copy c.args.stage.now.sent.items c.args.steps.now
+    let both = both_few net c.args.station ends c.args.bound c.args.copy c.args.stage.now.sent c.args.steps.now
     c.requires.may_advance.fits c.args.stage.now.takers (rw c.in-Parts.is at c.requires.stop) a
     c.in_ok-some-in-Parts.others c.in_ok-some-in-Parts.ensures.first c.in_ok-some-in-Parts.ensures.second in
-    let left = left_few net c.args.station ends c.args.bound a a1 c.args.stage.now.sent.items
-    c.handle_together.new.stage.sent.items c.args.steps.now c.handle_together.new.steps o in
+    let left = left_few net c.args.station ends c.args.bound a a1 c.args.stage.now.sent
+    c.handle_together.new.stage.sent c.args.steps.now c.handle_together.new.steps o in
     let few0 = c.requires.may_advance.at_most in
     let counted = o.counted in
     let handled = first.handled in
@@ -89,17 +89,17 @@ pub handle_together-requires-in-Parts : goal.handle_together-requires-in-Parts
 handle_together-requires-in-Parts g t c =
     let net = c.args.model.now in
     let ends = ends_in net.horizon c.args.ends.now in
-    let fits = others_fit net c.args.station ends c.args.bound c.args.copy c.args.stage.now.sent.items
+    let fits = others_fit net c.args.station ends c.args.bound c.args.copy c.args.stage.now.sent
     c.args.steps.now c.requires.may_advance.fits c.args.stage.now.takers (rw c.in-Parts.is at c.requires.stop)
     c.in_ok-some-in-Parts.others c.in_ok-some-in-Parts.ensures.second in
     let first = c.in_ok-first-in-Parts.ensures in
     let o = first.onward in
-    let both = both_few net c.args.station ends c.args.bound c.args.copy c.args.stage.now.sent.items c.args.steps.now
+    let both = both_few net c.args.station ends c.args.bound c.args.copy c.args.stage.now.sent c.args.steps.now
     c.requires.may_advance.fits c.args.stage.now.takers (rw c.in-Parts.is at c.requires.stop)
     c.in_ok-some-in-Parts.some c.in_ok-some-in-Parts.others c.in_ok-some-in-Parts.ensures.first
     c.in_ok-some-in-Parts.ensures.second in
     let left = left_few net c.args.station ends c.args.bound c.in_ok-some-in-Parts.some c.handle_together.new.copy
-    c.args.stage.now.sent.items c.handle_together.new.stage.sent.items c.args.steps.now c.handle_together.new.steps o in
+    c.args.stage.now.sent c.handle_together.new.stage.sent c.args.steps.now c.handle_together.new.steps o in
     let few = c.requires.may_advance.at_most in
     let counted = o.counted in
     let handled = first.handled in
@@ -125,16 +125,16 @@ bring_to_bound-requires-in-Parts g t c =
     let second = c.in_ok-second-in-Parts.ensures in
     let o = second.onward in
     let fall : size b1.set < size c.args.copy.set = others_smaller net c.args.station ends c.args.bound c.args.copy
-    c.args.stage.now.sent.items c.args.steps.now c.requires.may_advance.fits c.args.stage.now.takers
+    c.args.stage.now.sent c.args.steps.now c.requires.may_advance.fits c.args.stage.now.takers
     (rw c.in-Parts.is at c.requires.stop) b b1 c.in_ok-some-in-Parts.ensures.second o.set in
-    let both = both_few net c.args.station ends c.args.bound c.args.copy c.args.stage.now.sent.items c.args.steps.now
+    let both = both_few net c.args.station ends c.args.bound c.args.copy c.args.stage.now.sent c.args.steps.now
     c.requires.may_advance.fits c.args.stage.now.takers (rw c.in-Parts.is at c.requires.stop)
     c.in_ok-some-in-Parts.some b c.in_ok-some-in-Parts.ensures.first c.in_ok-some-in-Parts.ensures.second in
     let left = left_few net c.args.station ends c.args.bound c.in_ok-some-in-Parts.some c.handle_together.new.copy
-    c.args.stage.now.sent.items c.handle_together.new.stage.sent.items c.args.steps.now
+    c.args.stage.now.sent c.handle_together.new.stage.sent c.args.steps.now
     c.handle_together.new.steps first.onward in
-    let left1 = left_few net c.args.station ends c.args.bound b b1 c.bring_to_bound.new.stage.sent.items
-    c.handle_together-in-Parts.new.stage.sent.items c.bring_to_bound.new.steps c.handle_together-in-Parts.new.steps o in
+    let left1 = left_few net c.args.station ends c.args.bound b b1 c.bring_to_bound.new.stage.sent
+    c.handle_together-in-Parts.new.stage.sent c.bring_to_bound.new.steps c.handle_together-in-Parts.new.steps o in
     let few0 = c.requires.may_advance.at_most in
     let counted = first.onward.counted in
     let handled = first.handled in
@@ -159,13 +159,13 @@ returns-in_ok-bring_to_bound-in-Parts-2-clause-comes g t c =
     let second = c.in_ok-second-in-Parts.ensures in
     let last = c.bring_to_bound-in-Parts.new in
     advance-parts c.args.model.now c.args.station
-    (ends_in c.args.model.now.horizon c.args.ends.now) c.args.bound c.args.copy c.args.stage.now.sent.items
+    (ends_in c.args.model.now.horizon c.args.ends.now) c.args.bound c.args.copy c.args.stage.now.sent
     c.args.steps.now c.requires.may_advance.fits c.args.stage.now.takers (rw c.in-Parts.is at c.requires.stop)
     c.in_ok-some-in-Parts.some c.handle_together.new.copy c.in_ok-some-in-Parts.others
     c.handle_together-in-Parts.new.copy c.args.stage.now.done c.handle_together.new.stage.done
     c.bring_to_bound.new.stage.done c.handle_together-in-Parts.new.stage.done last.stage.done
-    c.handle_together.new.stage.sent.items c.bring_to_bound.new.stage.sent.items
-    c.handle_together-in-Parts.new.stage.sent.items last.stage.sent.items c.args.stage.now.over
+    c.handle_together.new.stage.sent c.bring_to_bound.new.stage.sent
+    c.handle_together-in-Parts.new.stage.sent last.stage.sent c.args.stage.now.over
     c.handle_together.new.stage.over c.bring_to_bound.new.stage.over c.handle_together-in-Parts.new.stage.over
     last.stage.over c.handle_together.new.steps c.bring_to_bound.new.steps c.handle_together-in-Parts.new.steps
     last.steps c.in_ok-some-in-Parts.ensures.first

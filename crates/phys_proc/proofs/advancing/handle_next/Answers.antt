@@ -25,8 +25,8 @@ returns-in_default-clause-onward g c =
     let d = subst (λ h. NothingDue (ends_in h c.args.ends.now) c.args.bound c.args.copy.now c.next_due.new.copy)
     c.horizon.ensures.value c.in_default.ensures.none in
     comes_from-same net c.args.station ends c.args.bound c.args.copy.now c.args.copy.now c.next_due.new.copy
-    c.args.stage.now.sent.items c.args.stage.now.sent.items c.args.steps.now c.args.steps.now
-    (comes_from-start net c.args.station ends c.args.bound c.args.copy.now c.args.stage.now.sent.items
+    c.args.stage.now.sent c.args.stage.now.sent c.args.steps.now c.args.steps.now
+    (comes_from-start net c.args.station ends c.args.bound c.args.copy.now c.args.stage.now.sent
     c.args.steps.now c.requires.may_advance.fits) d.same
 
 pub returns-in_default-clause-stop : goal.returns-in_default-clause-stop
@@ -43,8 +43,8 @@ returns-then-len-limit-clause-onward g c =
     let ends = ends_in net.horizon c.args.ends.now in
     let d = due_by_horizon c.args.ends.now c.horizon.ensures.value c.in-Some.ensures.some.1 in
     comes_from-same net c.args.station ends c.args.bound c.args.copy.now c.args.copy.now c.next_due.new.copy
-    c.args.stage.now.sent.items c.args.stage.now.sent.items c.args.steps.now c.args.steps.now
-    (comes_from-start net c.args.station ends c.args.bound c.args.copy.now c.args.stage.now.sent.items
+    c.args.stage.now.sent c.args.stage.now.sent c.args.steps.now c.args.steps.now
+    (comes_from-start net c.args.station ends c.args.bound c.args.copy.now c.args.stage.now.sent
     c.args.steps.now c.requires.may_advance.fits) d.same
 
 pub returns-then-len-limit-clause-stop : goal.returns-then-len-limit-clause-stop
@@ -69,8 +69,8 @@ returns-else-eq-clause-onward g c =
     let ends = ends_in net.horizon c.args.ends.now in
     let d = due_by_horizon c.args.ends.now c.horizon.ensures.value c.in-Some.ensures.some.1 in
     comes_from-same net c.args.station ends c.args.bound c.args.copy.now c.args.copy.now c.next_due.new.copy
-    c.args.stage.now.sent.items c.args.stage.now.sent.items c.args.steps.now c.args.steps.now
-    (comes_from-start net c.args.station ends c.args.bound c.args.copy.now c.args.stage.now.sent.items
+    c.args.stage.now.sent c.args.stage.now.sent c.args.steps.now c.args.steps.now
+    (comes_from-start net c.args.station ends c.args.bound c.args.copy.now c.args.stage.now.sent
     c.args.steps.now c.requires.may_advance.fits) d.same
 
 pub returns-else-eq-clause-stop : goal.returns-else-eq-clause-stop
@@ -91,8 +91,8 @@ handle_least-requires-clause-fits g c =
     let ends = ends_in net.horizon c.args.ends.now in
     let d = due_by_horizon c.args.ends.now c.horizon.ensures.value c.in-Some.ensures.some.1 in
     (comes_from-new net c.args.station ends c.args.bound c.args.copy.now c.args.copy.now c.next_due.new.copy
-    c.args.stage.now.sent.items c.args.stage.now.sent.items c.args.steps.now c.args.steps.now
-    (comes_from-start net c.args.station ends c.args.bound c.args.copy.now c.args.stage.now.sent.items
+    c.args.stage.now.sent c.args.stage.now.sent c.args.steps.now c.args.steps.now
+    (comes_from-start net c.args.station ends c.args.bound c.args.copy.now c.args.stage.now.sent
     c.args.steps.now c.requires.may_advance.fits)
     c.in-Some.ensures.some.0 c.in-Some.takers d).fits
 
@@ -105,11 +105,11 @@ returns-in_ok-handle_least-clause-onward g c =
     let less : length c.next_due.new.copy.log < net.limit = let l = c.if-len-limit.false in let a =
     c.len.ensures in let b = c.limit.ensures.value in omega (arith, l, a, b, log) in
     comes_from-handle net c.args.station ends c.args.bound c.args.copy.now c.args.copy.now c.next_due.new.copy
-    c.args.stage.now.sent.items c.args.stage.now.sent.items c.args.steps.now c.args.steps.now
-    (comes_from-start net c.args.station ends c.args.bound c.args.copy.now c.args.stage.now.sent.items
+    c.args.stage.now.sent c.args.stage.now.sent c.args.steps.now c.args.steps.now
+    (comes_from-start net c.args.station ends c.args.bound c.args.copy.now c.args.stage.now.sent
     c.args.steps.now c.requires.may_advance.fits)
     c.in-Some.ensures.some.0 c.in-Some.takers d
-    c.handle_least.new.copy c.handle_least.new.sent.items c.handle_least.new.steps
+    c.handle_least.new.copy c.handle_least.new.sent c.handle_least.new.steps
     (eqb-true c.in-Some.takers c.set.result (sym c.if-eq.ensures) ∙ c.set.ensures.value) less
     c.in_ok-handle_least.ensures.handled c.in_ok-handle_least.ensures.counted
 

@@ -11,7 +11,7 @@ use Rattle.phys_proc.proofs.advancing.handle_together.Goals as goal
 pub loop-count-init : goal.loop-count-init
 loop-count-init g c = record {
   onward = comes_from-start c.args.model.now c.args.station (ends_in c.args.model.now.horizon c.args.ends.now)
-      c.args.bound c.args.copy.now c.args.stage.now.sent.items c.args.steps.now c.requires.may_advance.fits;
+      c.args.bound c.args.copy.now c.args.stage.now.sent c.args.steps.now c.requires.may_advance.fits;
   done = refl;
   over = refl;
   handled = refl;
@@ -26,8 +26,8 @@ pub returns-then-lower_bound_of-bound-clause-onward : goal.returns-then-lower_bo
 returns-then-lower_bound_of-bound-clause-onward g c =
     let l = c.loop-count in
     comes_from-on c.args.model.now c.args.station (ends_in c.args.model.now.horizon c.args.ends.now) c.args.bound
-    c.args.copy.now l.copy c.handle_packed.new.copy c.args.stage.now.sent.items l.stage.sent.items
-    c.handle_packed.new.sent.items c.args.steps.now l.steps c.handle_packed.new.steps l.invariant.onward
+    c.args.copy.now l.copy c.handle_packed.new.copy c.args.stage.now.sent l.stage.sent
+    c.handle_packed.new.sent c.args.steps.now l.steps c.handle_packed.new.steps l.invariant.onward
     c.in_ok-count.ensures.onward
 
 pub returns-then-lower_bound_of-bound-clause-stop : goal.returns-then-lower_bound_of-bound-clause-stop
@@ -45,10 +45,10 @@ handle_next-requires g c =
     let net = c.args.model.now in
     let ends = ends_in net.horizon c.args.ends.now in
     let here = comes_from-on net c.args.station ends c.args.bound c.args.copy.now l.copy c.handle_packed.new.copy
-    c.args.stage.now.sent.items l.stage.sent.items c.handle_packed.new.sent.items c.args.steps.now l.steps
+    c.args.stage.now.sent l.stage.sent c.handle_packed.new.sent c.args.steps.now l.steps
     c.handle_packed.new.steps l.invariant.onward c.in_ok-count.ensures.onward in
     let few = left_few net c.args.station ends c.args.bound c.args.copy.now c.handle_packed.new.copy
-    c.args.stage.now.sent.items c.handle_packed.new.sent.items c.args.steps.now c.handle_packed.new.steps here in
+    c.args.stage.now.sent c.handle_packed.new.sent c.args.steps.now c.handle_packed.new.steps here in
     let most = c.requires.may_advance.at_most in
     let h = l.invariant.handled in
     let k = c.in_ok-count.ensures.counted in
@@ -67,10 +67,10 @@ returns-in-Some-clause-onward g c =
     let net = c.args.model.now in
     let ends = ends_in net.horizon c.args.ends.now in
     let here = comes_from-on net c.args.station ends c.args.bound c.args.copy.now l.copy c.handle_packed.new.copy
-    c.args.stage.now.sent.items l.stage.sent.items c.handle_packed.new.sent.items c.args.steps.now l.steps
+    c.args.stage.now.sent l.stage.sent c.handle_packed.new.sent c.args.steps.now l.steps
     c.handle_packed.new.steps l.invariant.onward c.in_ok-count.ensures.onward in
     comes_from-on net c.args.station ends c.args.bound c.args.copy.now c.handle_packed.new.copy c.handle_next.new.copy
-    c.args.stage.now.sent.items c.handle_packed.new.sent.items c.handle_next.new.stage.sent.items c.args.steps.now
+    c.args.stage.now.sent c.handle_packed.new.sent c.handle_next.new.stage.sent c.args.steps.now
     c.handle_packed.new.steps c.handle_next.new.steps here c.in_ok-stop.ensures.onward
 
 pub loop-count-preserved : goal.loop-count-preserved
@@ -79,15 +79,15 @@ loop-count-preserved g c =
     let net = c.args.model.now in
     let ends = ends_in net.horizon c.args.ends.now in
     let here = comes_from-on net c.args.station ends c.args.bound c.args.copy.now l.copy c.handle_packed.new.copy
-    c.args.stage.now.sent.items l.stage.sent.items c.handle_packed.new.sent.items c.args.steps.now l.steps
+    c.args.stage.now.sent l.stage.sent c.handle_packed.new.sent c.args.steps.now l.steps
     c.handle_packed.new.steps l.invariant.onward c.in_ok-count.ensures.onward in
     let h = l.invariant.handled in
     let k = c.in_ok-count.ensures.counted in
     let n = c.in_ok-stop.ensures.handled in
     record {
       onward = comes_from-on net c.args.station ends c.args.bound c.args.copy.now c.handle_packed.new.copy
-          c.handle_next.new.copy c.args.stage.now.sent.items c.handle_packed.new.sent.items
-          c.handle_next.new.stage.sent.items c.args.steps.now c.handle_packed.new.steps c.handle_next.new.steps here
+          c.handle_next.new.copy c.args.stage.now.sent c.handle_packed.new.sent
+          c.handle_next.new.stage.sent c.args.steps.now c.handle_packed.new.steps c.handle_next.new.steps here
           c.in_ok-stop.ensures.onward;
       done = c.in_ok-stop.ensures.done ∙ l.invariant.done;
       over = c.in_ok-stop.ensures.over ∙ l.invariant.over;

@@ -22,10 +22,10 @@ returns-clause-handled g c =
     let taken = c.take_message-msg.ensures in
     let fits = subst (IsCopy net c.args.station) (sym c.copy.view_is) c.requires.fits in
     let below = subst (λ (u : StationCopy). length u.log < net.limit) (sym c.copy.view_is) c.requires.length_max in
-    subst (λ (u : StationCopy). IsHandled net c.args.station u new c.args.sent.now.items c.send_all.new.sent.items)
+    subst (λ (u : StationCopy). IsHandled net c.args.station u new c.args.sent.now c.send_all.new.sent)
     c.copy.view_is
     (taken_is_handled net c.args.station a new c.take_message-msg.result taken.value.0
-    (messages_of c.take_message-msg.new.self) c.args.sent.now.items c.send_all.new.sent.items
+    (messages_of c.take_message-msg.new.self) c.args.sent.now c.send_all.new.sent
     taken.value.1 fits below (record {
       set = rw (taken.same) at c.in_ok-send_all.ensures.same;
       sends = c.handle.new.out.items;

@@ -25,8 +25,8 @@ returns-clause-onward g c =
     let a = c.min.ensures in
     let b = c.min-together.ensures in
     let t = c.requires.time_max in
-    subst (λ (u : StationCopy). ComesFrom net c.args.station ends c.args.bound u new c.args.sent.now.items
-    c.run_packed.new.sent.items c.args.steps.now c.run_packed.new.steps) c.copy.view_is
+    subst (λ (u : StationCopy). ComesFrom net c.args.station ends c.args.bound u new c.args.sent.now
+    c.run_packed.new.sent c.args.steps.now c.run_packed.new.steps) c.copy.view_is
     (c.in_ok-count.ensures.onward ends c.args.bound (record {
       at_most = omega (arith, a, b);
       alive = λ k i.

@@ -10,7 +10,7 @@ use Rattle.phys_proc.proofs.quick.run_packed.Goals as goal
 pub loop-count-init : goal.loop-count-init
 loop-count-init g c = record {
   onward = λ ends bound alive. comes_from-start c.args.model.now c.args.station ends bound
-      (copy_of c.args.pending.now c.args.state.now c.args.log.now) c.args.sent.now.items c.args.steps.now
+      (copy_of c.args.pending.now c.args.state.now c.args.log.now) c.args.sent.now c.args.steps.now
       c.requires.fits;
   counted = omega arith;
   long = let l = c.requires.fits.length_max in let a = c.len.ensures in let b = c.limit.ensures.value in
@@ -63,7 +63,7 @@ loop-count-preserved g c =
           (subst (AreAlive ends bound t) (sym here.set) alive) c.in-Some.ensures.time_max
           (copy_of c.args.pending.now c.args.state.now c.args.log.now)
           (copy_of c.take_event.new.pending c.take_event.new.state c.take_event.new.log)
-          c.args.sent.now.items l.sent.items c.take_event.new.sent.items c.args.steps.now l.steps c.take_event.new.steps
+          c.args.sent.now l.sent c.take_event.new.sent c.args.steps.now l.steps c.take_event.new.steps
           (l.invariant.onward ends bound alive) less taken.taken taken.counted;
       counted = omega (arith, steps, tick);
       long = omega (arith, long, more);

@@ -27,5 +27,5 @@ returns-in_ok-send_packed-clause-aside c =
     let to = c.to-station.ensures.value in
     let is = sym c.is_for.ensures.value ∙ c.if-is_for.true in
     (rw c.replace_first.ensures.same at c.in_ok-send_packed.ensures.aside)
-    ∙ own_stays c.to-station.result set c.args.sends.link c.args.sends.own c.args.sent.now.items is
-    ∙ ap (λ s. sent_after s set (sends_of c.args.sends) c.args.sent.now.items) to
+    ∙ own_stays c.to-station.result set c.args.sends.link c.args.sends.own c.args.sent.now is
+    ∙ ap (λ s. sent_after s set (sends_of c.args.sends) c.args.sent.now) to

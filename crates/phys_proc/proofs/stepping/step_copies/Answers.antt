@@ -1,20 +1,35 @@
-use Rattle.std.proofs.Common.{◌++◌, subst, sym}
+use Rattle.std.proofs.Common.{◌++◌, ◌∙◌, ap, subst, sym, append-nil}
 use Rattle.phys_proc.specs.Ends.{ends_in}
 use Rattle.phys_proc.specs.Own.{IsStepResult}
 use Rattle.phys_proc.specs.StepOutputs.{MayStepCopies}
 use Rattle.phys_proc.proofs.stepping.step_copies.Goals as goal
 
-pub step_copies_in_place-requires-clause-may_step : goal.step_copies_in_place-requires-clause-may_step
-step_copies_in_place-requires-clause-may_step g c = subst (MayStepCopies c.args.model.now c.args.station c.args.bound)
-    (sym c.into_parts-standing.ensures.same) c.requires.may_step
+pub step_copies_in_place-stepped-requires-clause-may_step : goal.step_copies_in_place-stepped-requires-clause-may_step
+step_copies_in_place-stepped-requires-clause-may_step g c =
+    subst (MayStepCopies c.args.model.now c.args.station c.args.bound) (sym c.copies.view_is) c.requires.may_step
 
-pub returns-clause-stepped : goal.returns-clause-stepped
-returns-clause-stepped g c =
+-- ---- some copies were taken out
+
+pub returns-in_ok-append-clause-stepped : goal.returns-in_ok-append-clause-stepped
+returns-in_ok-append-clause-stepped g c =
     let net = c.args.model.now in
     let ends = ends_in net.horizon c.args.ends.now in
-    let new = c.step_copies_in_place.new in
-    subst (λ d. IsStepResult net c.args.station ends c.args.bound c.args.copies d new.stage.sent.items new.stage.over
-    c.args.steps.now new.steps) (sym c.in_ok-put_before.ensures.all)
+    let new = c.step_copies_in_place-stepped.new in
+    let all = c.in_ok-append.ensures.all ∙ ap (λ d. new.copies.items ++ d) c.replace.ensures.value in
+    subst (λ d. IsStepResult net c.args.station ends c.args.bound c.args.copies.now d new.stage.sent new.stage.over
+    c.args.steps.now new.steps) (sym all)
     (subst (λ k. IsStepResult net c.args.station ends c.args.bound k (new.copies.items ++ new.stage.done)
-    new.stage.sent.items new.stage.over c.args.steps.now new.steps) c.into_parts-standing.ensures.same
-    c.in_ok-step_copies_in_place.ensures.stepped)
+    new.stage.sent new.stage.over c.args.steps.now new.steps) c.copies.view_is c.in_default.ensures.stepped)
+
+-- ---- all stay in place
+
+pub returns-else-not-is_empty-clause-stepped : goal.returns-else-not-is_empty-clause-stepped
+returns-else-not-is_empty-clause-stepped g c =
+    let net = c.args.model.now in
+    let ends = ends_in net.horizon c.args.ends.now in
+    let new = c.step_copies_in_place-stepped.new in
+    let none = c.is_empty.ensures.value.0 c.if-not-is_empty.false in
+    subst (λ d. IsStepResult net c.args.station ends c.args.bound c.args.copies.now d new.stage.sent new.stage.over
+    c.args.steps.now new.steps) (ap (λ d. new.copies.items ++ d) none ∙ append-nil new.copies.items)
+    (subst (λ k. IsStepResult net c.args.station ends c.args.bound k (new.copies.items ++ new.stage.done)
+    new.stage.sent new.stage.over c.args.steps.now new.steps) c.copies.view_is c.in_default.ensures.stepped)

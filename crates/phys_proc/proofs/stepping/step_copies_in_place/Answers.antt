@@ -17,7 +17,7 @@ pub loop-i-init : goal.loop-i-init
 loop-i-init g c = record {
   far = stepped_to-start c.args.model.now c.requires.may_step.valid c.args.station
       (ends_in c.args.model.now.horizon c.args.ends.now) c.args.bound c.args.copies.now.items c.args.stage.now.done
-      c.args.stage.now.sent.items c.args.stage.now.over c.args.steps.now c.requires.new.none c.requires.new.silent
+      c.args.stage.now.sent c.args.stage.now.over c.args.steps.now c.requires.new.none c.requires.new.silent
       c.requires.new.under;
   each = c.requires.each;
   within = omega arith;
@@ -107,7 +107,7 @@ loop-i-preserved-in-Settled g c =
     record {
       far = stepped_to-next net c.requires.may_step.valid c.args.station ends c.args.bound l.invariant.far there
           c.index_mut.result.now c.index_mut.ensures.value c.requires.may_step.disjoint y (slice_set cs l.i y)
-          s.done s.sent.items s.over c.handle_together.new.steps one.onward (rw c.in-Settled.is at one.stop) refl
+          s.done s.sent s.over c.handle_together.new.steps one.onward (rw c.in-Settled.is at one.stop) refl
           one.done one.over;
       each = bounds_set l.bounds.items cs l.i c.lower_bound_of-now.result y l.invariant.each
           (subst (IsLowerBound c.lower_bound_of-now.result)
@@ -132,8 +132,8 @@ bring_to_bound-requires g c =
     let same : z ≡ y = set_there cs l.i z y there c.remove-copy.ensures.value in
     let few = stepped_to-few net c.requires.may_step.valid c.args.station ends c.args.bound l.invariant.far there x
     c.index_mut.ensures.value c.requires.may_step.at_most l.stage.handled l.invariant.handled in
-    let left = left_few net c.args.station ends c.args.bound x y l.stage.sent.items
-    c.handle_together.new.stage.sent.items l.steps c.handle_together.new.steps one.onward in
+    let left = left_few net c.args.station ends c.args.bound x y l.stage.sent
+    c.handle_together.new.stage.sent l.steps c.handle_together.new.steps one.onward in
     let counted = one.onward.counted in
     let handled = one.handled in
     let is = ap (may_handle net.limit) same in
@@ -164,9 +164,9 @@ loop-i-preserved g c =
     record {
       far = stepped_to-out net c.requires.may_step.valid c.args.station ends c.args.bound l.invariant.far there
           c.index_mut.result.now c.index_mut.ensures.value c.requires.may_step.disjoint y after s.done f.done
-          s.sent.items f.sent.items s.over f.over c.handle_together.new.steps c.bring_to_bound.new.steps one.onward
-          (subst (λ (u : StationCopy). IsAdvance net c.args.station ends c.args.bound u s.done f.done s.sent.items
-          f.sent.items s.over f.over c.handle_together.new.steps c.bring_to_bound.new.steps) same come.comes)
+          s.sent f.sent s.over f.over c.handle_together.new.steps c.bring_to_bound.new.steps one.onward
+          (subst (λ (u : StationCopy). IsAdvance net c.args.station ends c.args.bound u s.done f.done s.sent
+          f.sent s.over f.over c.handle_together.new.steps c.bring_to_bound.new.steps) same come.comes)
           c.remove-copy.ensures.items one.done one.over;
       each = rw (c.remove.ensures.items, c.remove-copy.ensures.items)
           (bounds_without l.bounds.items cs l.i y l.invariant.each);

@@ -8,7 +8,7 @@ use Rattle.phys_proc.proofs.stepping.step_copies_in_place.Given as goal
 abbrev pub invariant-loop-i : goal.invariant-loop-i
 invariant-loop-i g l = record {
   far : IsSteppedTo l.model l.station (ends_in l.model.horizon l.ends) l.bound l.fn.copies.items l.i l.copies.items
-      l.stage.done l.stage.sent.items l.stage.over l.fn.steps l.steps;
+      l.stage.done l.stage.sent l.stage.over l.fn.steps l.steps;
   each : AllZip IsLowerBound l.bounds.items l.copies.items;
   within : l.i ≤ length l.copies.items;
   handled : l.stage.handled + l.fn.steps ≡ l.steps;
