@@ -1,15 +1,19 @@
 //! The messages that one station (a logical process) sent in a window, with a first time for each receiver.
-ghost use Rattle.std.specs.Prelude.{◌≡◌, ◌≤◌, ◌∷◌, [], ℕ, Some, IsTrue, IfSome, OnOk, IfOk, false};
+ghost use Rattle.std.specs.Prelude.{◌≡◌, ◌≤◌, ◌∷◌, [], ℕ, Some, IsTrue, IfSome, OnOk, IfOk, false, map};
 ghost use Rattle.sim_base.specs.declared.message.Msg.{Msg as Msg'};
 ghost use Rattle.clone_sets.specs.declared.set.CloneSet.{CloneSet as CloneSet'};
 ghost use Rattle.phys_proc.specs.Ends.{ends_in};
+ghost use Rattle.net_model.specs.Net.{Net};
+ghost use Rattle.phys_proc.specs.Own.{with_message};
+ghost use Rattle.phys_proc.specs.Procs.{IsProc};
+ghost use Rattle.phys_proc.specs.Sent.{msg_in};
 ghost use Rattle.station_steps.specs.Mail.{IsEarliest, IsFirstFor, IsMailTaken, IsNoted};
 ghost use Rattle.station_steps.specs.Windows.{IsDeliveredTo, mail_for};
 
 use clone_sets::CloneSet;
 use net_model::limits::MAX_STATIONS;
-use phys_proc::{CloneEnds, Proc};
-use sim_base::{Msg, NoMemory};
+use phys_proc::{CloneEnds, Proc, SentMessages, SentMsg};
+use sim_base::NoMemory;
 use std::alloc::Global;
 
 /// Used as a first time if there is no message for the station.
@@ -25,7 +29,7 @@ const PLACES: usize = MAX_STATIONS + 1;
 /// list has a lower bound of the times of its messages.
 #[derive(Drop)]
 pub struct SentList {
-    messages: Vec<(Msg, CloneSet)>,
+    messages: SentMessages,
     firsts: Vec<u64>,
 }
 
@@ -35,20 +39,20 @@ impl std::marker::Model for SentList {
 
     ghost Value = { SentView };
 
-    ghost view = { λ l. record { items = l.messages.items } };
+    ghost view = { λ l. record { items = l.messages } };
 
-    ghost invariant = { λ l. AllByRecursion (IsNoted l.firsts.items) l.messages.items };
+    ghost invariant = { λ l. AllByRecursion (IsNoted l.firsts.items) l.messages };
 }
 
 // Records the time of a message for its station.
-fn note(firsts: &mut Vec<u64>, msg: Msg)
-    ensures noted { (set : CloneSet') → IsNoted firsts.new.items (msg, set) }
+fn note(firsts: &mut Vec<u64>, msg: &SentMsg)
+    ensures noted { (set : CloneSet') → IsNoted firsts.new.items (msg_in msg.now, set) }
     ensures before { (x : Msg' × CloneSet') → IsNoted firsts.old.items x → IsNoted firsts.new.items x }
 {
-    let place = msg.to as usize;
+    let place = msg.to() as usize;
     if place < firsts.len() {
         let first = firsts[place];
-        firsts[place] = first.min(msg.key.time).min(LATEST_FIRST);
+        firsts[place] = first.min(msg.time()).min(LATEST_FIRST);
     }
 }
 
@@ -66,15 +70,16 @@ fn is_at_most(time: Option<u64>, other: u64) -> bool
 // The earlier of a time and that of a message, if some of these clones are in its set and take it before their end.
 fn earlier_of_message(
     before: Option<u64>,
-    msg: Msg,
+    msg: &SentMsg,
     set: CloneSet,
     clones: CloneSet,
     ends: &CloneEnds,
     horizon: u64,
 ) -> Option<u64>
-    ensures earliest { IsEarliest before (IsMailTaken (ends_in horizon ends.now) clones ((msg, set) ∷ [])) result }
+    ensures earliest { IsEarliest before
+        (IsMailTaken (ends_in horizon ends.now) clones ((msg_in msg.now, set) ∷ [])) result }
 {
-    let time = msg.key.time;
+    let time = msg.time();
     if is_at_most(before, time) || time >= horizon {
         return before;
     }
@@ -85,20 +90,35 @@ fn earlier_of_message(
     Some(time)
 }
 
+// Delivers a message to the copies of its station.
+fn deliver(proc: &mut Proc, msg: &SentMsg, set: CloneSet) -> Result<(), NoMemory>
+    requires target { (msg_in msg.now).to ≡ proc.old.station }
+    ensures given { OnOk result (proc.new.copies ≡ map (with_message (msg_in msg.now) set) proc.old.copies) }
+    ensures proc { OnOk result ((net : Net) → IsProc net proc.old → IsProc net proc.new) }
+    ensures station { proc.new.station ≡ proc.old.station }
+    ensures living { proc.new.living ≡ proc.old.living }
+    ensures handled { proc.new.handled ≡ proc.old.handled }
+{
+    match msg {
+        SentMsg::Packed(msg) => proc.deliver_packed(*msg, set),
+        SentMsg::Whole(msg) => proc.deliver(*msg, set),
+    }
+}
+
 impl SentList {
     /// An empty list. It allocates nothing.
     pub fn empty(alloc: Global) -> SentList
         ensures none { result.items ≡ [] }
     {
         SentList {
-            messages: Vec::new(alloc),
+            messages: SentMessages::new(alloc),
             firsts: Vec::new(alloc),
         }
     }
 
     /// The list's memory, emptied for the next window.
-    pub(crate) fn room(self) -> (Vec<(Msg, CloneSet)>, Vec<u64>)
-        ensures none { result.0.items ≡ [] }
+    pub(crate) fn room(self) -> (SentMessages, Vec<u64>)
+        ensures none { result.0 ≡ [] }
     {
         let SentList {
             mut messages,
@@ -114,14 +134,15 @@ impl SentList {
     /// # Errors
     ///
     /// Out of memory: the messages are dropped.
-    pub(crate) fn of(messages: Vec<(Msg, CloneSet)>, firsts: Vec<u64>) -> Result<SentList, NoMemory>
-        ensures messages { IfOk result (λ l. l.items ≡ messages.items) }
+    pub(crate) fn of(messages: SentMessages, firsts: Vec<u64>) -> Result<SentList, NoMemory>
+        ensures messages { IfOk result (λ l. l.items ≡ messages) }
     {
         let mut firsts = firsts;
         firsts.clear();
         firsts.resize(PLACES, NO_MAIL)?;
-        for pair in messages.as_slice() {
-            note(&mut firsts, pair.0);
+        for i in 0..messages.len() {
+            let (msg, _set) = messages.at(i);
+            note(&mut firsts, &msg);
         }
         Ok(SentList { messages, firsts })
     }
@@ -154,9 +175,10 @@ impl SentList {
         if self.first_for(station) == NO_MAIL {
             return Ok(());
         }
-        for pair in self.messages.as_slice() {
-            if pair.0.to == station {
-                proc.deliver(pair.0, pair.1)?;
+        for i in 0..self.messages.len() {
+            let (msg, set) = self.messages.at(i);
+            if msg.to() == station {
+                deliver(proc, &msg, set)?;
             }
         }
         Ok(())
@@ -180,9 +202,10 @@ impl SentList {
             return before;
         }
         let mut least = before;
-        for pair in self.messages.as_slice() {
-            if pair.0.to == station {
-                least = earlier_of_message(least, pair.0, pair.1, clones, ends, horizon);
+        for i in 0..self.messages.len() {
+            let (msg, set) = self.messages.at(i);
+            if msg.to() == station {
+                least = earlier_of_message(least, &msg, set, clones, ends, horizon);
             }
         }
         least

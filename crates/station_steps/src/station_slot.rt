@@ -17,8 +17,9 @@ ghost use Rattle.station_steps.specs.Windows.{HasAdvanced, IsDeliveredTo, mail_f
 use crate::mail::Mail;
 use crate::sent_list::{NO_MAIL, SentList};
 use clone_sets::CloneSet;
+use msg_heap::PackedMsg;
 use net_model::Model;
-use phys_proc::{CloneEnds, Gain, PhysCopy, Proc, Rack};
+use phys_proc::{CloneEnds, Gain, PhysCopy, Proc, Rack, SentMessages};
 use sim_base::{Lists, Msg, NoMemory, Steps};
 use stations::due::earlier;
 use std::alloc::Global;
@@ -54,6 +55,7 @@ impl std::marker::Model for StationSlot {
 }
 
 // Delivers to the copies their messages from the mail, if any.
+#[inline(always)]
 fn take_mail(proc: &mut Proc, mail: Option<Arc<Mail>>) -> Result<(), NoMemory>
     ensures given { OnOk result (IsDeliveredTo (mail_for proc.old.station (mail_in mail)) proc.old proc.new) }
     // also if out of memory
@@ -100,8 +102,8 @@ impl StationSlot {
     }
 
     /// Lends the memory of the list that the station keeps, for what it sends.
-    pub(crate) fn lend(&mut self, alloc: Global) -> (Vec<(Msg, CloneSet)>, Vec<u64>)
-        ensures none { result.0.items ≡ [] }
+    pub(crate) fn lend(&mut self, alloc: Global) -> (SentMessages, Vec<u64>)
+        ensures none { result.0 ≡ [] }
         ensures same { self.new ≡ self.old }
     {
         mem::replace(&mut self.buffer, SentList::empty(alloc)).room()
@@ -124,7 +126,7 @@ impl StationSlot {
         bound <= self.lower_bound
     }
 
-    /// Steps the copies to the bound in place. Appends what they send to other stations to `sent`, which must be empty.
+    /// Steps the copies to the bound in place. What they send to other stations replaces what is in `sent`.
     /// The copies have no meaning afterwards if some clone is over the limit.
     ///
     /// # Errors
@@ -136,14 +138,13 @@ impl StationSlot {
         model: &Model,
         ends: &CloneEnds,
         bound: u64,
-        sent: &mut Vec<(Msg, CloneSet)>,
+        sent: &mut SentMessages,
         steps: &mut Steps<L>,
     ) -> Result<Gain, NoMemory>
         requires proc { IsProc model.now self.old }
         requires time_max { bound ≤ model.now.horizon }
-        requires silent { sent.old.items ≡ [] }
         ensures advanced { IfOk result (λ g. HasAdvanced model.now self.old.station (ends_in model.now.horizon ends.now)
-            bound self.old self.new sent.new.items g.over g.handled) }
+            bound self.old self.new sent.new g.over g.handled) }
         ensures counted { IfOk result (λ g. steps.new ≡ steps.old + g.handled) }
         ensures station { self.new.station ≡ self.old.station }
     {
@@ -208,6 +209,25 @@ impl StationSlot {
         self.lower_bound = 0;
         take_mail(&mut self.proc, self.mail.take())?;
         self.proc.deliver(msg, set)?;
+        self.lower_bound = lower_bound;
+        Ok(())
+    }
+
+    /// Delivers a packed message, as `deliver_at_once` does.
+    #[inline(always)]
+    pub fn deliver_packed(&mut self, msg: PackedMsg, set: CloneSet) -> Result<(), NoMemory>
+        requires target { msg.to ≡ self.old.station }
+        ensures given { OnOk result (self.new.copies ≡ map (with_message msg set) self.old.copies) }
+        ensures proc { OnOk result ((net : Net) → IsProc net self.old → IsProc net self.new) }
+        ensures station { self.new.station ≡ self.old.station }
+        ensures living { self.new.living ≡ self.old.living }
+        ensures handled { self.new.handled ≡ self.old.handled }
+    {
+        let lower_bound = self.lower_bound.min(msg.time());
+        // set first, so that it also holds if an allocation fails
+        self.lower_bound = 0;
+        take_mail(&mut self.proc, self.mail.take())?;
+        self.proc.deliver_packed(msg, set)?;
         self.lower_bound = lower_bound;
         Ok(())
     }

@@ -68,7 +68,7 @@ fn step_and_deliver<G: Gate, L: Ledger>(
     if let Some(_) = stepped.over {
         return Ok(stepped);
     }
-    deliver_all(procs, buffers.sent.as_slice())?;
+    deliver_all(procs, &buffers.sent)?;
     Ok(stepped)
 }
 

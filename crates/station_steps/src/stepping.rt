@@ -21,8 +21,8 @@ use crate::windows::Window;
 use clone_sets::CloneSet;
 use crew_pool::{Crew, Gate};
 use net_model::Model;
-use phys_proc::{CloneEnds, Gain};
-use sim_base::{Msg, NoMemory, Steps};
+use phys_proc::{CloneEnds, Gain, SentMessages};
+use sim_base::{NoMemory, Steps};
 use std::alloc::Global;
 use std::mem;
 use std::sync::ledger::Ledger;
@@ -44,9 +44,9 @@ pub struct Buffers {
     /// The bound of each station, in the order of the stations.
     pub bounds: Vec<u64>,
     /// The messages of all stations that were stepped so far, if they are stepped in place.
-    pub sent: Vec<(Msg, CloneSet)>,
+    pub sent: SentMessages,
     /// The messages of one station, before they are appended to `sent`.
-    one: Vec<(Msg, CloneSet)>,
+    one: SentMessages,
     /// The mail of the last window that the crew stepped, kept to reuse the memory of its lists.
     last: Option<Arc<Mail>>,
 }
@@ -58,8 +58,8 @@ impl Buffers {
     {
         Buffers {
             bounds: Vec::new(alloc),
-            sent: Vec::new(alloc),
-            one: Vec::new(alloc),
+            sent: SentMessages::new(alloc),
+            one: SentMessages::new(alloc),
             last: None,
         }
     }
@@ -77,14 +77,6 @@ impl Buffers {
         self.bounds.resize(count, bound)?;
         Ok(())
     }
-}
-
-// Appends messages.
-fn append(all: &mut Vec<(Msg, CloneSet)>, more: &[(Msg, CloneSet)]) -> Result<(), NoMemory>
-    ensures both { OnOk result (all.new.items ≡ all.old.items ++ more.now) }
-{
-    all.extend_from_slice(more)?;
-    Ok(())
 }
 
 // The first station over the limit so far, and its first clone there, if the station at place i is next.
@@ -120,15 +112,14 @@ fn step_place<L: Ledger>(
     requires bounds { AreBounds model.now procs.old.items buffers.old.bounds.items }
     requires numbered { (p : ProcView) → slice_get procs.old.items i ≡ Some p → IsNumbered model.now i p }
     ensures stepped { IfOk result (λ gain. SteppedAt model.now (ends_in model.now.horizon ends.now)
-        (bound_of buffers.old.bounds.items i) i procs.old.items procs.new.items buffers.old.sent.items
-        buffers.new.sent.items gain.over gain.handled) }
+        (bound_of buffers.old.bounds.items i) i procs.old.items procs.new.items buffers.old.sent
+        buffers.new.sent gain.over gain.handled) }
     ensures bounds { buffers.new.bounds ≡ buffers.old.bounds }
     ensures steps { IfOk result (λ gain. steps.new ≡ steps.old + gain.handled) }
 {
     let bound = buffers.bounds[i];
-    buffers.one.clear();
     let gain = procs[i].advance(alloc, model, ends, bound, &mut buffers.one, steps)?;
-    append(&mut buffers.sent, buffers.one.as_slice())?;
+    buffers.sent.append(&buffers.one)?;
     Ok(gain)
 }
 
@@ -151,7 +142,7 @@ pub(crate) fn step_in_place<G: Gate, L: Ledger>(
     requires stations { AreStations model.now procs.old.items }
     requires bounds { AreBounds model.now procs.old.items buffers.old.bounds.items }
     ensures stepped { IfOk result (λ s. AllStepped model.now (ends_in model.now.horizon ends.now)
-        (bound_of buffers.old.bounds.items) procs.old.items procs.new.items buffers.new.sent.items s.over
+        (bound_of buffers.old.bounds.items) procs.old.items procs.new.items buffers.new.sent s.over
         steps.old steps.new) }
     ensures at_most { IfOk result (λ s. IsPlaceOfOver s.over) }
 {

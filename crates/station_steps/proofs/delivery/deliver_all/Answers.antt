@@ -1,28 +1,19 @@
-use Rattle.std.proofs.Common.{◌∷◌, [], arith, sym, subst, take}
-use Rattle.std.proofs.lemmas.List.{take_all}
-use Rattle.sim_base.proofs.Elements.{take_next}
+use Rattle.std.proofs.Common.{sym, subst}
 use Rattle.station_steps.specs.Windows.{AllDelivered}
 use Rattle.station_steps.proofs.Delivering.{AllDelivered-append, AreStationsInOrder-delivered}
 use Rattle.station_steps.proofs.delivery.deliver_all.Goals as goal
 
-pub deliver_to-requires : goal.deliver_to-requires
-deliver_to-requires c = record {
-  in_order = AreStationsInOrder-delivered (take c.loop-pair.pair-index c.args.sent.now)
-      c.args.procs.now.items c.loop-pair.procs.items c.requires.in_order c.loop-pair.invariant;
+pub deliver_whole-requires : goal.deliver_whole-requires
+deliver_whole-requires c = record {
+  in_order = AreStationsInOrder-delivered c.parts.result.0.now c.args.procs.now.items c.deliver_packed.new.procs.items
+      c.requires.in_order c.in_ok-deliver_packed.ensures.given;
 }
-
-pub loop-pair-preserved : goal.loop-pair-preserved
-loop-pair-preserved c =
-    let ms = c.args.sent.now in
-    let i = c.loop-pair.pair-index in
-    subst (λ l. AllDelivered l c.args.procs.now.items c.deliver_to.new.procs.items)
-    (sym (take_next ms i c.pair-item.result c.loop-pair-test.true c.pair-item.is))
-    (AllDelivered-append (take i ms) (c.pair-item.result ∷ []) c.args.procs.now.items c.loop-pair.procs.items
-    c.deliver_to.new.procs.items c.loop-pair.invariant c.in_ok-deliver_to.ensures.given)
 
 pub returns : goal.returns
 returns c = record {
-  given = subst (λ l. AllDelivered l c.args.procs.now.items c.loop-pair.procs.items)
-      (take_all c.loop-pair.pair-index c.args.sent.now (let l = c.loop-pair-test.false in omega (arith, l)))
-      c.loop-pair.invariant;
+  given = subst (λ l. AllDelivered l c.args.procs.now.items c.deliver_whole.new.procs.items)
+      (sym c.parts.ensures.value)
+      (AllDelivered-append c.parts.result.0.now c.parts.result.1.now c.args.procs.now.items
+      c.deliver_packed.new.procs.items c.deliver_whole.new.procs.items c.in_ok-deliver_packed.ensures.given
+      c.in_ok-deliver_whole.ensures.given);
 }

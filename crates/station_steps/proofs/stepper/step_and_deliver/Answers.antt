@@ -4,7 +4,7 @@ use Rattle.phys_proc.specs.Ends.{ends_in}
 use Rattle.phys_proc.specs.Own.{MarkedMessages}
 use Rattle.phys_proc.specs.Procs.{ProcView}
 use Rattle.station_steps.specs.Stepping.{AllStepped}
-use Rattle.station_steps.specs.Windows.{AllDelivered, AreStations, bound_of}
+use Rattle.station_steps.specs.Windows.{AreStations, bound_of}
 use Rattle.station_steps.proofs.Flows.{MayGiveAll-stepped}
 use Rattle.station_steps.proofs.stepper.step_and_deliver.Goals as goal
 
@@ -25,7 +25,7 @@ pub returns-in-Some-clause-stepped : goal.returns-in-Some-clause-stepped
 returns-in-Some-clause-stepped g c =
     let over = c.in_ok-stepped.stepped.over in
     let news = c.step_in_place.new.procs.items in
-    let sent = c.step_in_place.new.buffers.sent.items in
+    let sent = c.step_in_place.new.buffers.sent in
     record {
       news = news;
       sent = sent;
@@ -40,7 +40,7 @@ pub deliver_all-requires : goal.deliver_all-requires
 deliver_all-requires g c =
     let over = c.in_ok-stepped.stepped.over in
     let news = c.step_in_place.new.procs.items in
-    let sent = c.step_in_place.new.buffers.sent.items in
+    let sent = c.step_in_place.new.buffers.sent in
     let n = c.deref.result.now in
     record {
       in_order = (MayGiveAll-stepped n (ends_in n.horizon c.ends.result.now)
@@ -54,7 +54,7 @@ pub returns-clause-stepped : goal.returns-clause-stepped
 returns-clause-stepped g c =
     let over = c.in_ok-stepped.stepped.over in
     let news = c.step_in_place.new.procs.items in
-    let sent = c.step_in_place.new.buffers.sent.items in
+    let sent = c.step_in_place.new.buffers.sent in
     record {
       news = news;
       sent = sent;
@@ -62,6 +62,5 @@ returns-clause-stepped g c =
           (bound_of c.args.buffers.now.bounds.items) c.args.procs.now.items news sent over
           c.args.steps.now c.step_in_place.new.steps c.deref.ensures c.ends.ensures.value
           c.in_ok-stepped.ensures.stepped;
-      delivered = λ none. subst (λ (k : MarkedMessages). AllDelivered k news
-          c.deliver_all.new.procs.items) c.as_slice.ensures.value c.in_ok-deliver_all.ensures.given;
+      delivered = λ none. c.in_ok-deliver_all.ensures.given;
     }

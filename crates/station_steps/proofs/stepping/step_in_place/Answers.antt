@@ -20,7 +20,7 @@ loop-i-init g c =
     let olds = c.args.procs.now.items in
     record {
       stepped = subst (λ l. SteppedTo net ends bounds 0 olds olds l None c.args.steps.now c.args.steps.now)
-          (sym {A = MarkedMessages} c.clear.ensures.items) (SteppedTo-none net ends bounds olds c.args.steps.now);
+          (sym {A = MarkedMessages} c.clear.ensures.none) (SteppedTo-none net ends bounds olds c.args.steps.now);
       bounds = refl;
       at_most = tt;
     }
@@ -48,15 +48,15 @@ loop-i-preserved-then-is_idle g c =
     let late = subst (λ b. IsLowerBoundOfAll b p.copies) is (c.if-is_idle.ensures.lower refl) in
     let flow : StationStep = record {
       done = p;
-      sent = record { items = c.clear.new.self.items };
+      sent = record { items = c.clear.new.self };
       over = empty;
       handled = 0;
     } in
     record {
       stepped = SteppedTo-idle net ends (bound_of bounds) olds c.loop-i.i c.loop-i.procs.items
-          c.loop-i.buffers.sent.items c.loop-i.over c.args.steps.now c.loop-i.steps p flow l far got
+          c.loop-i.buffers.sent c.loop-i.over c.args.steps.now c.loop-i.steps p flow l far got
           (c.requires.stations.procs_in_order c.loop-i.i p (sym (far.others c.loop-i.i (omega arith)) ∙ got)) late
-          c.is_idle.ensures.shared refl c.clear.ensures.items refl refl;
+          c.is_idle.ensures.shared refl c.clear.ensures.none refl refl;
       bounds = c.loop-i.invariant.bounds;
       at_most = c.loop-i.invariant.at_most;
     }
@@ -75,11 +75,11 @@ loop-i-preserved g c =
     let gain = c.in_ok-gain.gain in
     let kept : c.loop-i.buffers.bounds.items ≡ bounds = ap (λ v. v.items) c.loop-i.invariant.bounds in
     let stepped = subst (λ (xs : List ℕ). SteppedAt net ends (bound_of xs c.loop-i.i) c.loop-i.i c.loop-i.procs.items
-    c.step_place.new.procs.items c.loop-i.buffers.sent.items c.step_place.new.buffers.sent.items gain.over gain.handled)
+    c.step_place.new.procs.items c.loop-i.buffers.sent c.step_place.new.buffers.sent gain.over gain.handled)
     kept c.in_ok-gain.ensures.stepped in
     record {
       stepped = SteppedTo-next net ends (bound_of bounds) olds c.loop-i.i c.loop-i.procs.items
-          c.step_place.new.procs.items c.loop-i.buffers.sent.items c.step_place.new.buffers.sent.items c.loop-i.over
+          c.step_place.new.procs.items c.loop-i.buffers.sent c.step_place.new.buffers.sent c.loop-i.over
           c.first_so_far-over.result gain.over gain.handled c.args.steps.now c.loop-i.steps
           c.step_place.new.steps l far stepped c.in_ok-gain.ensures.steps
           c.first_so_far-over.ensures.first;
@@ -94,6 +94,6 @@ returns-clause-stepped g c =
     let net = c.args.model.now in
     let olds = c.args.procs.now.items in
     SteppedTo-all net (ends_in net.horizon c.args.ends.now) (bound_of c.args.buffers.now.bounds.items) olds c.loop-i.i
-    c.loop-i.procs.items c.loop-i.buffers.sent.items c.loop-i.over c.args.steps.now c.loop-i.steps
+    c.loop-i.procs.items c.loop-i.buffers.sent c.loop-i.over c.args.steps.now c.loop-i.steps
     (omega (arith, c.loop-i-test.false, c.loop-i.auto.i-end, c.len-i-end.ensures, c.args.procs.now.ok.0))
     c.loop-i.invariant.stepped

@@ -1,7 +1,6 @@
-use Rattle.std.proofs.Common.{◌≡◌, ◌++◌, arith, ap, subst, ◌∙◌, length-set, slice_set}
+use Rattle.std.proofs.Common.{◌≡◌, arith, subst, length-set, slice_set}
 use Rattle.std.proofs.lemmas.List.{get_or_read}
 use Rattle.phys_proc.specs.Ends.{ends_in}
-use Rattle.phys_proc.specs.Own.{MarkedMessages}
 use Rattle.station_steps.specs.declared.station_step.StationStep.{StationStep}
 use Rattle.station_steps.specs.Windows.{bound_of}
 use Rattle.station_steps.specs.Stepping.{SteppedAt}
@@ -17,7 +16,7 @@ returns-clause-stepped g c =
     let ends = ends_in net.horizon c.args.ends.now in
     let items = c.args.procs.now.items in
     let bounds = c.args.buffers.now.bounds.items in
-    let before = c.args.buffers.now.sent.items in
+    let before = c.args.buffers.now.sent in
     let i = c.args.i in
     let x = c.index_mut.result.now in
     let y = c.advance.new.self in
@@ -30,15 +29,13 @@ returns-clause-stepped g c =
     let at = c.requires.numbered x got in
     let flow : StationStep = record {
       done = y;
-      sent = record { items = c.advance.new.sent.items };
+      sent = record { items = c.advance.new.sent };
       over = c.in_ok-gain.gain.over;
       handled = c.in_ok-gain.gain.handled;
     } in
-    let sent : c.append.new.all.items ≡ before ++ c.advance.new.sent.items =
-    ◌∙◌ {A = MarkedMessages} c.in_ok-append.ensures.both (ap (λ l. before ++ l) c.as_slice.ensures.value) in
-    subst (λ b. SteppedAt net ends b i items (slice_set items i y) before c.append.new.all.items flow.over
+    subst (λ b. SteppedAt net ends b i items (slice_set items i y) before c.append.new.self flow.over
     flow.handled) is
-    (SteppedAt-flow net ends bound i items (slice_set items i y) before c.append.new.all.items x flow got
+    (SteppedAt-flow net ends bound i items (slice_set items i y) before c.append.new.self x flow got
     (is_flow net ends bound i x flow at.number c.in_ok-gain.ensures.advanced)
     (slice_get-set_same items i y c.requires.place) (λ j ne. slice_get-set_other items j i y ne)
-    (length-set items i y) sent)
+    (length-set items i y) c.in_ok-append.ensures.both)

@@ -1,13 +1,18 @@
-use Rattle.std.proofs.Common.{◌≡◌, ◌<◌, ◌≤◌, ◌∷◌, [], ap, arith, refl, sym, subst, ◌∙◌, get_or, length, take}
+use Rattle.std.proofs.Common.{◌≡◌, ◌≤◌, ◌∷◌, [], ap, arith, refl, sym, subst, ◌∙◌, length, take}
+use Rattle.std.proofs.Common.{Some, slice_get}
+use Rattle.std.proofs.lemmas.Option.{get_or_from_slice_get, slice_get_within}
 use Rattle.std.proofs.lemmas.List.{take_all}
 use Rattle.phys_proc.specs.Ends.{ends_in}
 use Rattle.phys_proc.specs.Own.{MarkedMessages}
+use Rattle.sim_base.specs.declared.message.Msg.{Msg}
+use Rattle.clone_sets.specs.declared.set.CloneSet.{CloneSet}
+use Rattle.phys_proc.specs.Sent.{msg_in}
 use Rattle.station_steps.specs.Mail.{IsEarliest, IsMailTaken, SentView, mail_for}
 use Rattle.station_steps.proofs.MailTimes.{earliest-after, earliest-append, earliest-nil}
 use Rattle.station_steps.proofs.TakenMail.{mail_for-next, mail_for-other, mail_for-own}
 use Rattle.station_steps.proofs.sent_list.SentList.earlier_for.Goals.{then-first-via-then-first}
 use Rattle.station_steps.proofs.sent_list.SentList.earlier_for.Goals.{then-first-via-else-first+then-is_at_most}
-use Rattle.station_steps.proofs.sent_list.SentList.earlier_for.Goals.{then-pair-station, else-pair-station}
+use Rattle.station_steps.proofs.sent_list.SentList.earlier_for.Goals.{then-to-station, else-to-station}
 use Rattle.station_steps.proofs.sent_list.SentList.earlier_for.Goals as goal
 
 pub returns-then-first : goal.returns-then-first
@@ -29,44 +34,44 @@ returns-then-first c =
           }
     ]
 
-pub loop-pair-preserved : goal.loop-pair-preserved
-loop-pair-preserved c =
+pub loop-i-preserved : goal.loop-i-preserved
+loop-i-preserved c =
     let ms = c.args.self.now.items in
-    let i = c.loop-pair.pair-index in
-    let x = c.pair-item.result in
+    let i = c.loop-i.i in
+    let x : Msg × CloneSet = (msg_in c.at-msg.result.0, c.at-msg.result.1) in
     let s = c.args.station in
     let ends = ends_in c.args.horizon c.args.ends.now in
     let clones = c.args.clones in
-    let same : c.as_slice-pair-items.result.now ≡ ms =
-    c.as_slice-pair-items.ensures.value ∙ ap (λ (v : SentView). v.items) c.self.view_is in
-    let next = mail_for-next s ms i x (subst (λ (l : MarkedMessages). i < length l) same c.loop-pair-test.true)
-    (c.pair-item.is ∙ ap (λ (l : MarkedMessages). get_or l i x) same) in
-    subst (λ (l : MarkedMessages). IsEarliest c.args.before (IsMailTaken ends clones l) c.if-pair-station.least)
+    let same : c.self.inside.messages ≡ ms = ap (λ (v : SentView). v.items) c.self.view_is in
+    let there = subst (λ (l : MarkedMessages). slice_get l i ≡ Some x) same c.at-msg.ensures.value in
+    let next = mail_for-next s ms i x (slice_get_within ms i x there) (sym (get_or_from_slice_get ms i x x there)) in
+    subst (λ (l : MarkedMessages). IsEarliest c.args.before (IsMailTaken ends clones l) c.if-to-station.least)
     (sym next)
-    (earliest-append ends clones (mail_for s (take i ms)) (mail_for s (x ∷ [])) c.args.before c.loop-pair.least
-    c.if-pair-station.least c.loop-pair.invariant
-    (elim c.if-pair-station.branch [
-      | then-pair-station w ↦
-          subst (IsEarliest c.loop-pair.least (IsMailTaken ends clones (mail_for s (x ∷ [])))) (sym w.least-is)
-          (subst (λ (l : MarkedMessages). IsEarliest c.loop-pair.least (IsMailTaken ends clones l)
-          w.earlier_of_message-least.result) (sym (mail_for-own s x w.if-pair-station.true))
+    (earliest-append ends clones (mail_for s (take i ms)) (mail_for s (x ∷ [])) c.args.before c.loop-i.least
+    c.if-to-station.least c.loop-i.invariant
+    (elim c.if-to-station.branch [
+      | then-to-station w ↦
+          subst (IsEarliest c.loop-i.least (IsMailTaken ends clones (mail_for s (x ∷ [])))) (sym w.least-is)
+          (subst (λ (l : MarkedMessages). IsEarliest c.loop-i.least (IsMailTaken ends clones l)
+          w.earlier_of_message-least.result) (sym (mail_for-own s x (sym c.to.ensures.value ∙ w.if-to-station.true)))
           w.earlier_of_message-least.ensures.earliest)
-      | else-pair-station w ↦
-          subst (IsEarliest c.loop-pair.least (IsMailTaken ends clones (mail_for s (x ∷ [])))) (sym w.least-is)
-          (subst (λ (l : MarkedMessages). IsEarliest c.loop-pair.least (IsMailTaken ends clones l) c.loop-pair.least)
-          (sym (mail_for-other s x w.if-pair-station.false)) (earliest-nil ends clones c.loop-pair.least))
+      | else-to-station w ↦
+          subst (IsEarliest c.loop-i.least (IsMailTaken ends clones (mail_for s (x ∷ [])))) (sym w.least-is)
+          (subst (λ (l : MarkedMessages). IsEarliest c.loop-i.least (IsMailTaken ends clones l) c.loop-i.least)
+          (sym (mail_for-other s x (λ e. w.if-to-station.false (c.to.ensures.value ∙ e))))
+          (earliest-nil ends clones c.loop-i.least))
     ]))
 
 pub returns : goal.returns
 returns c =
     let ms = c.args.self.now.items in
     let ends = ends_in c.args.horizon c.args.ends.now in
-    let same : c.as_slice-pair-items.result.now ≡ ms =
-    c.as_slice-pair-items.ensures.value ∙ ap (λ (v : SentView). v.items) c.self.view_is in
+    let same : c.self.inside.messages ≡ ms = ap (λ (v : SentView). v.items) c.self.view_is in
     record {
       earliest = subst (λ (l : MarkedMessages). IsEarliest c.args.before
-          (IsMailTaken ends c.args.clones (mail_for c.args.station l)) c.loop-pair.least)
-          (take_all c.loop-pair.pair-index ms
-          (subst (λ (l : MarkedMessages). length l ≤ c.loop-pair.pair-index) same c.loop-pair-test.false))
-          c.loop-pair.invariant;
+          (IsMailTaken ends c.args.clones (mail_for c.args.station l)) c.loop-i.least)
+          (take_all c.loop-i.i ms
+          (subst (λ (l : MarkedMessages). length l ≤ c.loop-i.i) same
+          (let l = c.loop-i-test.false in let n = c.len-i-end.ensures.value in omega (arith, l, n))))
+          c.loop-i.invariant;
     }

@@ -4,6 +4,6 @@ use Rattle.station_steps.specs.Mail.{IsEarliest, IsMailTaken}
 use Rattle.station_steps.specs.Windows.{mail_for}
 use Rattle.station_steps.proofs.sent_list.SentList.earlier_for.Given as goal
 
-abbrev pub invariant-loop-pair : goal.invariant-loop-pair
-invariant-loop-pair l = IsEarliest l.fn.before (IsMailTaken (ends_in l.horizon l.ends) l.clones
-    (mail_for l.station (take l.pair-index l.self.items))) l.least
+abbrev pub invariant-loop-i : goal.invariant-loop-i
+invariant-loop-i l = IsEarliest l.fn.before (IsMailTaken (ends_in l.horizon l.ends) l.clones
+    (mail_for l.station (take l.i l.self.items))) l.least

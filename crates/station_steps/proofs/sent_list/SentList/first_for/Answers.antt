@@ -7,7 +7,7 @@ use Rattle.station_steps.proofs.sent_list.SentList.first_for.Goals as goal
 pub returns-then-place-len : goal.returns-then-place-len
 returns-then-place-len c =
     let firsts = c.self.inside.firsts.items in
-    let messages = c.self.inside.messages.items in
+    let messages = c.self.inside.messages in
     let s = c.args.station in
     let first = c.index.result.now in
     record {
@@ -20,7 +20,7 @@ returns-then-place-len c =
 pub returns-else-place-len : goal.returns-else-place-len
 returns-else-place-len c =
     let firsts = c.self.inside.firsts.items in
-    let messages = c.self.inside.messages.items in
+    let messages = c.self.inside.messages in
     let s = c.args.station in
     record {
       first = subst (λ (v : SentView). IsFirstFor s v.items 0) c.self.view_is (subst (IsFirstFor s messages)

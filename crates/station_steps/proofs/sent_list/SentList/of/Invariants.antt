@@ -3,5 +3,5 @@ use Rattle.std.specs.List.{AllByRecursion}
 use Rattle.station_steps.specs.Mail.{IsNoted}
 use Rattle.station_steps.proofs.sent_list.SentList.of.Given as goal
 
-abbrev pub invariant-loop-pair : goal.invariant-loop-pair
-invariant-loop-pair l = AllByRecursion (IsNoted l.firsts.items) (take l.pair-index l.fn.messages.items)
+abbrev pub invariant-loop-i : goal.invariant-loop-i
+invariant-loop-i l = AllByRecursion (IsNoted l.firsts.items) (take l.i l.fn.messages)

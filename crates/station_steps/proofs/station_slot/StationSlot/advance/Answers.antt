@@ -11,7 +11,7 @@ returns-clause-advanced g c =
     let net = c.args.model.now in
     let ends = ends_in net.horizon c.args.ends.now in
     let gain = c.in_ok-gain.gain in
-    let sent = c.advance.new.sent.items in
+    let sent = c.advance.new.sent in
     let e = c.in_ok-gain.ensures in
     let taken : c.take_mail.new.proc ≡ c.args.self.now = taken_is (mail_in c.self.inside.mail) (mail_in c.take.result)
     c.self.inside.proc.value

@@ -18,7 +18,7 @@ returns-clause-flow g c =
     let gain = c.in_ok-gain.gain in
     let flow : StationStep = record {
       done = c.advance.new.self;
-      sent = record { items = c.advance.new.sent.items };
+      sent = record { items = c.advance.new.sent };
       over = gain.over;
       handled = gain.handled;
     } in
