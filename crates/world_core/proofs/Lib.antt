@@ -1,6 +1,7 @@
 pub mod Timing
-pub mod AfterWindow
-pub mod Overs
+pub mod AfterStep
+pub mod FirstBeyond
+pub mod Stepped
 pub mod Worlds
 pub mod Windowed
 pub mod Opening

@@ -1,104 +1,85 @@
--- A world in a window: after its stations were stepped to the bound, and after delivery.
-use Rattle.std.proofs.Common.{◌≡◌, ℕ, ◌+◌, ◌<◌, ◌≤◌, List, Option, Some, None, refl, sym, subst, arith, length, map}
+-- A window is a step from one front to the next.
+use Rattle.std.proofs.Common.{◌≡◌, ℕ, ◌+◌, ◌<◌, ◌≤◌, List, sym, subst, arith, length}
 use Rattle.std.specs.List.{All}
 use Rattle.sim_base.specs.Clones.{Clone}
 use Rattle.net_model.specs.Net.{Net}
-use Rattle.stations.specs.Runs.{next_front}
-use Rattle.phys_proc.specs.Ends.{ends_in}
-use Rattle.phys_proc.specs.Own.{MarkedMessages}
+use Rattle.stations.specs.Runs.{simulation, next_front}
+use Rattle.stations.proofs.GoodLaws.{lawful-stations}
+use Rattle.run_laws.specs.Fronts.{least}
+use Rattle.run_laws.proofs.NextFronts.{window_end-within}
 use Rattle.phys_proc.specs.Procs.{ProcView}
-use Rattle.station_steps.specs.declared.station_step.StationStep.{StationStep}
-use Rattle.station_steps.specs.Windows.{AllDelivered, AllFlow, AreBounds, AreStations, MayGiveAll, NoneOver, bound_of}
-use Rattle.station_steps.specs.Stepping.{AllStepped, FirstOver}
-use Rattle.station_steps.proofs.Flows.{AllFlow-bounds, MayGiveAll-stepped}
-use Rattle.world_core.specs.declared.world.WorldFault.TheVariants.{EventLimit}
-use Rattle.world_core.specs.Overs.{IsFault, NoneBeyond}
-use Rattle.world_core.specs.Worlds.{WorldView, WorldStands, total_handled}
-use Rattle.world_core.proofs.AfterWindow.{WorldStepped, few_handled, total_grows}
-use Rattle.world_core.proofs.Overs.{first_beyond, none_beyond}
-use Rattle.world_core.proofs.Worlds.{are_stations, bound-within, world_after, world_stepped}
+use Rattle.station_steps.specs.Windows.{AreBounds, AreStations}
+use Rattle.link_laws.proofs.WindowRounds.{window_is_round}
+use Rattle.world_core.specs.Cuts.{HasSteppedTo, IsStepTo}
+use Rattle.world_core.specs.Overs.{IsFault, NoneBeyond, NoneBeyondAt}
+use Rattle.world_core.specs.Worlds.{WorldStands, WorldView, total_handled}
+use Rattle.world_core.specs.declared.world.WorldFault.{WorldFault}
+use Rattle.world_core.proofs.Worlds.{cut_of_world, world_of_cut}
 
--- the stations of the world w were stepped to the bound: they are news, they sent this, and over is the first over the
--- limit
-pub record HasStepped (net : Net) (cs : List Clone) (ended : List (ℕ × ℕ)) (w : WorldView) (bound : ℕ)
-    (news : List ProcView) (sent : MarkedMessages) (over : Option (ℕ × ℕ)) (steps0 steps1 : ℕ) : Type 0 where
-  pub fault : (p : ℕ × ℕ) → over ≡ Some p
-      → IsFault w.net w.clones w.front bound steps0 steps1 (EventLimit (p.0 + 1) p.1 net.limit)
-  pub may_give : MayGiveAll news
-  pub stands : over ≡ None → (given : List ProcView) → AllDelivered sent news given
-      → WorldStands net cs ended bound given
-  pub steps : over ≡ None → steps1 + total_handled w.net w.clones w.front
-      ≡ steps0 + total_handled w.net w.clones bound
-  pub length_max : over ≡ None → NoneBeyond w.net w.clones bound
+-- no log is beyond the limit at a front
+none_beyond_front : (net : Net) (cs : List Clone) (front : ℕ) → NoneBeyondAt net cs (λ s. front) →
+    NoneBeyond net cs front
+none_beyond_front net cs front h c l s is = h s (record { low = is.0; high = is.1 }) c l
 
 module _ (net : Net) (cs : List Clone) (ended : List (ℕ × ℕ)) (front bound : ℕ) (procs : List ProcView) (w : WorldView)
-    (world : WorldStands net cs ended front procs) (is : (record { net = net; clones = cs; front = front }) ≡ w)
+    (world : WorldStands net cs ended front procs)
+    (is : ◌≡◌ {A = WorldView} (record { net = net; clones = cs; front = front }) w)
     (above : w.front < bound) (within : bound ≤ next_front w.net w.clones w.front)
     (bounds : List ℕ) (count : length bounds ≡ length procs) (same : All (λ b. b ≡ bound) bounds) where
-  abbrev own : WorldView
-  own = record { net = net; clones = cs; front = front }
-
   later : front < bound
   later = subst (λ (v : WorldView). v.front < bound) (sym is) above
 
   no_later : bound ≤ next_front net cs front
   no_later = subst (λ (v : WorldView). bound ≤ next_front v.net v.clones v.front) (sym is) within
 
-  -- its stations may be stepped, for an equal network as well
-  pub may_step : (n : Net) → n ≡ net → AreStations n procs × AreBounds n procs bounds
-  may_step n e = subst (λ m. AreStations m procs × AreBounds m procs bounds) (sym e) (
-    are_stations net cs ended front procs world,
+  -- the bound is not past the horizon
+  bound-within : bound ≤ net.horizon
+  bound-within =
+      let l = no_later in
+      let h = window_end-within (simulation net) (least (simulation net) cs front) in omega (arith, l, h)
+
+  -- the stations may be stepped to these bounds
+  pub may_step : AreStations net procs × AreBounds net procs bounds
+  may_step = (
+    record {
+      at_most = let n = world.count in let few = world.valid.at_most in omega (arith, n, few);
+      procs_in_order = λ i p got. (world.each i p got).station;
+    },
     record {
       count = count;
-      time_max = λ i d l. let s = same i d l in let b =
-          bound-within net cs ended front bound procs world later no_later in omega (arith, s, b);
+      time_max = λ i d l. let s = same i d l in let b = bound-within in omega (arith, s, b);
     },
   )
 
-  module _ (news : List ProcView) (sent : MarkedMessages) (over : Option (ℕ × ℕ)) (steps0 steps1 : ℕ)
-      (s : AllStepped net (ends_in net.horizon ended) (bound_of bounds) procs news sent over steps0 steps1) where
-    abbrev flows : List StationStep
-    flows = s.flows
+  -- the step to the bound
+  pub window_is_step : IsStepTo net cs ended (λ s. front) (λ s. bound) bounds procs
+  window_is_step = record {
+    stands = cut_of_world net cs ended front procs world;
+    round = window_is_round (lawful-stations net world.valid) cs front bound
+        (record { later = let l = later in omega (arith, l); within = no_later });
+    bounds_are = λ i l. same i 0 (omega (arith, l, count));
+  }
 
-    -- each was stepped to the bound
-    all : AllFlow net (ends_in net.horizon ended) (λ i. bound) procs flows
-    all = AllFlow-bounds net (ends_in net.horizon ended) (bound_of bounds) (λ i. bound) procs flows
-        (λ i l. same i 0 (omega (arith, l, count))) s.each
+  -- the world at the bound
+  pub stands_after : (n : Net) (ds : List Clone) (es : List (ℕ × ℕ)) (old new : ℕ) (given : List ProcView) →
+      n ≡ net → ds ≡ cs → es ≡ ended → HasSteppedTo net cs ended (λ s. front) (λ s. bound) old new given →
+      WorldStands n ds es bound given
+  stands_after n ds es old new given e f g h =
+      subst (λ m. WorldStands m ds es bound given) (sym e)
+      (subst (λ l. WorldStands net l es bound given) (sym f)
+      (subst (λ l. WorldStands net cs l bound given) (sym g)
+      (world_of_cut net cs ended bound given bound-within h.stands)))
 
-    stepped : WorldStepped net cs front bound procs flows
-    stepped = world_stepped net cs ended front bound procs world later no_later flows s.count all
+  -- what the step says of the view
+  pub seen_after : (old new : ℕ) (given : List ProcView) →
+      HasSteppedTo net cs ended (λ s. front) (λ s. bound) old new given →
+      (new + total_handled w.net w.clones w.front ≡ old + total_handled w.net w.clones bound)
+      × NoneBeyond w.net w.clones bound
+  seen_after old new given h = subst (λ (v : WorldView).
+      (new + total_handled v.net v.clones v.front ≡ old + total_handled v.net v.clones bound)
+      × NoneBeyond v.net v.clones bound) is (h.steps, none_beyond_front net cs bound h.length_max)
 
-    none : over ≡ None → NoneOver flows
-    none o = subst (FirstOver flows) o s.first
-
-    own_stepped : HasStepped net cs ended own bound news sent over steps0 steps1
-    own_stepped = record {
-      fault = λ p o.
-          let few = few_handled net cs front bound procs flows stepped in
-          let taken = s.steps_are in (
-            first_beyond net cs front bound procs flows stepped p.0 p.1 (subst (FirstOver flows) o s.first),
-            refl,
-            omega (arith, few, taken),
-          );
-      may_give = MayGiveAll-stepped net (ends_in net.horizon ended) (bound_of bounds) procs news sent over steps0 steps1
-          (are_stations net cs ended front procs world) s;
-      stands = λ o given d. world_after net cs ended front bound procs world later no_later flows s.count all
-          (none o) given
-          (subst (λ k. AllDelivered k (map (λ (f : StationStep). f.done) flows) given) s.sent_is
-          (subst (λ k. AllDelivered sent k given) s.procs d));
-      steps = λ o. let grown = total_grows net cs front bound procs flows stepped world.for_stations (none o) in
-          let taken = s.steps_are in omega (arith, grown, taken);
-      length_max = λ o. none_beyond net cs front bound procs flows stepped (none o);
-    }
-
-  -- after the step, this holds
-  pub has_stepped : (n : Net) (listed : List (ℕ × ℕ)) (news : List ProcView) (sent : MarkedMessages)
-      (over : Option (ℕ × ℕ)) (steps0 steps1 : ℕ) → n ≡ net → listed ≡ ended
-      → AllStepped n (ends_in n.horizon listed) (bound_of bounds) procs news sent over steps0 steps1
-      → HasStepped net cs ended w bound news sent over steps0 steps1
-  has_stepped n listed news sent over steps0 steps1 e f h =
-      subst (λ (v : WorldView). HasStepped net cs ended v bound news sent over steps0 steps1) is
-      (own_stepped news sent over steps0 steps1
-      (subst (λ l. AllStepped net (ends_in net.horizon l) (bound_of bounds) procs news sent over steps0 steps1) f
-      (subst (λ (m : Net). AllStepped m (ends_in m.horizon listed) (bound_of bounds) procs news sent over steps0
-      steps1) e h)))
+  -- and of a fault
+  pub fault_after : (old new : ℕ) (e : WorldFault) → IsFault net cs front bound old new e →
+      IsFault w.net w.clones w.front bound old new e
+  fault_after old new e h = subst (λ (v : WorldView). IsFault v.net v.clones v.front bound old new e) is h

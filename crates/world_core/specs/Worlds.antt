@@ -45,9 +45,13 @@ pub record WorldStands (net : Net) (cs : List Clone) (ended : List (ℕ × ℕ))
   pub for_stations : AllAreForStations (simulation net) cs
   pub each : (i : ℕ) (p : ProcView) → slice_get procs i ≡ Some p → StandsAt net cs front i p
 
--- the messages that the stations have handled once, up to a front
+-- the number of messages that the stations have handled, shared ones once, each up to its time
+abbrev pub total_at : Net → List Clone → (ℕ → ℕ) → ℕ
+total_at net cs cut = station_sum (λ s. handled_once net cs s (cut s)) (length net.sites)
+
+-- the same, all up to a front
 abbrev pub total_handled : Net → List Clone → ℕ → ℕ
-total_handled net cs front = station_sum (λ s. handled_once net cs s front) (length net.sites)
+total_handled net cs front = total_at net cs (λ s. front)
 
 -- clones whose decisions are for stations, and that end at the horizon at the latest
 pub record AreInNet (net : Net) (cs : List Clone) : Type 0 where

@@ -5,8 +5,10 @@
 //! of clones that have handled the same messages there. It splits only when some of its clones take a message that the
 //! others do not.
 //!
-//! A [`World`] holds the copies of all stations. A window steps every station separately, up to a bound that no message
-//! sent in the window can come before. Then each station gets what the others sent to it (`station_steps`).
+//! [`Stations`] are the copies of all stations, at any cut: each station at its own time. [`Stations::advance`] steps
+//! every station separately, up to its bound. Then each station gets what the others sent to it (`station_steps`). A
+//! [`World`] is stations at one front. Its window is the step to one bound for all, which no message sent in the window
+//! can come before.
 //!
 //! ```text
 //! front 5             gate { base fast }      desk { base fast }           out { base fast }
@@ -37,13 +39,13 @@
 //! does.
 #![tactic(auto)]
 
+pub mod advancing;
 mod looking;
-pub mod parts;
 mod racks;
 mod taking;
 mod tracing;
 pub mod world;
 
-pub use parts::WorldParts;
+pub use advancing::Stations;
 pub use station_steps::Window;
-pub use world::{World, WorldFault, beyond_limit};
+pub use world::{World, WorldFault};

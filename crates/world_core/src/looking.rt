@@ -34,10 +34,10 @@ impl World {
         ensures value { result ≡ least_of (simulation self.now.net) (clone_at self.now.clones c) self.now.front }
     {
         let mut least = None;
-        for i in 0..self.procs.len() {
+        for i in 0..self.stations.procs.len() {
             least = earlier(
                 least,
-                self.procs[i].least_of(&self.model, self.ends.ends(), c),
+                self.stations.procs[i].least_of(&self.stations.model, self.stations.ends.ends(), c),
             );
         }
         least
@@ -48,8 +48,12 @@ impl World {
         ensures value { result ≡ least (simulation self.now.net) self.now.clones self.now.front }
     {
         let mut least = None;
-        for i in 0..self.procs.len() {
-            least = self.procs[i].with_least(&self.model, self.ends.ends(), least);
+        for i in 0..self.stations.procs.len() {
+            least = self.stations.procs[i].with_least(
+                &self.stations.model,
+                self.stations.ends.ends(),
+                least,
+            );
         }
         least
     }
@@ -58,7 +62,7 @@ impl World {
     pub fn bound(&self) -> u64
         ensures value { result ≡ next_front self.now.net self.now.clones self.now.front }
     {
-        window_end(&self.model, self.least())
+        window_end(&self.stations.model, self.least())
     }
 
     /// The report's figures of a station at the front: its copies, the messages handled once, and those that the clones
@@ -69,7 +73,7 @@ impl World {
         ensures handled { result.handled ≡ handled_once self.now.net self.now.clones station self.now.front }
         ensures alone { result.alone ≡ handled_alone self.now.net self.now.clones station self.now.front }
     {
-        let proc = &self.procs[station as usize - 1];
+        let proc = &self.stations.procs[station as usize - 1];
         Figures {
             copies: proc.copies().len() as u64,
             handled: proc.handled(),

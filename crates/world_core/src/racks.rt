@@ -22,9 +22,9 @@ impl World {
         // the world is unchanged, even if out of memory
         ensures same { self.new ≡ self.old }
     {
-        let model = share_of(&self.model)?;
-        let lists = self.lists.show(alloc)?;
-        let rack = self.procs[station as usize - 1].rack(alloc, model, lists, self.front)?;
+        let model = share_of(&self.stations.model)?;
+        let lists = self.stations.lists.show(alloc)?;
+        let rack = self.stations.procs[station as usize - 1].rack(alloc, model, lists, self.front)?;
         Ok(rack)
     }
 }

@@ -49,7 +49,7 @@ impl World {
         requires accepted { IsAccepted self.net self.clones self.front decision.now }
         ensures value { IfOk result (λ w. w ≡ record self { clones = clones_after self.net self.clones decision.now }) }
     {
-        let Some(clone) = self.lists.lists().find(&decision.subject()) else {
+        let Some(clone) = self.stations.lists.lists().find(&decision.subject()) else {
             unreachable!()
         };
         match *decision {
@@ -63,7 +63,7 @@ impl World {
                 change,
                 ..
             } => {
-                let Some(station) = self.model.find(&station) else {
+                let Some(station) = self.stations.model.find(&station) else {
                     unreachable!()
                 };
                 let world = self.with_set(
@@ -97,25 +97,17 @@ impl World {
         ensures value { IfOk result (λ w. w ≡ record self { clones = clones_with_fork self.clones new old }) }
     {
         let World {
-            model,
-            mut lists,
-            ends,
+            mut stations,
             front,
-            mut procs,
             last,
-            buffers,
         } = self;
-        let number = lists.lists().len();
-        lists.fork(alloc, new, old)?;
-        fork_all(&mut procs, old, number)?;
+        let number = stations.lists.lists().len();
+        stations.lists.fork(alloc, new, old)?;
+        fork_all(&mut stations.procs, old, number)?;
         Ok(World {
-            model,
-            lists,
-            ends,
+            stations,
             front,
-            procs,
             last,
-            buffers,
         })
     }
 
@@ -132,25 +124,17 @@ impl World {
         ensures value { IfOk result (λ w. w ≡ record self { clones = clones_with_plan self.clones who plan }) }
     {
         let World {
-            model,
-            mut lists,
-            ends,
+            mut stations,
             front,
-            mut procs,
             last,
-            buffers,
         } = self;
-        let msg = set_message(lists.lists().list(who).len(), plan);
-        lists.add(who, plan)?;
-        deliver_to(&mut procs, msg, CloneSet::one(who))?;
+        let msg = set_message(stations.lists.lists().list(who).len(), plan);
+        stations.lists.add(who, plan)?;
+        deliver_to(&mut stations.procs, msg, CloneSet::one(who))?;
         Ok(World {
-            model,
-            lists,
-            ends,
+            stations,
             front,
-            procs,
             last,
-            buffers,
         })
     }
 
@@ -164,24 +148,16 @@ impl World {
         ensures value { IfOk result (λ w. w ≡ record self { clones = clones_with_end self.clones who at }) }
     {
         let World {
-            model,
-            mut lists,
-            mut ends,
+            mut stations,
             front,
-            procs,
             last,
-            buffers,
         } = self;
-        lists.end(who, at);
-        ends.end(alloc, who, at)?;
+        stations.lists.end(who, at);
+        stations.ends.end(alloc, who, at)?;
         Ok(World {
-            model,
-            lists,
-            ends,
+            stations,
             front,
-            procs,
             last,
-            buffers,
         })
     }
 }

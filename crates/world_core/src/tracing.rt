@@ -85,7 +85,7 @@ impl World {
             ≡ log_at (simulation self.now.net) (clone_at self.now.clones who) station self.now.front →
             has result.now.set c ≡ true }
     {
-        match copy_of(self.procs[station as usize - 1].copies(), who) {
+        match copy_of(self.stations.procs[station as usize - 1].copies(), who) {
             Some(copy) => copy,
             None => unreachable!(),
         }
@@ -154,7 +154,7 @@ impl World {
             es.items ≡ (run_of (simulation self.now.net) (clone_at self.now.clones who) self.now.front).at.trace) }
     {
         let mut trace = Vec::new(alloc);
-        for i in 0..self.model.len() {
+        for i in 0..self.stations.model.len() {
             let log = entries(alloc, self.log(who, i + 1))?;
             trace = merge_logs(alloc, trace.as_slice(), log.as_slice())?;
         }

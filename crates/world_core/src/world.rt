@@ -1,14 +1,13 @@
 //! The world of all clones, and its time windows, none longer than the lookahead allows.
 ghost use Rattle.std.specs.Prelude.{◌≡◌, ◌+◌, ◌<◌, ◌≤◌, length, IfOk, IfErr};
 ghost use Rattle.sim_base.specs.declared.lists.TheConstants.{MAX_CLONES};
-ghost use Rattle.net_model.specs.declared.limits.TheConstants.{MAX_STATIONS};
 ghost use Rattle.net_model.specs.Rules.{IsNet};
 ghost use Rattle.stations.specs.Runs.{next_front};
-ghost use Rattle.world_core.specs.Worlds.{AreInNet, opening_world, total_handled};
+ghost use Rattle.world_core.specs.Worlds.{AreInNet, WorldStands, opening_world, total_handled};
 ghost use Rattle.world_core.specs.Opening.{AreFirst};
 ghost use Rattle.world_core.specs.Overs.{IsFault, NoneBeyond};
-ghost use Rattle.world_core.specs.declared.world.WorldFault.TheVariants.{EventLimit};
 
+use crate::advancing::Stations;
 use crew_pool::{Crew, Gate};
 use net_model::Model;
 use phys_proc::Proc;
@@ -24,15 +23,10 @@ use std::sync::{Arc, Wait};
 /// The world of all clones at a front: the copies of every station represent them.
 #[derive(Drop)]
 pub struct World {
-    pub(crate) model: Arc<Model>,
-    pub(crate) lists: SharedLists,
-    pub(crate) ends: SharedEnds,
+    pub(crate) stations: Stations,
     pub(crate) front: u64,
-    pub(crate) procs: Vec<StationSlot>,
     // the number of messages that the last window handled: a hint for the next one
     pub(crate) last: u64,
-    // memory for the bounds of a window and for what it sends
-    pub(crate) buffers: Buffers,
 }
 
 impl std::marker::Model for World {
@@ -40,9 +34,14 @@ impl std::marker::Model for World {
 
     ghost Value = { WorldView };
 
-    ghost view = { λ w. record { net = w.model.value; clones = w.lists.clones; front = w.front } };
+    ghost view = { λ w. record {
+      net = w.stations.model.value;
+      clones = w.stations.lists.clones;
+      front = w.front;
+    } };
 
-    ghost invariant = { λ w. WorldStands w.model.value w.lists.clones w.ends w.front w.procs.items };
+    ghost invariant = { λ w. WorldStands w.stations.model.value w.stations.lists.clones w.stations.ends w.front
+        w.stations.procs.items };
 }
 
 /// Why a window has no result.
@@ -79,18 +78,6 @@ fn open_all(alloc: Global, model: &Model) -> Result<Vec<StationSlot>, NoMemory>
     Ok(procs)
 }
 
-/// The fault of a window whose first station over the limit is at this place, from 0, with this first clone there.
-pub fn beyond_limit(model: &Model, place: u32, who: u32) -> WorldFault
-    requires at_most { place < MAX_STATIONS }
-    ensures value { result ≡ EventLimit (place + 1) who model.now.limit }
-{
-    WorldFault::EventLimit {
-        station: place + 1,
-        who,
-        kept: model.limit(),
-    }
-}
-
 impl World {
     /// The base clone alone, before anything is handled.
     pub fn new(alloc: Global, model: Arc<Model>) -> Result<World, NoMemory>
@@ -100,14 +87,47 @@ impl World {
         let lists = SharedLists::new(alloc)?;
         let ends = SharedEnds::none(alloc)?;
         Ok(World {
-            model,
-            lists,
-            ends,
+            stations: Stations {
+                model,
+                lists,
+                ends,
+                procs,
+                buffers: Buffers::new(alloc),
+            },
             front: 0,
-            procs,
             last: 0,
-            buffers: Buffers::new(alloc),
         })
+    }
+
+    /// Makes a world of these stations at this front.
+    pub fn of_stations(stations: Stations, front: u64) -> World
+        requires stands { WorldStands stations.model.value stations.lists.clones stations.ends front
+            stations.procs.items }
+        ensures value { result ≡ record {
+          net = stations.model.value;
+          clones = stations.lists.clones;
+          front = front;
+        } }
+    {
+        World {
+            stations,
+            front,
+            last: 0,
+        }
+    }
+
+    /// Returns the stations of the world.
+    pub fn into_stations(self) -> Stations
+        ensures net { result.model.value ≡ self.net }
+        ensures clones { result.lists.clones ≡ self.clones }
+        ensures stands { WorldStands self.net self.clones result.ends self.front result.procs.items }
+    {
+        let World {
+            stations,
+            front: _,
+            last: _,
+        } = self;
+        stations
     }
 
     /// Whether the last window was large, so that a crew pays off for the next one. It is a hint.
@@ -127,7 +147,7 @@ impl World {
     pub fn model(&self) -> &Model
         ensures value { result.now ≡ self.now.net }
     {
-        &self.model
+        &self.stations.model
     }
 
     /// The clones with their decisions and ends.
@@ -138,7 +158,7 @@ impl World {
         ensures in_net { AreInNet self.now.net self.now.clones }
         ensures length_max { NoneBeyond self.now.net self.now.clones self.now.front }
     {
-        self.lists.lists()
+        self.stations.lists.lists()
     }
 
     /// Handles the messages before the bound at each station separately, by any stepper. Then gives each station what
@@ -166,28 +186,19 @@ impl World {
         ensures fault { IfErr result (λ e. IsFault self.net self.clones self.front bound steps.old steps.new e) }
     {
         let World {
-            model,
-            lists,
-            ends,
+            mut stations,
             front: _,
-            mut procs,
             last: _,
-            mut buffers,
         } = self;
-        buffers.bound_all(procs.len(), bound)?;
-        let stepped = stepper.step(alloc, &model, &ends, &mut procs, &mut buffers, steps)?;
-        if let Some((place, who)) = stepped.over {
-            return Err(beyond_limit(&model, place, who));
+        stations.buffers.bound_all(stations.procs.len(), bound)?;
+        match stations.advance(alloc, stepper, steps) {
+            Ok(handled) => Ok(World {
+                stations,
+                front: bound,
+                last: handled,
+            }),
+            Err(fault) => Err(fault),
         }
-        Ok(World {
-            model,
-            lists,
-            ends,
-            front: bound,
-            procs,
-            last: stepped.handled,
-            buffers,
-        })
     }
 
     /// The same in the caller's thread, which calls the gate before each station.

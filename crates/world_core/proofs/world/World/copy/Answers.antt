@@ -14,14 +14,15 @@ use Rattle.world_core.proofs.world.World.copy.Goals as goal
 pub unreachable-requires : goal.unreachable-requires
 unreachable-requires c =
     let w = c.self.inside in
-    let procs = w.procs.items in
+    let procs = w.stations.procs.items in
     let i = c.args.station - 1 in
     let p = c.index.result.now in
     let there = subst (λ (w : WorldView). c.args.who < length w.clones) (sym c.self.view_is) c.requires.in_range in
     let is = subst (λ (w : WorldView). HasStation w.net c.args.station) (sym c.self.view_is) c.requires.is_station in
     let many = c.self.invariant.count in
     let got = got_at procs i p (omega (arith, is.low, is.high, many)) c.index.ensures in
-    has_a_copy w.model.value w.lists.clones w.ends w.front procs c.self.invariant c.args.who there i p got
+    has_a_copy w.stations.model.value w.stations.lists.clones w.stations.ends w.front procs c.self.invariant
+    c.args.who there i p got
     (none_has c.copies.result.now p.copies c.copies.ensures.same c.args.who c.in-None.ensures.none)
 
 pub returns-clause-is_in : goal.returns-clause-is_in
@@ -30,7 +31,7 @@ returns-clause-is_in c = c.in-Some.ensures.some.is_in
 pub returns-clause-log : goal.returns-clause-log
 returns-clause-log c =
     let w = c.self.inside in
-    let procs = w.procs.items in
+    let procs = w.stations.procs.items in
     let i = c.args.station - 1 in
     let p = c.index.result.now in
     let copy = c.in-Some.copy.now in
@@ -42,14 +43,15 @@ returns-clause-log c =
     let same : i + 1 ≡ c.args.station = omega (arith, is.low) in
     subst (λ (w : WorldView). (d : ℕ) → has copy.set d ≡ true → copy.log ≡ log_at (simulation w.net)
     (clone_at w.clones d) c.args.station w.front) c.self.view_is (λ d is_in. ap (λ (a : StationCopy). a.log) like.same
-    ∙ log_is w.model.value w.lists.clones w.ends w.front procs c.self.invariant i p like.like d got found.is_copy
+    ∙ log_is w.stations.model.value w.stations.lists.clones w.stations.ends w.front procs c.self.invariant i p
+    like.like d got found.is_copy
     (subst (λ (a : StationCopy). has a.set d ≡ true) like.same is_in)
-    ∙ ap (λ s. log_at (simulation w.model.value) (clone_at w.lists.clones d) s w.front) same)
+    ∙ ap (λ s. log_at (simulation w.stations.model.value) (clone_at w.stations.lists.clones d) s w.front) same)
 
 pub returns-clause-length_max : goal.returns-clause-length_max
 returns-clause-length_max c =
     let w = c.self.inside in
-    let procs = w.procs.items in
+    let procs = w.stations.procs.items in
     let i = c.args.station - 1 in
     let p = c.index.result.now in
     let copy = c.in-Some.copy.now in
@@ -59,13 +61,14 @@ returns-clause-length_max c =
     let like = like_copy c.copies.result.now p.copies c.copies.ensures.same c.args.who copy c.in-Some.ensures.some in
     let found = like.found in
     subst (λ (w : WorldView). length copy.log ≤ w.net.limit) c.self.view_is
-    (subst (λ (a : StationCopy). length a.log ≤ w.model.value.limit) (sym like.same)
-    (log_short w.model.value w.lists.clones w.ends w.front procs c.self.invariant i p like.like got found.is_copy))
+    (subst (λ (a : StationCopy). length a.log ≤ w.stations.model.value.limit) (sym like.same)
+    (log_short w.stations.model.value w.stations.lists.clones w.stations.ends w.front procs c.self.invariant i p
+    like.like got found.is_copy))
 
 pub returns-clause-alike : goal.returns-clause-alike
 returns-clause-alike c =
     let w = c.self.inside in
-    let procs = w.procs.items in
+    let procs = w.stations.procs.items in
     let i = c.args.station - 1 in
     let p = c.index.result.now in
     let copy = c.in-Some.copy.now in
@@ -79,7 +82,9 @@ returns-clause-alike c =
     → log_at (simulation w.net) (clone_at w.clones d) c.args.station w.front
     ≡ log_at (simulation w.net) (clone_at w.clones c.args.who) c.args.station w.front → has copy.set d ≡ true)
     c.self.view_is (λ d l e. subst (λ (a : StationCopy). has a.set d ≡ true) (sym like.same)
-    (alike_is_in w.model.value w.lists.clones w.ends w.front procs c.self.invariant i p like.like c.args.who d got
+    (alike_is_in w.stations.model.value w.stations.lists.clones w.stations.ends w.front procs c.self.invariant i p
+    like.like c.args.who d got
     found.is_copy found.is_in l
-    (subst (λ s. log_at (simulation w.model.value) (clone_at w.lists.clones d) s w.front
-    ≡ log_at (simulation w.model.value) (clone_at w.lists.clones c.args.who) s w.front) (sym same) e)))
+    (subst (λ s. log_at (simulation w.stations.model.value) (clone_at w.stations.lists.clones d) s w.front
+    ≡ log_at (simulation w.stations.model.value) (clone_at w.stations.lists.clones c.args.who) s w.front) (sym same)
+    e)))

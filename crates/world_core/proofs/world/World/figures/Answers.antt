@@ -16,7 +16,7 @@ use Rattle.world_core.proofs.world.World.figures.Goals as goal
 
 pub alone_in-requires-clause-length_max : goal.alone_in-requires-clause-length_max
 alone_in-requires-clause-length_max c =
-    let procs = c.self.inside.procs.items in
+    let procs = c.self.inside.stations.procs.items in
     let p = c.index-proc.result.now in
     let is = subst (λ (w : WorldView). HasStation w.net c.args.station) (sym c.self.view_is) c.requires.is_station in
     let many = c.self.invariant.count in
@@ -26,16 +26,17 @@ alone_in-requires-clause-length_max c =
     all_of_map (λ (a : StationCopy). length a.log ≤ MAX_LIMIT) but_pending c.copies-2.result.now
     (subst (AllByRecursion (λ (a : StationCopy). length a.log ≤ MAX_LIMIT)) (sym c.copies-2.ensures.same)
     (all_map (λ (a : StationCopy). length a.log ≤ MAX_LIMIT) but_pending p.copies
-    (all_short c.self.inside.model.value p.station p.copies (omega (arith, short)) proc.copies)))
+    (all_short c.self.inside.stations.model.value p.station p.copies (omega (arith, short)) proc.copies)))
 
 pub alone_in-requires-clause-at_most : goal.alone_in-requires-clause-at_most
 alone_in-requires-clause-at_most c =
-    let procs = c.self.inside.procs.items in
+    let procs = c.self.inside.stations.procs.items in
     let p = c.index-proc.result.now in
     let is = subst (λ (w : WorldView). HasStation w.net c.args.station) (sym c.self.view_is) c.requires.is_station in
     let many = c.self.invariant.count in
     let got = got_at procs (c.args.station - 1) p (omega (arith, is.low, is.high, many)) c.index-proc.ensures in
-    let f = has_figures c.self.inside.model.value c.self.inside.lists.clones c.self.inside.ends c.self.inside.front
+    let f = has_figures c.self.inside.stations.model.value c.self.inside.stations.lists.clones
+    c.self.inside.stations.ends c.self.inside.front
     procs c.self.invariant c.args.station p is.low got in
     subst (λ n. n ≤ MAX_CLONES) (sym (like_sizes c.copies-2.result.now p.copies c.copies-2.ensures.same)) f.sizes
 
@@ -43,12 +44,13 @@ alone_in-requires-clause-at_most c =
 
 pub returns-clause-copies : goal.returns-clause-copies
 returns-clause-copies c =
-    let procs = c.self.inside.procs.items in
+    let procs = c.self.inside.stations.procs.items in
     let p = c.index-proc.result.now in
     let is = subst (λ (w : WorldView). HasStation w.net c.args.station) (sym c.self.view_is) c.requires.is_station in
     let many = c.self.invariant.count in
     let got = got_at procs (c.args.station - 1) p (omega (arith, is.low, is.high, many)) c.index-proc.ensures in
-    let f = has_figures c.self.inside.model.value c.self.inside.lists.clones c.self.inside.ends c.self.inside.front
+    let f = has_figures c.self.inside.stations.model.value c.self.inside.stations.lists.clones
+    c.self.inside.stations.ends c.self.inside.front
     procs c.self.invariant c.args.station p is.low got in
     like_length c.copies.result.now p.copies c.copies.ensures.same
     ∙ subst (λ (w : WorldView). length p.copies ≡ copies w.net w.clones c.args.station w.front) c.self.view_is
@@ -56,24 +58,26 @@ returns-clause-copies c =
 
 pub returns-clause-handled : goal.returns-clause-handled
 returns-clause-handled c =
-    let procs = c.self.inside.procs.items in
+    let procs = c.self.inside.stations.procs.items in
     let p = c.index-proc.result.now in
     let is = subst (λ (w : WorldView). HasStation w.net c.args.station) (sym c.self.view_is) c.requires.is_station in
     let many = c.self.invariant.count in
     let got = got_at procs (c.args.station - 1) p (omega (arith, is.low, is.high, many)) c.index-proc.ensures in
-    let f = has_figures c.self.inside.model.value c.self.inside.lists.clones c.self.inside.ends c.self.inside.front
+    let f = has_figures c.self.inside.stations.model.value c.self.inside.stations.lists.clones
+    c.self.inside.stations.ends c.self.inside.front
     procs c.self.invariant c.args.station p is.low got in
     c.handled.ensures.value ∙ subst (λ (w : WorldView). p.handled ≡ handled_once w.net w.clones c.args.station w.front)
     c.self.view_is f.once
 
 pub returns-clause-alone : goal.returns-clause-alone
 returns-clause-alone c =
-    let procs = c.self.inside.procs.items in
+    let procs = c.self.inside.stations.procs.items in
     let p = c.index-proc.result.now in
     let is = subst (λ (w : WorldView). HasStation w.net c.args.station) (sym c.self.view_is) c.requires.is_station in
     let many = c.self.invariant.count in
     let got = got_at procs (c.args.station - 1) p (omega (arith, is.low, is.high, many)) c.index-proc.ensures in
-    let f = has_figures c.self.inside.model.value c.self.inside.lists.clones c.self.inside.ends c.self.inside.front
+    let f = has_figures c.self.inside.stations.model.value c.self.inside.stations.lists.clones
+    c.self.inside.stations.ends c.self.inside.front
     procs c.self.invariant c.args.station p is.low got in
     c.alone_in.ensures.value ∙ like_alone c.copies-2.result.now p.copies c.copies-2.ensures.same
     ∙ subst (λ (w : WorldView). handled_alone_by p.copies ≡ handled_alone w.net w.clones c.args.station w.front)

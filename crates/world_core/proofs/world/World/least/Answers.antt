@@ -12,13 +12,13 @@ use Rattle.world_core.proofs.world.World.least.Goals as goal
 
 pub loop-i-preserved : goal.loop-i-preserved
 loop-i-preserved c =
-    let procs = c.self.inside.procs.items in
-    let ended = c.self.inside.ends in
-    let net = c.self.inside.model.value in
+    let procs = c.self.inside.stations.procs.items in
+    let ended = c.self.inside.stations.ends in
+    let net = c.self.inside.stations.model.value in
     let p = c.index.result.now in
     let l : c.loop-i.i < length procs =
-    omega (arith, c.loop-i-test.true, c.loop-i.auto.i-end, c.len-i-end.ensures, c.self.inside.procs.ok.0) in
-    least_next net c.self.inside.lists.clones ended c.self.inside.front procs c.self.invariant c.loop-i.i p
+    omega (arith, c.loop-i-test.true, c.loop-i.auto.i-end, c.len-i-end.ensures, c.self.inside.stations.procs.ok.0) in
+    least_next net c.self.inside.stations.lists.clones ended c.self.inside.front procs c.self.invariant c.loop-i.i p
     c.with_least-least.result (got_at procs c.loop-i.i p l c.index.ensures)
     (least_with (ends_in net.horizon ended) p.copies c.loop-i.least c.with_least-least.result
     (subst (λ (e : List (ℕ × ℕ)). IsWithLeast (ends_in net.horizon e) p.copies c.loop-i.least
@@ -30,8 +30,9 @@ loop-i-preserved c =
 pub returns : goal.returns
 returns c = record {
   value = subst (λ (w : WorldView). c.loop-i.least ≡ least (simulation w.net) w.clones w.front) c.self.view_is
-      (least_all c.self.inside.model.value c.self.inside.lists.clones c.self.inside.ends c.self.inside.front
-      c.self.inside.procs.items c.self.invariant c.loop-i.i c.loop-i.least
-      (omega (arith, c.loop-i-test.false, c.loop-i.auto.i-end, c.len-i-end.ensures, c.self.inside.procs.ok.0))
+      (least_all c.self.inside.stations.model.value c.self.inside.stations.lists.clones c.self.inside.stations.ends
+      c.self.inside.front
+      c.self.inside.stations.procs.items c.self.invariant c.loop-i.i c.loop-i.least
+      (omega (arith, c.loop-i-test.false, c.loop-i.auto.i-end, c.len-i-end.ensures, c.self.inside.stations.procs.ok.0))
       c.loop-i.invariant);
 }

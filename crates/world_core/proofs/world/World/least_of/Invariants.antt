@@ -6,7 +6,8 @@ use Rattle.world_core.proofs.world.World.least_of.Given as goal
 
 abbrev pub invariant-loop-i : goal.invariant-loop-i
 invariant-loop-i l = record {
-  within : l.i ≤ length l.self-inside.procs.items;
-  least : l.least ≡ least_to (simulation l.self-inside.model.value) (clone_at l.self-inside.lists.clones l.c)
+  within : l.i ≤ length l.self-inside.stations.procs.items;
+  least : l.least ≡ least_to (simulation l.self-inside.stations.model.value) (clone_at
+      l.self-inside.stations.lists.clones l.c)
       l.self-inside.front l.i;
 }

@@ -7,20 +7,20 @@ use Rattle.world_core.proofs.world.World.rack.Goals as goal
 
 pub rack-requires-clause-copies : goal.rack-requires-clause-copies
 rack-requires-clause-copies c =
-    let procs = c.self.inside.procs.items in
+    let procs = c.self.inside.stations.procs.items in
     let p = c.index_mut.result.now in
     let is = subst (λ (w : WorldView). HasStation w.net c.args.station) (sym c.self.view_is) c.requires.is_station in
     let many = c.self.invariant.count in
     let got = got_at procs (c.args.station - 1) p (omega (arith, is.low, is.high, many))
     c.index_mut.ensures.value in
-    stands_for_reader c.self.inside.model.value c.in_ok-model.model.value c.self.inside.lists.clones
+    stands_for_reader c.self.inside.stations.model.value c.in_ok-model.model.value c.self.inside.stations.lists.clones
     c.in_ok-lists.lists.value.clones
     c.self.inside.front (c.args.station - 1) p c.in_ok-model.ensures.value c.in_ok-lists.ensures.value
     (c.self.invariant.each (c.args.station - 1) p got)
 
 pub returns-clause-station : goal.returns-clause-station
 returns-clause-station c =
-    let procs = c.self.inside.procs.items in
+    let procs = c.self.inside.stations.procs.items in
     let p = c.index_mut.result.now in
     let is = subst (λ (w : WorldView). HasStation w.net c.args.station) (sym c.self.view_is) c.requires.is_station in
     let many = c.self.invariant.count in

@@ -36,7 +36,8 @@ returns c =
     record {
       value = subst (λ (w : WorldView). c.loop-i.trace.items
           ≡ (run_of (simulation w.net) (clone_at w.clones c.args.who) w.front).at.trace) c.self.view_is
-          (all_merged w.model.value w.lists.clones w.ends w.front w.procs.items c.self.invariant c.args.who there
+          (all_merged w.stations.model.value w.stations.lists.clones w.stations.ends w.front w.stations.procs.items
+          c.self.invariant c.args.who there
           c.loop-i.i c.loop-i.trace.items
           (omega (arith, c.loop-i-test.false, c.loop-i.auto.i-end, c.len-i-end.ensures.value, many)) merged);
     }

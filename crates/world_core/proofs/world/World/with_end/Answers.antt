@@ -6,14 +6,15 @@ use Rattle.world_core.proofs.world.World.with_end.Goals as goal
 
 pub invariant_of-result : goal.invariant_of-result
 invariant_of-result c =
-    let net = c.self.inside.model.value in
-    let cs = c.self.inside.lists.clones in
+    let net = c.self.inside.stations.model.value in
+    let cs = c.self.inside.stations.lists.clones in
     let there = subst (λ (w : WorldView). c.args.who < length w.clones) (sym c.self.view_is) c.requires.in_range in
     let open_end = subst (λ (w : WorldView). (clone_at w.clones c.args.who).end ≡ None)
     (sym c.self.view_is) c.requires.open in
     let late = subst (λ (w : WorldView). w.front ≤ c.args.at) (sym c.self.view_is) c.requires.not_late in
     let early = subst (λ (w : WorldView). c.args.at ≤ w.net.horizon) (sym c.self.view_is) c.requires.time_max in
-    subst (λ cs. WorldStands net cs c.end-2.new.self c.self.inside.front c.self.inside.procs.items)
+    subst (λ cs. WorldStands net cs c.end-2.new.self c.self.inside.front c.self.inside.stations.procs.items)
     (sym c.end.ensures.clones)
-    (world_ended net cs c.args.who c.args.at there open_end c.self.inside.ends c.end-2.new.self c.self.inside.front
-    c.self.inside.procs.items late early (c.in_ok-end.ensures.ends net.horizon) c.self.invariant)
+    (world_ended net cs c.args.who c.args.at there open_end c.self.inside.stations.ends c.end-2.new.self
+    c.self.inside.front
+    c.self.inside.stations.procs.items late early (c.in_ok-end.ensures.ends net.horizon) c.self.invariant)
