@@ -2,8 +2,6 @@ pub mod Lowering
 pub mod OnLinks
 pub mod NextClocks
 pub mod RoundCounts
-pub mod AfterRound
-pub mod FirstBeyond
 pub mod LinkStanding
 pub mod Rounded
 pub mod Totals

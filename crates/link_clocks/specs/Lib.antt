@@ -1,4 +1,3 @@
 pub mod NetClocks
 pub mod LinkWorlds
-pub mod RoundFaults
 pub mod Examples

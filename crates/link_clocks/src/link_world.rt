@@ -5,32 +5,25 @@ ghost use Rattle.net_model.specs.Net.{HasStation};
 ghost use Rattle.net_model.specs.Rules.{IsNet};
 ghost use Rattle.world_core.specs.Taking.{AreAccepted, clones_after_calls};
 ghost use Rattle.link_clocks.specs.NetClocks.{clock, AreAllDone};
-ghost use Rattle.link_clocks.specs.LinkWorlds.{total_after};
-ghost use Rattle.link_clocks.specs.RoundFaults.{IsRoundFault, NoneBeyondAfter};
+ghost use Rattle.link_clocks.specs.LinkWorlds.{IsRoundFault, NoneBeyondAfter, total_after};
 
 use crate::clocks::{Clocks, are_all};
 use crew_pool::{Crew, Gate};
 use decision_book::Call;
 use net_model::Model;
 use sim_base::{NoMemory, Steps};
-use station_steps::{
-    Alone, Buffers, SharedEnds, SharedLists, StationSlot, Stepper, Window, WithCrew,
-};
+use station_steps::{Alone, Buffers, Stepper, Window, WithCrew};
 use std::alloc::Global;
 use std::mem;
 use std::sync::ledger::Ledger;
 use std::sync::{Arc, Wait};
-use world_core::{World, WorldFault, WorldParts, beyond_limit};
+use world_core::{Stations, World, WorldFault};
 
 /// All clones, each station at its own clock: the copies of every station represent them there.
 #[derive(Drop)]
 pub struct LinkWorld {
-    model: Arc<Model>,
-    lists: SharedLists,
-    ends: SharedEnds,
-    procs: Vec<StationSlot>,
+    stations: Stations,
     clocks: Clocks,
-    buffers: Buffers,
 }
 
 impl std::marker::Model for LinkWorld {
@@ -38,10 +31,14 @@ impl std::marker::Model for LinkWorld {
 
     ghost Value = { LinkView };
 
-    ghost view = { λ w. record { net = w.model.value; clones = w.lists.clones; rounds = w.clocks.rounds } };
+    ghost view = { λ w. record {
+      net = w.stations.model.value;
+      clones = w.stations.lists.clones;
+      rounds = w.clocks.rounds;
+    } };
 
-    ghost invariant = { λ w. LinkStands w.model.value w.lists.clones w.ends w.clocks.rounds
-        w.clocks.now.items w.clocks.next.items w.procs.items };
+    ghost invariant = { λ w. LinkStands w.stations.model.value w.stations.lists.clones w.stations.ends w.clocks.rounds
+        w.clocks.now.items w.clocks.next.items w.stations.procs.items };
 }
 
 // Sets the bound of each station to its time in the list.
@@ -63,22 +60,9 @@ impl LinkWorld {
         requires first { world.front ≡ 0 }
         ensures begins { IfOk result (λ w. w ≡ record { net = world.net; clones = world.clones; rounds = 0 }) }
     {
-        let WorldParts {
-            model,
-            lists,
-            ends,
-            procs,
-            buffers,
-        } = world.into_parts();
-        let clocks = Clocks::new(alloc, &model)?;
-        Ok(LinkWorld {
-            model,
-            lists,
-            ends,
-            procs,
-            clocks,
-            buffers,
-        })
+        let stations = world.into_stations();
+        let clocks = Clocks::new(alloc, &stations.model)?;
+        Ok(LinkWorld { stations, clocks })
     }
 
     /// The clones that the calls create, each station at clock 0. The calls were accepted at front 0.
@@ -120,14 +104,14 @@ impl LinkWorld {
         ensures value { IsTrue result ↔ AreAllDone self.now.net self.now.rounds }
         ensures valid { IsNet self.now.net }
     {
-        are_all(self.clocks.now.as_slice(), self.model.horizon())
+        are_all(self.clocks.now.as_slice(), self.stations.model.horizon())
     }
 
     /// Whether two or more stations have something due in the next round, so that a crew pays off for it. It is a hint.
     pub fn wants_crew(&self) -> bool {
         let mut one_is_busy = false;
-        for i in 0..self.procs.len() {
-            if !self.procs[i].is_idle(self.clocks.next[i]) {
+        for i in 0..self.stations.procs.len() {
+            if !self.stations.procs[i].is_idle(self.clocks.next[i]) {
                 if one_is_busy {
                     return true;
                 }
@@ -160,27 +144,17 @@ impl LinkWorld {
         ensures fault { IfErr result (λ e. IsRoundFault self.net self.clones self.rounds steps.old steps.new e) }
     {
         let LinkWorld {
-            model,
-            lists,
-            ends,
-            mut procs,
+            mut stations,
             clocks,
-            mut buffers,
         } = self;
-        bound_by(&mut buffers, clocks.next.as_slice())?;
-        let stepped = stepper.step(alloc, &model, &ends, &mut procs, &mut buffers, steps)?;
-        if let Some((place, who)) = stepped.over {
-            return Err(beyond_limit(&model, place, who));
+        bound_by(&mut stations.buffers, clocks.next.as_slice())?;
+        match stations.advance(alloc, stepper, steps) {
+            Ok(_) => {
+                let clocks = clocks.after_round(&stations.model);
+                Ok(LinkWorld { stations, clocks })
+            }
+            Err(fault) => Err(fault),
         }
-        let clocks = clocks.after_round(&model);
-        Ok(LinkWorld {
-            model,
-            lists,
-            ends,
-            procs,
-            clocks,
-            buffers,
-        })
     }
 
     /// The same in the caller's thread, which calls the gate before each station.
@@ -248,21 +222,10 @@ impl LinkWorld {
         ensures value { result ≡ record { net = self.net; clones = self.clones; front = self.net.horizon } }
     {
         let LinkWorld {
-            model,
-            lists,
-            ends,
-            procs,
+            stations,
             clocks: _,
-            buffers,
         } = self;
-        let front = model.horizon();
-        let parts = WorldParts {
-            model,
-            lists,
-            ends,
-            procs,
-            buffers,
-        };
-        World::of_parts(parts, front)
+        let front = stations.model.horizon();
+        World::of_stations(stations, front)
     }
 }

@@ -41,8 +41,7 @@
 //! - at a cut with one time for all stations these laws are those of fronts in `run_laws`;
 //! - a window of `run_laws` is a round, so the laws `WindowsGiveRuns` and `StandsAfterWindow` follow.
 //!
-//! `cloner links` rests on these laws, through `link_clocks` and `linked_run`. Those of windows are library laws, not
-//! used by `cloner`.
+//! `cloner` rests on these laws: the windows of `world_core` and the rounds of `link_clocks` are steps at a cut.
 #![tactic(auto)]
 
 pub mod examples;

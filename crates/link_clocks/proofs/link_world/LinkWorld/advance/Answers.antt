@@ -1,117 +1,117 @@
-use Rattle.std.proofs.Common.{◌+◌, suc, ap, sym, refl, ◌∙◌, subst}
+use Rattle.std.proofs.Common.{suc, ap, subst, sym, ◌∙◌}
 use Rattle.net_model.specs.Net.{Net}
-use Rattle.world_core.specs.declared.world.WorldFault.TheVariants.{EventLimit}
 use Rattle.link_clocks.specs.LinkWorlds.{LinkView}
-use Rattle.link_clocks.specs.NetClocks.{AreAllDone, HasClocks}
-use Rattle.link_clocks.specs.RoundFaults.{IsRoundFault}
+use Rattle.link_clocks.specs.NetClocks.{AreAllDone, HasClocks, clock}
 use Rattle.link_clocks.proofs.LinkStanding.{round-fits}
-use Rattle.link_clocks.proofs.Rounded.{has_rounded, may_step}
+use Rattle.link_clocks.proofs.Rounded.{fault_after, may_step, round_is_step, seen_after, stands_after}
 use Rattle.link_clocks.proofs.link_world.LinkWorld.advance.Goals as goal
 
-pub step-requires-clause-stations : goal.step-requires-clause-stations
-step-requires-clause-stations g c =
-    let i = c.self.inside in
-    let first = c.in_ok-bound_by.ensures.same in
-    let second = c.as_slice.ensures.value in
-    let may = may_step i.model.value i.lists.clones i.ends i.clocks.rounds i.clocks.now.items i.clocks.next.items
-    i.procs.items
-    c.args.self c.self.invariant c.self.view_is c.bound_by.new.buffers.bounds.items c.as_slice.result.now first second
-    i.model.value refl in
-    may.0
+pub advance-requires-clause-stations : goal.advance-requires-clause-stations
+advance-requires-clause-stations g c =
+    let i = c.self.inside.stations in
+    let k = c.self.inside.clocks in
+    (may_step i.model.value i.lists.clones i.ends k.rounds k.now.items k.next.items i.procs.items c.args.self
+    c.self.invariant c.self.view_is c.bound_by.new.buffers.bounds.items c.as_slice.result.now
+    c.in_ok-bound_by.ensures.same c.as_slice.ensures.value).0
 
-pub step-requires-clause-bounds : goal.step-requires-clause-bounds
-step-requires-clause-bounds g c =
-    let i = c.self.inside in
-    let first = c.in_ok-bound_by.ensures.same in
-    let second = c.as_slice.ensures.value in
-    let may = may_step i.model.value i.lists.clones i.ends i.clocks.rounds i.clocks.now.items i.clocks.next.items
-    i.procs.items
-    c.args.self c.self.invariant c.self.view_is c.bound_by.new.buffers.bounds.items c.as_slice.result.now first second
-    i.model.value refl in
-    may.1
+pub advance-requires-clause-bounds : goal.advance-requires-clause-bounds
+advance-requires-clause-bounds g c =
+    let i = c.self.inside.stations in
+    let k = c.self.inside.clocks in
+    (may_step i.model.value i.lists.clones i.ends k.rounds k.now.items k.next.items i.procs.items c.args.self
+    c.self.invariant c.self.view_is c.bound_by.new.buffers.bounds.items c.as_slice.result.now
+    c.in_ok-bound_by.ensures.same c.as_slice.ensures.value).1
 
--- ---- a log beyond the limit
-
-pub returns-in-Some-clause-fault : goal.returns-in-Some-clause-fault
-returns-in-Some-clause-fault g c =
-    let i = c.self.inside in
-    let first = c.in_ok-bound_by.ensures.same in
-    let second = c.as_slice.ensures.value in
-    let s = c.in_ok-stepped.stepped in
-    let all = c.in_ok-stepped.ensures.stepped in
-    let h = has_rounded i.model.value i.lists.clones i.ends i.clocks.rounds i.clocks.now.items i.clocks.next.items
-    i.procs.items
-    c.args.self c.self.invariant c.self.view_is c.bound_by.new.buffers.bounds.items c.as_slice.result.now first second
-    i.model.value i.ends
-    all.news all.sent s.over c.args.steps.now c.step.new.steps refl refl all.stepped in
-    let place = c.in-Some.place + 1 in
-    subst (IsRoundFault c.args.self.net c.args.self.clones c.args.self.rounds c.args.steps.now c.step.new.steps)
-    (sym (c.beyond_limit.ensures.value ∙ ap (λ (n : Net). EventLimit place c.in-Some.who n.limit) c.deref.ensures))
-    (h.fault (c.in-Some.place, c.in-Some.who) c.in-Some.is)
+pub returns-in-Err-clause-fault : goal.returns-in-Err-clause-fault
+returns-in-Err-clause-fault g c =
+    let i = c.self.inside.stations in
+    let k = c.self.inside.clocks in
+    let may = round_is_step i.model.value i.lists.clones i.ends k.rounds k.now.items k.next.items i.procs.items
+    c.args.self
+    c.self.invariant c.self.view_is c.bound_by.new.buffers.bounds.items c.as_slice.result.now
+    c.in_ok-bound_by.ensures.same c.as_slice.ensures.value in
+    fault_after i.model.value i.lists.clones i.ends k.rounds k.now.items k.next.items i.procs.items c.args.self
+    c.self.invariant c.self.view_is c.bound_by.new.buffers.bounds.items c.as_slice.result.now
+    c.in_ok-bound_by.ensures.same c.as_slice.ensures.value c.args.steps.now c.advance.new.steps c.in-Err.fault
+    (c.in-Err.ensures.fault (clock i.model.value k.rounds) (clock i.model.value (suc k.rounds)) may)
 
 -- ---- the world after the round
 
 pub after_round-clocks-requires : goal.after_round-clocks-requires
 after_round-clocks-requires g c =
-    let i = c.self.inside in
-    let going : ¬ (AreAllDone i.model.value i.clocks.rounds) = subst (λ (v : LinkView). ¬ (AreAllDone v.net v.rounds))
+    let i = c.self.inside.stations in
+    let k = c.self.inside.clocks in
+    let going : ¬ (AreAllDone i.model.value k.rounds) = subst (λ (v : LinkView). ¬ (AreAllDone v.net v.rounds))
     (sym c.self.view_is) c.requires.going in
     record {
-      clocks = subst (λ (n : Net). HasClocks n i.clocks.rounds i.clocks.now.items i.clocks.next.items)
-          (sym c.deref-2.ensures) c.self.invariant.clocks_are;
-      fits = round-fits i.model.value i.lists.clones i.ends i.clocks.rounds i.clocks.now.items i.clocks.next.items
-          i.procs.items c.self.invariant going;
+      clocks = subst (λ (n : Net). HasClocks n k.rounds k.now.items k.next.items)
+          (sym (c.deref.ensures ∙ c.advance.ensures.model)) c.self.invariant.clocks_are;
+      fits = round-fits i.model.value i.lists.clones i.ends k.rounds k.now.items k.next.items i.procs.items
+          c.self.invariant going;
     }
 
 pub invariant_of-result : goal.invariant_of-result
 invariant_of-result g c =
-    let i = c.self.inside in
-    let first = c.in_ok-bound_by.ensures.same in
-    let second = c.as_slice.ensures.value in
-    let s = c.in_ok-stepped.stepped in
-    let all = c.in_ok-stepped.ensures.stepped in
-    let h = has_rounded i.model.value i.lists.clones i.ends i.clocks.rounds i.clocks.now.items i.clocks.next.items
-    i.procs.items
-    c.args.self c.self.invariant c.self.view_is c.bound_by.new.buffers.bounds.items c.as_slice.result.now first second
-    i.model.value i.ends
-    all.news all.sent s.over c.args.steps.now c.step.new.steps refl refl all.stepped in
+    let i = c.self.inside.stations in
+    let k = c.self.inside.clocks in
+    let may = round_is_step i.model.value i.lists.clones i.ends k.rounds k.now.items k.next.items i.procs.items
+    c.args.self
+    c.self.invariant c.self.view_is c.bound_by.new.buffers.bounds.items c.as_slice.result.now
+    c.in_ok-bound_by.ensures.same c.as_slice.ensures.value in
+    let s = c.advance.new.self in
     let clocks = c.after_round-clocks.result in
     let after = c.after_round-clocks.ensures in
-    h.stands c.in_default.is c.step.new.procs.items clocks.rounds clocks.now.items clocks.next.items
-    (all.delivered c.in_default.is) after.counted
-    (subst (λ (n : Net). HasClocks n clocks.rounds clocks.now.items clocks.next.items) c.deref-2.ensures after.clocks)
+    stands_after i.model.value i.lists.clones i.ends k.rounds k.now.items k.next.items i.procs.items c.args.self
+    c.self.invariant c.self.view_is c.bound_by.new.buffers.bounds.items c.as_slice.result.now
+    c.in_ok-bound_by.ensures.same c.as_slice.ensures.value s.model.value s.lists.clones s.ends clocks.rounds
+    c.args.steps.now c.advance.new.steps clocks.now.items clocks.next.items s.procs.items c.advance.ensures.model
+    (ap (λ l. l.clones) c.advance.ensures.lists) c.advance.ensures.ends after.counted
+    (subst (λ (n : Net). HasClocks n clocks.rounds clocks.now.items clocks.next.items) c.deref.ensures after.clocks)
+    (c.in-Ok.ensures.stepped (clock i.model.value k.rounds) (clock i.model.value (suc k.rounds)) may)
 
-pub returns-clause-value : goal.returns-clause-value
-returns-clause-value g c =
-    let i = c.self.inside in
-    let one : LinkView = record { net = i.model.value; clones = i.lists.clones; rounds = i.clocks.rounds } in
-    ap (λ n. record one { rounds = n }) c.after_round-clocks.ensures.counted
+pub returns-in-Ok-clause-value : goal.returns-in-Ok-clause-value
+returns-in-Ok-clause-value g c =
+    let i = c.self.inside.stations in
+    let one : LinkView = record {
+      net = i.model.value;
+      clones = i.lists.clones;
+      rounds = c.self.inside.clocks.rounds;
+    } in
+    ap (λ (n : Net). record one {
+      net = n;
+      rounds = c.after_round-clocks.result.rounds;
+      clones =
+          c.advance.new.self.lists.clones;
+    }) c.advance.ensures.model
+    ∙ ap (λ cs. record one { clones = cs; rounds = c.after_round-clocks.result.rounds })
+    (ap (λ l. l.clones) c.advance.ensures.lists)
+    ∙ ap (λ n. record one { rounds = n }) c.after_round-clocks.ensures.counted
     ∙ ap (λ (v : LinkView). record v { rounds = suc v.rounds }) c.self.view_is
 
-pub returns-clause-steps : goal.returns-clause-steps
-returns-clause-steps g c =
-    let i = c.self.inside in
-    let first = c.in_ok-bound_by.ensures.same in
-    let second = c.as_slice.ensures.value in
-    let s = c.in_ok-stepped.stepped in
-    let all = c.in_ok-stepped.ensures.stepped in
-    let h = has_rounded i.model.value i.lists.clones i.ends i.clocks.rounds i.clocks.now.items i.clocks.next.items
-    i.procs.items
-    c.args.self c.self.invariant c.self.view_is c.bound_by.new.buffers.bounds.items c.as_slice.result.now first second
-    i.model.value i.ends
-    all.news all.sent s.over c.args.steps.now c.step.new.steps refl refl all.stepped in
-    h.steps c.in_default.is
+pub returns-in-Ok-clause-steps : goal.returns-in-Ok-clause-steps
+returns-in-Ok-clause-steps g c =
+    let i = c.self.inside.stations in
+    let k = c.self.inside.clocks in
+    let may = round_is_step i.model.value i.lists.clones i.ends k.rounds k.now.items k.next.items i.procs.items
+    c.args.self
+    c.self.invariant c.self.view_is c.bound_by.new.buffers.bounds.items c.as_slice.result.now
+    c.in_ok-bound_by.ensures.same c.as_slice.ensures.value in
+    (seen_after i.model.value i.lists.clones i.ends k.rounds k.now.items k.next.items i.procs.items c.args.self
+    c.self.invariant c.self.view_is c.bound_by.new.buffers.bounds.items c.as_slice.result.now
+    c.in_ok-bound_by.ensures.same c.as_slice.ensures.value c.args.steps.now c.advance.new.steps
+    c.advance.new.self.procs.items
+    (c.in-Ok.ensures.stepped (clock i.model.value k.rounds) (clock i.model.value (suc k.rounds)) may)).0
 
-pub returns-clause-length_max : goal.returns-clause-length_max
-returns-clause-length_max g c =
-    let i = c.self.inside in
-    let first = c.in_ok-bound_by.ensures.same in
-    let second = c.as_slice.ensures.value in
-    let s = c.in_ok-stepped.stepped in
-    let all = c.in_ok-stepped.ensures.stepped in
-    let h = has_rounded i.model.value i.lists.clones i.ends i.clocks.rounds i.clocks.now.items i.clocks.next.items
-    i.procs.items
-    c.args.self c.self.invariant c.self.view_is c.bound_by.new.buffers.bounds.items c.as_slice.result.now first second
-    i.model.value i.ends
-    all.news all.sent s.over c.args.steps.now c.step.new.steps refl refl all.stepped in
-    h.length_max c.in_default.is
+pub returns-in-Ok-clause-length_max : goal.returns-in-Ok-clause-length_max
+returns-in-Ok-clause-length_max g c =
+    let i = c.self.inside.stations in
+    let k = c.self.inside.clocks in
+    let may = round_is_step i.model.value i.lists.clones i.ends k.rounds k.now.items k.next.items i.procs.items
+    c.args.self
+    c.self.invariant c.self.view_is c.bound_by.new.buffers.bounds.items c.as_slice.result.now
+    c.in_ok-bound_by.ensures.same c.as_slice.ensures.value in
+    (seen_after i.model.value i.lists.clones i.ends k.rounds k.now.items k.next.items i.procs.items c.args.self
+    c.self.invariant c.self.view_is c.bound_by.new.buffers.bounds.items c.as_slice.result.now
+    c.in_ok-bound_by.ensures.same c.as_slice.ensures.value c.args.steps.now c.advance.new.steps
+    c.advance.new.self.procs.items
+    (c.in-Ok.ensures.stepped (clock i.model.value k.rounds) (clock i.model.value (suc k.rounds)) may)).1

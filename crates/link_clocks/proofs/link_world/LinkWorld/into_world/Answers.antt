@@ -6,14 +6,14 @@ use Rattle.link_clocks.specs.NetClocks.{AreAllDone}
 use Rattle.link_clocks.proofs.LinkStanding.{link_ends}
 use Rattle.link_clocks.proofs.link_world.LinkWorld.into_world.Goals as goal
 
-pub of_parts-requires : goal.of_parts-requires
-of_parts-requires c =
-    let i = c.self.inside in
+pub of_stations-requires : goal.of_stations-requires
+of_stations-requires c =
+    let i = c.self.inside.stations in
+    let k = c.self.inside.clocks in
     let done = subst (λ (v : LinkView). AreAllDone v.net v.rounds) (sym c.self.view_is) c.requires.done in
     let horizon = c.horizon-front.ensures.value ∙ ap (λ (n : Net). n.horizon) c.deref.ensures in
     record {
       stands = subst (λ f. WorldStands i.model.value i.lists.clones i.ends f i.procs.items) (sym horizon)
-          (link_ends i.model.value i.lists.clones i.ends i.clocks.rounds i.clocks.now.items i.clocks.next.items
-          i.procs.items
+          (link_ends i.model.value i.lists.clones i.ends k.rounds k.now.items k.next.items i.procs.items
           c.self.invariant done);
     }

@@ -3,8 +3,8 @@ use Rattle.link_clocks.proofs.link_world.LinkWorld.of.Goals as goal
 
 pub invariant_of-result : goal.invariant_of-result
 invariant_of-result c =
-    let parts = c.into_parts-model.result in
-    let e = c.into_parts-model.ensures in
+    let parts = c.into_stations-stations.result in
+    let e = c.into_stations-stations.ensures in
     let clocks = c.in_ok-clocks.clocks in
     link_opens c.args.world parts.model.value c.deref.result.now parts.lists.clones parts.ends parts.procs.items
     clocks.rounds clocks.now.items clocks.next.items e.net e.clones c.requires.first c.in_ok-clocks.ensures.none
