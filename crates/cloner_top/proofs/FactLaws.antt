@@ -11,7 +11,7 @@ use Rattle.command_words.specs.declared.request.Mode.{Mode}
 use Rattle.command_words.specs.declared.request.Mode.TheVariants.{Links, Save, Solo}
 use Rattle.watch_points.specs.Triggers.{clones_with_branches}
 use Rattle.study_run.specs.Limits.{until}
-use Rattle.linked_run.specs.Linking.{IsOverrun}
+use Rattle.study_run.specs.Linking.{IsOverrun}
 use Rattle.command_words.specs.Requests.{AssignmentView, Live, Resume, Study, Watch}
 use Rattle.cloner_top.specs.declared.excess.Excess.{Excess}
 use Rattle.cloner_top.specs.declared.excess.Excess.TheVariants.{LimitMet, LongSnapshot}

@@ -8,8 +8,8 @@ use Rattle.world_core.specs.Worlds.{total_handled}
 use Rattle.trace_writer.specs.WorldTraces.{AreShort}
 use Rattle.study_run.specs.Limits.{AreWithin}
 use Rattle.study_run.specs.Work.{IsFew}
-use Rattle.linked_run.specs.Linking.{IsLinkedRun, IsOverrun}
-use Rattle.linked_run.specs.declared.run.LinkedWorld.{LinkedWorld}
+use Rattle.study_run.specs.Linking.{IsLinkedRun, IsOverrun}
+use Rattle.study_run.specs.declared.linked_study.LinkedWorld.{LinkedWorld}
 use Rattle.cloner_top.specs.declared.excess.Excess.{Excess}
 use Rattle.cloner_top.specs.Endings.{HasWritten, IsExcessOf, MayRunLinked, limit_met_at, linked, over_linked}
 use Rattle.cloner_top.specs.Endings.{rounds_line}

@@ -35,9 +35,9 @@ use Rattle.watch_points.specs.Triggers.{clones_with_branches, trigger_of, trigge
 use Rattle.watch_points.proofs.AcceptedWatches.{accepted_watches_fit}
 use Rattle.watch_points.proofs.FollowedClones.{figures_are_the_same}
 use Rattle.watch_points.specs.declared.watch.Watch.{Watch}
-use Rattle.watched_run.specs.Stops.{StopsWatched}
-use Rattle.watched_run.specs.Watching.{IsWatchedRun}
-use Rattle.watched_run.specs.declared.run.WatchedWorld.{WatchedWorld}
+use Rattle.study_run.specs.Stops.{StopsWatched}
+use Rattle.study_run.specs.Watching.{IsWatchedRun}
+use Rattle.study_run.specs.declared.watched_study.WatchedWorld.{WatchedWorld}
 use Rattle.cloner_top.specs.declared.excess.Excess.{Excess}
 use Rattle.cloner_top.specs.Endings.{HasWritten, IsExcessOf, MayRunWatched, limit_met_at, over, run_texts, within}
 use Rattle.cloner_top.specs.RunTexts.{MayPutRun}

@@ -21,7 +21,7 @@ use Rattle.study_stats.specs.Rows.{statistics}
 use Rattle.link_clocks.specs.NetClocks.{AreAllRounds}
 use Rattle.journal_text.specs.declared.looked.Looked.{Looked}
 use Rattle.journal_text.specs.JournalText.{journal_text}
-use Rattle.linked_run.specs.Linking.{IsOverrun}
+use Rattle.study_run.specs.Linking.{IsOverrun}
 use Rattle.live_study.specs.Engines.{MeetsLimitLast}
 use Rattle.live_study.specs.Looks.{AreLooks, AreMadeLooks}
 use Rattle.live_study.specs.Scripts.{IsJournalOf}

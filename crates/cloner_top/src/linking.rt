@@ -2,7 +2,7 @@
 //! rounds.
 ghost use Rattle.std.specs.Prelude.{◌++◌, ◌∷◌, [], IfErr, IfOk};
 ghost use Rattle.study_run.specs.Accepted.{IsAcceptedJournal};
-ghost use Rattle.linked_run.specs.Linking.{IsLinkedRun};
+ghost use Rattle.study_run.specs.Linking.{IsLinkedRun};
 ghost use Rattle.cloner_top.specs.Deciding.{clones_of_book};
 ghost use Rattle.cloner_top.specs.Endings.{HasWritten, MayRunLinked, MaySimulate, rounds_line, run_texts};
 ghost use Rattle.cloner_top.specs.Outsides.{IsDone, IsNoRun};
@@ -15,13 +15,12 @@ use crate::resources::Resources;
 use crate::running::limit_at;
 use command_words::Mode;
 use crew_pool::Gate;
-use linked_run::{LinkedWorld, run_linked, run_linked_sequentially};
 use sim_base::Steps;
 use sim_outer::Sink;
 use std::sync::Wait;
 use std::sync::ledger::Ledger;
 use std::thread::Threads;
-use study_run::StudyFault;
+use study_run::{LinkedWorld, StudyFault, run_linked, run_linked_sequentially};
 
 // Runs all clones in rounds up to the horizon, in this thread or with several workers.
 fn run_clones<G: Gate + Sync, L: Ledger, R: Threads + Wait + Sync>(

@@ -25,10 +25,9 @@ use sim_outer::{PutFailed, Sink};
 use std::alloc::Global;
 use std::sync::Wait;
 use std::thread::Threads;
-use study_run::make_report;
+use study_run::{WatchedWorld, make_report};
 use study_stats::make_statistics;
 use trace_writer::{Texts, WorldTraces, prepare, put_alone, put_texts, put_texts_sequentially};
-use watched_run::WatchedWorld;
 use world_core::World;
 
 /// Puts one text.

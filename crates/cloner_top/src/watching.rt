@@ -3,7 +3,7 @@ ghost use Rattle.std.specs.Prelude.{◌≡◌, length, IfErr, IfOk, Ok};
 ghost use Rattle.study_run.specs.Accepted.{IsAcceptedJournal};
 ghost use Rattle.watch_laws.specs.Orders.{IsPlaceOrder, in_order};
 ghost use Rattle.watch_points.specs.Checking.{fit};
-ghost use Rattle.watched_run.specs.Watching.{IsWatchedRun};
+ghost use Rattle.study_run.specs.Watching.{IsWatchedRun};
 ghost use Rattle.cloner_top.specs.Deciding.{clones_of_book};
 ghost use Rattle.cloner_top.specs.Endings.{HasWritten, MayRunWatched, run_texts};
 ghost use Rattle.cloner_top.specs.Outsides.{IsDone, IsNoRun};
@@ -20,9 +20,8 @@ use sim_outer::Sink;
 use std::sync::Wait;
 use std::sync::ledger::Ledger;
 use std::thread::Threads;
-use study_run::StudyFault;
+use study_run::{StudyFault, WatchedWorld, run_watched, run_watched_sequentially};
 use watch_points::numbered_name;
-use watched_run::{WatchedWorld, run_watched, run_watched_sequentially};
 
 // Runs all clones with their watches up to the horizon, in this thread or with several workers.
 fn run_clones<G: Gate + Sync, L: Ledger, R: Threads + Wait + Sync>(

@@ -7,7 +7,7 @@ use Rattle.world_core.specs.Worlds.{WorldView, total_handled}
 use Rattle.world_core.specs.declared.world.WorldFault.{WorldFault}
 use Rattle.study_run.specs.Faults.{fault_of_window}
 use Rattle.study_run.specs.Going.{HasGoneOn, HasStopped, IsStudyRun}
-use Rattle.study_run.specs.Onwards.{IsWindow, front_after}
+use Rattle.study_run.specs.Windows.{IsWindow, front_after}
 use Rattle.study_run.specs.Overs.{HasCome, first_overrun}
 use Rattle.study_run.specs.declared.fault.StudyFault.{StudyFault}
 use Rattle.study_run.proofs.OverLaws.{comes_last, within_horizon}

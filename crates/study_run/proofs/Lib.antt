@@ -6,5 +6,10 @@ pub mod Fulls
 pub mod SoloRuns
 pub mod Reports
 pub mod Accepting
-pub mod Leading
+pub mod Windows
 pub mod Goings
+pub mod FewerClones
+pub mod WatchedWindows
+pub mod WatchedWhole
+pub mod Rounds
+pub mod LinkedWhole

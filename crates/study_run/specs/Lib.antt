@@ -6,4 +6,8 @@ pub mod Laws
 pub mod Accepted
 pub mod Going
 pub mod Onwards
+pub mod Windows
+pub mod Linking
+pub mod Stops
+pub mod Watching
 pub mod Reports

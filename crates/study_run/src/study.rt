@@ -7,9 +7,9 @@ ghost use Rattle.study_run.specs.Going.{IsStudyRun};
 ghost use Rattle.study_run.specs.Faults.{IsFaultOfAll};
 ghost use Rattle.study_run.specs.Limits.{AreWithin};
 
+use crate::driver::{go_alone, go_to_end};
 use crate::fault::StudyFault;
-use crate::going::{go_alone, go_to_horizon};
-use crate::onwards::PlainRun;
+use crate::plain::PlainRun;
 use crew_pool::{Gate, Workers};
 use decision_book::Call;
 use net_model::Model;
@@ -60,7 +60,7 @@ fn run_to_horizon<G: Gate + Sync, L: Ledger, R: Threads + Wait + Sync>(
     ensures runs { IsStudyRun world.net world.clones steps.old steps.new result }
 {
     let _valid = world.model().horizon();
-    go_to_horizon(rt, alloc, workers, gate, &mut PlainRun, world, steps)
+    go_to_end(rt, alloc, workers, gate, &mut PlainRun, world, steps)
 }
 
 /// Runs a study in the caller's thread. The world of a model takes the calls, which were accepted, at front 0, and

@@ -1,4 +1,0 @@
-use Rattle.linked_run.proofs.tests.rounds_of.Given as goal
-
-abbrev pub ghosts-run_base : goal.ghosts-run_base
-ghosts-run_base a = record { name = a.blank.name; parts = a.blank.parts }

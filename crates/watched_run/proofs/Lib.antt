@@ -1,3 +1,0 @@
-pub mod FewerClones
-pub mod Windows
-pub mod Whole
