@@ -11,6 +11,7 @@
 //! decision_book_tests      msg_heap_tests           stations_tests
 //! decision_script_tests    msg_route_tests          study_generator_tests
 //! journal_text_tests       net_model_tests          trace_report_tests
+//! phys_proc_tests          phys_proc: the lists of sent messages
 //! ```
 //!
 //! `counts` and `lines` test no crate. Five modules write their tables with `counts`, and two read their decisions
@@ -48,6 +49,8 @@ mod msg_route_tests;
 mod net_model_tests;
 #[cfg(test)]
 mod packed_limits;
+#[cfg(test)]
+mod phys_proc_tests;
 #[cfg(test)]
 mod sim_base_lists;
 #[cfg(test)]

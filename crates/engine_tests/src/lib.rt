@@ -7,6 +7,7 @@
 //! crew_pool_tests        phys_proc_tests        world_core_tests
 //! decision_desk_tests    shelf_tests
 //! live_study_tests       study_stats_tests
+//! linked_tests: the rounds of study_run
 //! ```
 //!
 //! They show what is not proved: that calls find memory, and that contracts mean what they should, against values
@@ -17,6 +18,8 @@
 mod crew_pool_tests;
 #[cfg(test)]
 mod decision_desk_tests;
+#[cfg(test)]
+mod linked_tests;
 #[cfg(test)]
 mod live_study_tests;
 #[cfg(test)]

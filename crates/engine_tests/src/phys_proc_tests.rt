@@ -5,7 +5,7 @@ ghost use Rattle.phys_proc.specs.Procs.{IsProc};
 
 use clone_sets::CloneSet;
 use net_model::{Model, read_model};
-use phys_proc::{CloneEnds, Gain, Proc};
+use phys_proc::{CloneEnds, Gain, Proc, SentMessages};
 use sample_models::ONE_DESK;
 use sim_base::{Change, Job, Key, MAX_CLONES, Msg, Param, Payload, Steps};
 use std::alloc::Global;
@@ -97,7 +97,7 @@ fn open_desk(alloc: Global, model: &Model, clones: u32, msgs: &[(Msg, CloneSet)]
 #[derive(Drop)]
 struct Flow {
     done: Proc,
-    sent: Vec<(Msg, CloneSet)>,
+    sent: SentMessages,
     over: CloneSet,
     handled: u64,
 }
@@ -119,7 +119,7 @@ fn step_counted<L: Ledger>(
     ensures proc { IfSome result (λ f. IsProc model.now f.done) }
 {
     let mut done = proc;
-    let mut sent = Vec::new(alloc);
+    let mut sent = SentMessages::new(alloc);
     let mut steps = Steps::<L>::new(blank);
     let Gain { over, handled } = done
         .advance(alloc, model, ends, bound, &mut sent, &mut steps)
