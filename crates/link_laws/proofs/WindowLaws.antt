@@ -6,8 +6,7 @@ use Rattle.run_laws.specs.Simulation.{Simulation}
 use Rattle.run_laws.specs.Runs.{due_at}
 use Rattle.run_laws.specs.Fronts.{IsWindow}
 use Rattle.run_laws.specs.Handlers.{HandlesLawfully, SendsToStations}
-use Rattle.run_laws.specs.Laws.{WindowsGive, WindowsGiveRuns}
-use Rattle.run_laws.specs.CopyLaws.{StandsAfterWindow}
+use Rattle.link_laws.specs.WindowLaws.{WindowsGive, WindowsGiveRuns, StandsAfterWindow}
 use Rattle.link_laws.proofs.Rounds.{round_gives}
 use Rattle.link_laws.proofs.WindowRounds.{window_is_round}
 use Rattle.link_laws.proofs.CutStands.{due_is_waiting, cut_of_front, front_of_cut, stands_after_round}

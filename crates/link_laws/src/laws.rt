@@ -1,13 +1,13 @@
 //! The laws of link clocks and of rounds: each function's contract is a law, and there is nothing to run.
 //!
 //! `specs/RoundLaws.antt` states the laws.
-ghost use Rattle.run_laws.specs.CopyLaws.{StandsAfterWindow};
-ghost use Rattle.run_laws.specs.Laws.{WindowsGiveRuns};
 ghost use Rattle.link_laws.specs.RoundLaws.{ClockRises, ClockIsLeast, ClockReachesHorizon, RoundsAreBounded};
 ghost use Rattle.link_laws.specs.RoundLaws.{FirstDoneIsRounds, ClocksMakeRounds, RoundsGiveRuns, DueIsWaiting};
 ghost use Rattle.link_laws.specs.RoundLaws.{FrontIsCut, SameCut, StandsAfterRound, RoundGivesLogs};
 ghost use Rattle.link_laws.specs.RoundLaws.{HandledGrowsInRound, HandledIsFewInRound, OverIsBeyondInRound};
 ghost use Rattle.link_laws.specs.RoundLaws.{CopiesAreLogsAtCut, RoundsAreEnough, WindowsAreRounds};
+ghost use Rattle.link_laws.specs.WindowLaws.{WindowsGiveRuns, StandsAfterWindow, HandledGrows, HandledGrowsToLimit};
+ghost use Rattle.link_laws.specs.WindowLaws.{HandledIsFew, OverIsBeyond, WindowsAddUp, RunAddsUp};
 
 use run_laws::laws::Stations;
 
@@ -45,8 +45,20 @@ pub fn rounds_gain<S, M, N, K, T: Stations<S, M, N>>()
     ensures copies { CopiesAreLogsAtCut K T.sim }
 {}
 
-/// Two laws of windows follow from those of rounds, since a window is a round. Library law, not used by `cloner`.
+/// In a window each station may run alone, and the copies of each station represent the clones after it. This follows
+/// from the laws of rounds, since a window is a round. Library law, not used by `cloner`.
 pub fn windows_follow<S, M, N, K, T: Stations<S, M, N>>()
     ensures alone { WindowsGiveRuns T.sim }
     ensures window { StandsAfterWindow K T.sim }
+{}
+
+/// The messages that a window handles once, the clones over the limit, and the sum of all windows of a run: the number
+/// handled once. Library law, not used by `cloner`.
+pub fn windows_gain<S, M, N, K, T: Stations<S, M, N>>()
+    ensures grows { HandledGrows K T.sim }
+    ensures to_limit { HandledGrowsToLimit K T.sim }
+    ensures at_most { HandledIsFew K T.sim }
+    ensures over { OverIsBeyond K T.sim }
+    ensures windows { WindowsAddUp K T.sim }
+    ensures run { RunAddsUp K T.sim }
 {}

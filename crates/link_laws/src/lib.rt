@@ -1,6 +1,6 @@
 //! The theory of link clocks: stations that synchronise by their inbound links, in rounds, without a common front.
 //!
-//! The window rule of `run_laws` takes all stations to one front, which the lookahead bounds. Here each station goes to
+//! The window rule takes all stations to one front, which the lookahead bounds. Here each station goes to
 //! its own *clock*, as far as its links allow. The next clock is the least of the horizon and, for each link from
 //! another station, the sender's clock plus the delay. Conservative simulation calls it the lower bound on time stamps.
 //! A *round* takes every station from its clock to its next one. Three stations in a line, delays of 2, horizon 20:
@@ -23,11 +23,11 @@
 //! | Step | Floor of a station | Why no message comes too early |
 //! |---|---|---|
 //! | of link clocks | its clock | the delays of the links |
-//! | a window of `run_laws` | the least due time of all clones, or else the window's end | the lookahead |
+//! | a window | the least due time of all clones, or else the window's end | the lookahead |
 //!
 //! So a window that skips idle time is a round, too.
 //!
-//! `specs/` has all definitions. Read them in this order: Cuts, CutCopies, Clocks, RoundLaws, Examples. There is
+//! `specs/` has all definitions. Read them in this order: Cuts, CutCopies, Clocks, RoundLaws, WindowLaws, Examples. There is
 //! nothing to run, and nothing costs time. The contract of each function in `laws` is a law, and `examples` pins the
 //! clocks by worked values.
 //!
@@ -39,7 +39,8 @@
 //!   cut;
 //! - the number handled once grows by the gains of the copies, and the limit holds as in windows;
 //! - at a cut with one time for all stations these laws are those of fronts in `run_laws`;
-//! - a window of `run_laws` is a round, so the laws `WindowsGiveRuns` and `StandsAfterWindow` follow.
+//! - a window is a round, so the laws of windows follow: what each station comes to, what the copies represent, and the
+//!   sum of what they gain.
 //!
 //! `cloner` rests on these laws: the windows of `world_core` and the rounds of `link_clocks` are steps at a cut.
 #![tactic(auto)]

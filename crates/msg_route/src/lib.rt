@@ -18,8 +18,8 @@
 //! ```
 //!
 //! `group` costs as much as inserting its messages into a `Pending` and removing them, `cut` one intersection of sets
-//! for each copy. An engine may instead deliver each message as it is sent, since pending messages merge with their
-//! equals anyway. These two calls then specify its result.
+//! for each copy. The engine does not call them. It delivers each message as it is sent, since pending messages merge with
+//! their equals anyway. The definitions of these two calls specify its result.
 //!
 //! "No message is lost and none is given twice" rests on them. `laws` shows that a clone takes the same messages from
 //! the grouped ones as from those that were sent.

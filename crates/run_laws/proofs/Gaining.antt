@@ -3,7 +3,7 @@
 --
 -- The lemmas `.._by_logs` of gains hold for any two times of a station. They have two premises. The messages that a
 -- clone takes come at the earlier time or later, and a copy's run alone to the later time ends with the clone's log
--- there. Windows meet both, and the lemmas of windows follow.
+-- there. Rounds meet both.
 use Rattle.std.proofs.Common.{◌≡◌, ◌↔◌, ℕ, ◌+◌, ◌-◌, ◌*◌, ◌≤◌, ◌<◌, min, List, []}
 use Rattle.std.proofs.Common.{◌∷◌, ◌++◌, ◌⊎◌, inl, inr, Bool, true, nat_lt, ◌==◌, refl, sym}
 use Rattle.std.proofs.Common.{ap, ◌∙◌, subst, arith, length, length-append, map, take, drop, append_assoc, append-nil}
@@ -19,9 +19,8 @@ use Rattle.run_laws.specs.Queue.{In}
 use Rattle.run_laws.specs.Machine.{Config, Reach, IsSettled}
 use Rattle.run_laws.specs.Simulation.{Simulation}
 use Rattle.run_laws.specs.World.{World, log_of, world_step}
-use Rattle.run_laws.specs.Window.{LocalStation, local_run}
-use Rattle.run_laws.specs.Runs.{end_of, run_of, log_at, state_at, all_due, due_at}
-use Rattle.run_laws.specs.Fronts.{next_front}
+use Rattle.run_laws.specs.Window.{LocalStation}
+use Rattle.run_laws.specs.Runs.{end_of, run_of, log_at, all_due, due_at}
 use Rattle.run_laws.specs.Sharing.{prefixes, same_list, logs_at, copies, handled_once, handled_to_limit, IsBeyond}
 use Rattle.run_laws.specs.Handlers.{HandlesLawfully}
 use Rattle.run_laws.specs.Laws.{entries_before}
@@ -37,7 +36,6 @@ use Rattle.run_laws.proofs.Machine.{reach_keeps}
 use Rattle.run_laws.proofs.Running.{fine_keeps}
 use Rattle.run_laws.proofs.Worlds.{run_reached, run_goes_on, entry_of}
 use Rattle.run_laws.proofs.Fronts.{trace_below, entries_before-late, log_at_front}
-use Rattle.run_laws.proofs.CloneWindows.{windows_give_run}
 use Rattle.run_laws.proofs.NextFronts.{all_due-from_front}
 use Rattle.run_laws.proofs.Parts.{sorted_part}
 use Rattle.run_laws.proofs.Prefixes.{count_same, count_both, count_unique, gained_same, longer_than_itself}
@@ -130,7 +128,7 @@ module _ {S M N : Type 0} {sim : Simulation S M N} {Good : ℕ → S → Type 0}
       omega (arith, e, k, long)
 
   -- the due messages at a front do not come before it
-  due_at-from_front : (c : Clone) (s front : ℕ) → AllByRecursion (λ m. front ≤ sim.time m) (due_at sim c s front)
+  pub due_at-from_front : (c : Clone) (s front : ℕ) → AllByRecursion (λ m. front ≤ sim.time m) (due_at sim c s front)
   due_at-from_front c s front = all_from (λ m. front ≤ sim.time m) (due_at sim c s front) (λ z i.
       all_in (λ m. front ≤ sim.time m) (all_due sim c front) z (all_due-from_front law c front)
       (in_own sim.to s (all_due sim c front) z i).0)
@@ -522,59 +520,3 @@ module _ {S M N K : Type 0} {sim : Simulation S M N} {Good : ℕ → S → Type 
   pub copies_are_logs : (same : Entry M N → Entry M N → Bool) → TellsEntries same →
       copies sim same cs s front ≡ length old
   copies_are_logs = copies_by_logs law cs s front old (stands_by_logs sim has cs front s old st)
-
-module _ {S M N K : Type 0} {sim : Simulation S M N} {Good : ℕ → S → Type 0} (law : HandlesLawfully sim Good)
-    {has : K → ℕ → Bool} {join : K → K → K} (j : JoinsMarks has join) (cs : List Clone) (s front bound : ℕ)
-    (old : List (Copy S M N K)) (st : Stands sim has cs front s old) where
-  -- the messages that a clone takes come at the front or later
-  taken_from_front : (a : Copy S M N K) (c : ℕ) → In a old → Carries has a c →
-      AllByRecursion (λ m. front ≤ sim.time m) (messages_taken sim has (ends_of sim cs) c a.pending)
-  taken_from_front a c i h = subst (AllByRecursion (λ m. front ≤ sim.time m)) (sym (st.due a c i h))
-      (due_at-from_front law (clone_at cs c) s front)
-
-  module _ (later : front ≤ bound) (within : bound ≤ next_front sim cs front) where
-    -- a copy's window for a clone ends with the clone's log at the bound
-    window_log : (a : Copy S M N K) (c : ℕ) → In a old → Carries has a c →
-        (alone_from sim has (ends_of sim cs) s bound a c).at.log ≡ log_at sim (clone_at cs c) s bound
-    window_log a c i h =
-        let k : Clone = clone_at cs c in
-        let e : ℕ = ends_of sim cs c in
-        let w = windows_give_run law cs k front bound (clone_in cs c (st.living a c i h)) later within in
-        ap (λ u. u.at.log)
-        (ap (λ l. local_run sim s l a.state (messages_taken sim has (ends_of sim cs) c a.pending) bound e)
-        (st.log a c i h)
-        ∙ (ap (λ l. local_run sim s (log_at sim k s front) l
-        (messages_taken sim has (ends_of sim cs) c a.pending) bound e)
-        (st.state a c i h)
-        ∙ ap (λ l. local_run sim s (log_at sim k s front) (state_at sim k s front) l bound e) (st.due a c i h)))
-        ∙ sym (w.log s)
-
-    -- those over the limit are the clones whose logs at the bound are beyond it
-    pub over_is_beyond : (over : K) → AreOver sim has (ends_of sim cs) s bound old over → (c : ℕ) →
-        (has over c ≡ true) ↔ ((c < length cs) × IsBeyond sim s bound (clone_at cs c))
-    over_is_beyond = over_by_logs law j cs s front bound old (stands_by_logs sim has cs front s old st)
-        taken_from_front window_log later
-
-    -- handled once at the bound, with each log cut to the limit: the number at the front, plus the gains of the copies
-    pub handled_grows_to_limit : (same : Entry M N → Entry M N → Bool) (total : ℕ) →
-        TellsEntries same → AreWithinLimitAt sim cs s front →
-        GainTogether sim has (ends_of sim cs) s bound old total →
-        handled_to_limit sim same cs s bound ≡ handled_once sim same cs s front + total
-    handled_grows_to_limit = handled_to_limit_by_logs law j cs s front bound old
-        (stands_by_logs sim has cs front s old st) taken_from_front window_log later
-
-    -- if no log gets too long, nothing is cut
-    pub handled_grows : (same : Entry M N → Entry M N → Bool) (total : ℕ) →
-        TellsEntries same → AreWithinLimitAt sim cs s bound →
-        GainTogether sim has (ends_of sim cs) s bound old total →
-        handled_once sim same cs s bound ≡ handled_once sim same cs s front + total
-    handled_grows = handled_once_by_logs law j cs s front bound old (stands_by_logs sim has cs front s old st)
-        taken_from_front window_log later
-
-    -- the limit for each clone bounds the number handled once
-    pub handled_is_few : (same : Entry M N → Entry M N → Bool) (total : ℕ) →
-        TellsEntries same → AreWithinLimitAt sim cs s front →
-        GainTogether sim has (ends_of sim cs) s bound old total →
-        handled_once sim same cs s front + total ≤ length cs * sim.limit
-    handled_is_few = handled_few_by_logs law j cs s front bound old (stands_by_logs sim has cs front s old st)
-        taken_from_front window_log later

@@ -9,8 +9,6 @@ pub mod Replaying
 pub mod Rising
 pub mod Fronts
 pub mod Late
-pub mod Windows
-pub mod CloneWindows
 pub mod Parts
 pub mod Until
 pub mod CopyViews
@@ -37,7 +35,6 @@ pub mod NextFronts
 pub mod Sums
 pub mod HandledStays
 pub mod FewGains
-pub mod RunTotals
 pub mod SharedTextsAgreeing
 pub mod SharedTextsWeighing
 pub mod Numbers

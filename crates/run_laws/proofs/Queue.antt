@@ -166,21 +166,6 @@ module _ {X : Type 0} {cmp : X → X → Ordering} (o : IsOrder cmp) where
   not_head m q z s i e =
       not_below_itself o.total m (subst (λ y. cmp m y ≡ Less) e (all_in (λ y. cmp m y ≡ Less) q z s.0 i))
 
-  -- if a part has the least of a list, it is the head of the part
-  pub same_head : (m : X) (q p : List X) → Sorted cmp (m ∷ q) → Sorted cmp p → In m p →
-      ((z : X) → In z p → In z (m ∷ q)) → (r : List X) × (p ≡ m ∷ r)
-  same_head m q [] s t i f = absurd i
-  same_head m q (y ∷ ys) s t i f =
-      let e : y ≡ m = elim (f y (inl refl)) [
-        | inl e ↦ e
-        | inr j ↦ elim i [
-          | inl d ↦ sym d
-          | inr k ↦ absurd (not_both_first o.total m y (all_in (λ z. cmp m z ≡ Less) q y s.0 j)
-              (all_in (λ z. cmp y z ≡ Less) ys m t.0 k))
-        ]
-      ] in
-      (ys, ap (λ x. x ∷ ys) e)
-
   -- the order in which elements are inserted makes no difference
   pub insert_swap : (x : X) (xs q : List X) → Sorted cmp q →
       insert_all cmp xs (insert cmp x q) ≡ insert cmp x (insert_all cmp xs q)

@@ -17,7 +17,6 @@ use Rattle.run_laws.specs.Simulation.{Simulation, Outcome}
 use Rattle.run_laws.specs.World.{to_it}
 use Rattle.run_laws.specs.Window.{LocalStation, to_others, earlier_than, local_step, local_run}
 use Rattle.run_laws.specs.Runs.{end_of, log_at, state_at, due_at}
-use Rattle.run_laws.specs.Handlers.{IsStation}
 use Rattle.run_laws.specs.Prefixes.{IsCount, IsGained}
 
 module _ {M K : Type 0} (takes : M → K → ℕ → Bool) where
@@ -313,13 +312,6 @@ module _ {S M N K : Type 0} (sim : Simulation S M N) (has : K → ℕ → Bool) 
     pub shared : (a b : Copy S M N K) (c d : ℕ) → In a copies → In b copies → Carries has a c → Carries has b d →
         log_at sim (clone_at cs c) s front ≡ log_at sim (clone_at cs d) s front → a ≡ b
     pub sorted : (a : Copy S M N K) → In a copies → SortedMarked sim.order a.pending
-
-  -- the results of the copies of each station at a bound, and the messages that each station sent
-  pub record EachIsStepped (front bound : ℕ) (olds news : ℕ → List (Copy S M N K)) (sent : ℕ → List (M × K)) :
-      Type 0 where
-    pub stood : (r : ℕ) → IsStation sim r → Stands front r (olds r)
-    pub stepped : (r : ℕ) → IsStation sim r → IsStepped sim has (ends_of sim cs) r bound (olds r) (news r) (sent r)
-    pub no_other : (r : ℕ) → ¬ (IsStation sim r) → sent r ≡ []
 
   -- the copy b is a plus the messages sent to station s: each clone its own
   pub record HasReceived (s : ℕ) (sent : ℕ → List (M × K)) (a b : Copy S M N K) : Type 0 where

@@ -5,10 +5,8 @@ use Rattle.sim_base.specs.Clones.{Clone, base, clone_at, clones_with_plan, clone
 use Rattle.sim_base.specs.declared.decision.Planned.{Planned}
 use Rattle.run_laws.specs.Simulation.{Simulation}
 use Rattle.run_laws.specs.Runs.{IsTimelyPlan, IsTimelyEnd, MayFork}
-use Rattle.run_laws.specs.Fronts.{IsWindow}
-use Rattle.run_laws.specs.Handlers.{IsStation, AllAreForStations}
-use Rattle.run_laws.specs.Copies.{Copy, AreOf, IsGiven, IsForked, first_copy, ends_of, Stands, EachIsStepped}
-use Rattle.run_laws.specs.Copies.{IsDelivered}
+use Rattle.run_laws.specs.Handlers.{IsStation}
+use Rattle.run_laws.specs.Copies.{Copy, AreOf, IsGiven, IsForked, first_copy, ends_of, Stands}
 
 -- K are sets of clones
 module _ {S M N : Type 0} (K : Type 0) (sim : Simulation S M N) where
@@ -16,15 +14,6 @@ module _ {S M N : Type 0} (K : Type 0) (sim : Simulation S M N) where
   abbrev pub StandsAtStart : Type 0
   StandsAtStart = (has : K → ℕ → Bool) (only : K) (s : ℕ) → AreOf has only 0 → IsStation sim s →
       Stands sim has (base ∷ []) 0 s (first_copy sim only s ∷ [])
-
-  -- let the copies of all stations represent the clones at a front. Let each station be stepped to a bound that is not
-  -- past the next front. Once station s got the messages sent to it, its copies represent the clones at the bound
-  abbrev pub StandsAfterWindow : Type 0
-  StandsAfterWindow = (has : K → ℕ → Bool) (cs : List Clone) (front bound : ℕ) (olds news : ℕ → List (Copy S M N K))
-      (sent : ℕ → List (M × K)) (s : ℕ) (done : List (Copy S M N K)) →
-      AllAreForStations sim cs → IsWindow sim cs front bound →
-      EachIsStepped sim has cs front bound olds news sent → IsStation sim s →
-      IsDelivered sim has cs s sent (news s) done → Stands sim has cs bound s done
 
   -- a decision of clone who, at or after the front and for this station, is given only to that clone
   abbrev pub StandsAfterDecision : Type 0

@@ -1,5 +1,5 @@
 -- The laws of a report's counts, as statements that contracts cite: messages handled once, and by each clone alone.
-use Rattle.std.specs.Prelude.{◌≡◌, ◌↔◌, ℕ, ◌+◌, ◌*◌, ◌<◌, ◌≤◌, List, [], ◌∷◌, Bool, true, length, sum_by}
+use Rattle.std.specs.Prelude.{◌≡◌, ℕ, ◌*◌, ◌<◌, ◌≤◌, List, Bool, length, sum_by}
 use Rattle.std.specs.Bool.{Decides}
 use Rattle.sim_base.specs.Clones.{Clone, clone_at, clones_with_plan, clones_with_end, clones_with_fork}
 use Rattle.sim_base.specs.Marked.{JoinsMarks, SortedMarked}
@@ -8,10 +8,9 @@ use Rattle.sim_base.specs.declared.entry.Entry.{Entry}
 use Rattle.run_laws.specs.Queue.{In}
 use Rattle.run_laws.specs.Simulation.{Simulation}
 use Rattle.run_laws.specs.Runs.{IsTimelyPlan, IsTimelyEnd, MayFork, log_at}
-use Rattle.run_laws.specs.Fronts.{IsWindow, AreFronts}
-use Rattle.run_laws.specs.Sharing.{copies, handled_once, handled_to_limit, handled_alone, IsBeyond}
+use Rattle.run_laws.specs.Sharing.{copies, handled_once, handled_alone, IsBeyond}
 use Rattle.run_laws.specs.Prefixes.{IsCount, IsGained}
-use Rattle.run_laws.specs.Copies.{Copy, Carries, IsCutLog, GainTogether, AreOver, ends_of, Stands}
+use Rattle.run_laws.specs.Copies.{Copy, Carries, IsCutLog, GainTogether, Stands}
 use Rattle.run_laws.specs.StepLaws.{AreReady}
 
 -- the test is true exactly for equal entries
@@ -78,40 +77,6 @@ module _ {S M N : Type 0} (K : Type 0) (sim : Simulation S M N) where
   CopiesAreLogs = (w : Counting M N K) (cs : List Clone) (front s : ℕ) (old : List (Copy S M N K)) →
       Stands sim w.has cs front s old → copies sim w.same cs s front ≡ length old
 
-  -- in a window the copies that represent the clones of a station gain `total` prefixes
-  pub record GainInWindow (has : K → ℕ → Bool) (cs : List Clone) (front bound s total : ℕ)
-      (old : List (Copy S M N K)) : Type 0 where
-    pub window : IsWindow sim cs front bound
-    pub stand : Stands sim has cs front s old
-    pub gained : GainTogether sim has (ends_of sim cs) s bound old total
-
-  -- if no log gets too long in a window, the number handled once at its bound is the number at the front plus the gains
-  abbrev pub HandledGrows : Type 0
-  HandledGrows = (w : Counting M N K) (cs : List Clone) (front bound s total : ℕ) (old : List (Copy S M N K)) →
-      GainInWindow w.has cs front bound s total old → AreWithinLimitAt sim cs s bound →
-      handled_once sim w.same cs s bound ≡ handled_once sim w.same cs s front + total
-
-  -- the same if logs may get too long, with each log at the bound cut to the limit
-  abbrev pub HandledGrowsToLimit : Type 0
-  HandledGrowsToLimit = (w : Counting M N K) (cs : List Clone) (front bound s total : ℕ) (old : List (Copy S M N K)) →
-      GainInWindow w.has cs front bound s total old → AreWithinLimitAt sim cs s front →
-      handled_to_limit sim w.same cs s bound ≡ handled_once sim w.same cs s front + total
-
-  -- and that is at most the limit for each clone
-  abbrev pub HandledIsFew : Type 0
-  HandledIsFew = (w : Counting M N K) (cs : List Clone) (front bound s total : ℕ) (old : List (Copy S M N K)) →
-      GainInWindow w.has cs front bound s total old → AreWithinLimitAt sim cs s front →
-      handled_once sim w.same cs s front + total ≤ length cs * sim.limit
-
-  -- the clones that a step puts over the limit are those whose logs at the bound are beyond it
-  abbrev pub OverIsBeyond : Type 0
-  OverIsBeyond = (has : K → ℕ → Bool) (join : K → K → K) (cs : List Clone) (front bound s : ℕ)
-      (old : List (Copy S M N K))
-      (over : K) →
-      JoinsMarks has join → IsWindow sim cs front bound → Stands sim has cs front s old →
-      AreOver sim has (ends_of sim cs) s bound old over → (c : ℕ) →
-      (has over c ≡ true) ↔ ((c < length cs) × IsBeyond sim s bound (clone_at cs c))
-
   -- a copy gains at most the limit for each of its clones, whichever clones it represents
   abbrev pub CopyGainsFew : (ℕ → S → Type 0) → Type 0
   CopyGainsFew Good = (has : K → ℕ → Bool) (ends : ℕ → ℕ) (s bound n size : ℕ) (r : Copy S M N K)
@@ -124,28 +89,6 @@ module _ {S M N : Type 0} (K : Type 0) (sim : Simulation S M N) where
   CopiesGainFew Good = (has : K → ℕ → Bool) (ends : ℕ → ℕ) (s bound n : ℕ) (size : K → ℕ) (old : List (Copy S M N K)) →
       AreReady K sim Good s old → TellsSizes has size old →
       GainTogether sim has ends s bound old n → n ≤ sum_by (λ a. size a.set) old * sim.limit
-
-  module _ (has : K → ℕ → Bool) (cs : List Clone) (s : ℕ) where
-    -- from window to window, up to each of the fronts, the copies of station s represent the clones, and they gain n
-    -- prefixes in all
-    abbrev pub WindowsGain : ℕ → List ℕ → ℕ → Type 0
-    WindowsGain front [] n = n ≡ 0
-    WindowsGain front (f ∷ fs) n = (copies : List (Copy S M N K)) × (m : ℕ) × (k : ℕ) ×
-        Stands sim has cs front s copies × GainTogether sim has (ends_of sim cs) s f copies m × WindowsGain f fs k
-        × (n ≡ m + k)
-
-  -- if no log gets too long, all windows from a front to the horizon gain the rest of the number handled once
-  abbrev pub WindowsAddUp : Type 0
-  WindowsAddUp = (w : Counting M N K) (cs : List Clone) (s front n : ℕ) (fs : List ℕ) →
-      0 < sim.lookahead → AreFronts sim cs front fs → AreWithinLimitAt sim cs s sim.horizon →
-      WindowsGain w.has cs s front fs n
-      → handled_once sim w.same cs s sim.horizon ≡ handled_once sim w.same cs s front + n
-
-  -- so the windows of a run gain the number in its report
-  abbrev pub RunAddsUp : Type 0
-  RunAddsUp = (w : Counting M N K) (cs : List Clone) (s n : ℕ) (fs : List ℕ) →
-      0 < sim.lookahead → AreFronts sim cs 0 fs → AreWithinLimitAt sim cs s sim.horizon →
-      WindowsGain w.has cs s 0 fs n → handled_once sim w.same cs s sim.horizon ≡ n
 
   -- copies of a station that represent the clones at a front, and the number of clones of each
   pub record CountedCopies : Type 0 where

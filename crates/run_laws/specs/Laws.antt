@@ -1,5 +1,5 @@
 -- The laws of machines and of runs, as statements that contracts cite.
-use Rattle.std.specs.Prelude.{◌≡◌, ◌⊎◌, ◌↔◌, ℕ, ◌<◌, ◌≤◌, List}
+use Rattle.std.specs.Prelude.{◌≡◌, ◌⊎◌, ℕ, ◌≤◌, List}
 use Rattle.std.specs.Prelude.{◌==◌, ◌&&◌, if◌then◌else◌, map, length, nat_lt}
 use Rattle.std.specs.List.{filter}
 use Rattle.std.specs.declared.cmp.Ordering.{Ordering}
@@ -12,7 +12,6 @@ use Rattle.run_laws.specs.Simulation.{Simulation}
 use Rattle.run_laws.specs.World.{World, replay}
 use Rattle.run_laws.specs.Window.{LocalStation, local_run, earlier_than}
 use Rattle.run_laws.specs.Runs.{end_of, IsTimelyEnd, run_of, log_at, state_at, all_due, due_at}
-use Rattle.run_laws.specs.Fronts.{IsWindow}
 use Rattle.run_laws.specs.Handlers.{key_order, IsStation, AreForStations}
 
 -- one message more is pending
@@ -120,19 +119,3 @@ module _ {S M N : Type 0} (sim : Simulation S M N) where
   abbrev pub window : Clone → ℕ → ℕ → ℕ → Config (LocalStation S M N) M
   window c s front bound = local_run sim s (log_at sim c s front) (state_at sim c s front)
       (due_at sim c s front) bound (end_of sim c)
-
-  -- the windows of a clone's stations, each alone from a front to a bound, end with the logs and states of the clone's
-  -- run. A station's due messages are then its own remaining ones, and those that others laid aside for it, before the
-  -- clone's end
-  pub record WindowsGive (c : Clone) (front bound : ℕ) : Type 0 where
-    pub log : (s : ℕ) → log_at sim c s bound ≡ (window c s front bound).at.log
-    pub state : (s : ℕ) → state_at sim c s bound ≡ (window c s front bound).at.state
-    pub sorted : (s : ℕ) → Sorted sim.order (due_at sim c s bound)
-    pub due : (s : ℕ) (m : M) → In m (due_at sim c s bound) ↔
-        ((sim.time m < end_of sim c) × (In m (window c s front bound).pending
-        ⊎ ((sim.to m ≡ s) × ((r : ℕ) × In m (window c r front bound).at.aside))))
-
-  -- so it is for each of several clones, if the bound is not past their next front
-  abbrev pub WindowsGiveRuns : Type 0
-  WindowsGiveRuns = (cs : List Clone) (c : Clone) (front bound : ℕ) → In c cs → IsWindow sim cs front bound →
-      WindowsGive c front bound

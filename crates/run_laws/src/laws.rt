@@ -9,7 +9,7 @@ ghost use Rattle.run_laws.specs.Handlers.{IsTimed, IsLawful, HandlesLawfully, Se
 ghost use Rattle.run_laws.specs.Laws.{RunIsReached, RunIsDetermined, RunGoesOn, LateMessageStaysPending};
 ghost use Rattle.run_laws.specs.Laws.{TraceRises, NumbersAreOnce, DueIsForStations, StateIsReplay};
 ghost use Rattle.run_laws.specs.Laws.{ReplayIsGood, EqualLogsEqualStates, LogAtFront, DecisionAddsDue};
-ghost use Rattle.run_laws.specs.Laws.{EndDropsDue, WindowsGiveRuns};
+ghost use Rattle.run_laws.specs.Laws.{EndDropsDue};
 ghost use Rattle.run_laws.specs.StepLaws.{SettledCopyStays, FullCopyGoesOver, SharedMessageIsHandledOnce};
 ghost use Rattle.run_laws.specs.StepLaws.{MessageOfNoneIsPassedOver, CopySplits, StepTakesCopies};
 ghost use Rattle.run_laws.specs.StepLaws.{StepGivesWindows, StepFindsThoseOver, CopiesGainTogether};
@@ -21,11 +21,10 @@ ghost use Rattle.run_laws.specs.FrontLaws.{FrontsAreOne, LeastIsOfStations, Leas
 ghost use Rattle.run_laws.specs.FrontLaws.{LeastAtFork, FrontStaysAtFork, LeastIsOfCopies};
 ghost use Rattle.run_laws.specs.MarkLaws.{HalfTakesTheSame, HalfKeepsItsMarks, ForkTakesAsItsOrigin};
 ghost use Rattle.run_laws.specs.CountLaws.{CountsAreFew, NothingIsHandledAtFirst, HandledStaysAtDecision};
-ghost use Rattle.run_laws.specs.CountLaws.{HandledStaysAtEnd, HandledStaysAtFork, CopiesAreLogs, HandledGrows};
-ghost use Rattle.run_laws.specs.CountLaws.{HandledGrowsToLimit, OverIsBeyond, HandledIsFew, CopyGainsFew};
-ghost use Rattle.run_laws.specs.CountLaws.{CopiesGainFew, WindowsAddUp, RunAddsUp, AloneIsOfCopies, ClonesAreOfCopies};
+ghost use Rattle.run_laws.specs.CountLaws.{HandledStaysAtEnd, HandledStaysAtFork, CopiesAreLogs, CopyGainsFew};
+ghost use Rattle.run_laws.specs.CountLaws.{CopiesGainFew, AloneIsOfCopies, ClonesAreOfCopies};
 ghost use Rattle.run_laws.specs.CountLaws.{CopyIsClass};
-ghost use Rattle.run_laws.specs.CopyLaws.{StandsAtStart, StandsAfterWindow, StandsAfterDecision};
+ghost use Rattle.run_laws.specs.CopyLaws.{StandsAtStart, StandsAfterDecision};
 ghost use Rattle.run_laws.specs.CopyLaws.{StandsAfterOtherDecision, StandsAfterEnd, StandsAfterFork};
 ghost use Rattle.run_laws.specs.StepLaws.{LateCopyIsSettled};
 
@@ -102,11 +101,6 @@ pub fn decisions_change_what_is_due<S, M, N, T: Stations<S, M, N>>()
     ensures ending { EndDropsDue T.sim }
 {}
 
-/// Up to the next front each station may run alone.
-pub fn windows_give_runs<S, M, N, T: Stations<S, M, N>>()
-    ensures alone { WindowsGiveRuns T.sim }
-{}
-
 /// From front to front (window boundaries) a run reaches the horizon, and ends there.
 pub fn fronts_reach_the_horizon<S, M, N, T: Stations<S, M, N>>()
     ensures far { FrontIsFar T.sim }
@@ -155,21 +149,18 @@ pub fn messages_are_delivered<S, M, N, K, T: Stations<S, M, N>>()
     ensures delivered { GivenIsDelivered K T.sim }
 {}
 
-/// From the start on, through windows, decisions, ends and forks, a station's copies represent the clones.
+/// From the start on, through decisions, ends and forks, a station's copies represent the clones.
 pub fn copies_stand_for_clones<S, M, N, K, T: Stations<S, M, N>>()
     ensures start { StandsAtStart K T.sim }
-    ensures window { StandsAfterWindow K T.sim }
     ensures decision { StandsAfterDecision K T.sim }
     ensures other_decision { StandsAfterOtherDecision K T.sim }
     ensures ending { StandsAfterEnd K T.sim }
     ensures forking { StandsAfterFork K T.sim }
 {}
 
-/// The number of copies, the number of messages handled once, and the clones over the limit, all by the logs alone.
+/// There are as many copies as different logs.
 pub fn counts_are_of_logs<S, M, N, K, T: Stations<S, M, N>>()
     ensures copies { CopiesAreLogs K T.sim }
-    ensures grows { HandledGrows K T.sim }
-    ensures over { OverIsBeyond K T.sim }
 {}
 
 /// The number handled once is 0 at the start. A decision, an end or a fork does not change it.
@@ -180,15 +171,10 @@ pub fn handled_once_stays<S, M, N, T: Stations<S, M, N>>()
     ensures forking { HandledStaysAtFork T.sim }
 {}
 
-/// The gains of windows in which logs may get too long, their bound, and the sum of all windows: the number handled
-/// once.
-pub fn gains_add_up<S, M, N, K, T: Stations<S, M, N>>()
-    ensures to_limit { HandledGrowsToLimit K T.sim }
-    ensures at_most { HandledIsFew K T.sim }
+/// A copy gains at most the limit for each of its clones, and so do several copies.
+pub fn gains_are_few<S, M, N, K, T: Stations<S, M, N>>()
     ensures copy { CopyGainsFew K T.sim T.good }
     ensures copies { CopiesGainFew K T.sim T.good }
-    ensures windows { WindowsAddUp K T.sim }
-    ensures run { RunAddsUp K T.sim }
 {}
 
 /// If no log is beyond the limit, the counts of a report are bounded.

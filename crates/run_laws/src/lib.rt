@@ -24,7 +24,9 @@
 //!     ensures windows { .. IsStepped (simulation model.now) has .. self.old.copies self.new.copies sent.new.items }
 //!     use Rattle.run_laws.proofs.Steps.{IsStepped-SoFar}
 //!
-//! Three promises rest on it. Copies give every clone its own trace. The report counts a message once if clones handle
+//! That each station may run alone up to the next front is a law of `link_laws`, since a window is a round.
+//!
+//! Three promises rest on both. Copies give every clone its own trace. The report counts a message once if clones handle
 //! it together. Windows on many threads change nothing.
 #![tactic(auto)]
 

@@ -1,16 +1,10 @@
 use Rattle.run_laws.proofs.Beginning.{stands_first}
-use Rattle.run_laws.proofs.Stands.{stands_after_window}
 use Rattle.run_laws.proofs.Deciding.{stands_after_decision, stands_after_other_decision, stands_end, stands_fork}
 use Rattle.run_laws.proofs.laws.copies_stand_for_clones.Goals as goal
 
 pub returns-clause-start : goal.returns-clause-start
 returns-clause-start g c = λ has only s of_first here.
     stands_first g.T.Stations.lawful g.T.Stations.to_stations has only of_first s here
-
-pub returns-clause-window : goal.returns-clause-window
-returns-clause-window g c = λ has cs front bound olds news sent s done there window stepped here delivered.
-    stands_after_window g.T.Stations.lawful g.T.Stations.to_stations has cs front bound olds news sent s done there
-    window.later window.within stepped here delivered
 
 pub returns-clause-decision : goal.returns-clause-decision
 returns-clause-decision g c = λ has cs front s who p m k copies done timely to_s of_who zip st.
