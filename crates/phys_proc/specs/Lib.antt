@@ -7,3 +7,4 @@ pub mod StepOutputs
 pub mod Stops
 pub mod Events
 pub mod Together
+pub mod StepGoals

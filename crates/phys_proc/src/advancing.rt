@@ -3,17 +3,16 @@ ghost use Rattle.std.specs.Prelude.{◌≡◌, [], ◌+◌, length, OnOk, IfOk, 
 ghost use Rattle.clone_sets.specs.Sets.{empty};
 ghost use Rattle.phys_proc.specs.Own.{MayAdvance, IsAdvance, ComesFrom};
 ghost use Rattle.phys_proc.specs.Stops.{IsStop};
-ghost use Rattle.phys_proc.specs.Ends.{ends_in};
+ghost use Rattle.phys_proc.specs.StepGoals.{ends_for};
 
-use crate::clone_ends::CloneEnds;
 use crate::copies::{Copies, lower_bound_of};
 use crate::copy::{PhysCopy, next_due};
 use crate::event::handle_least;
 use crate::quick::handle_packed;
 use crate::sent::SentMessages;
+use crate::step_goal::StepGoal;
 use arrayvec::ArrayVec;
 use clone_sets::CloneSet;
-use net_model::Model;
 use sim_base::{Msg, NoMemory, Steps};
 use stations::MAX_SENDS;
 use std::alloc::Global;
@@ -85,20 +84,17 @@ pub(crate) enum Stop {
 /// buffer for the sends of one message.
 pub(crate) fn handle_together<L: Ledger>(
     copy: &mut PhysCopy,
-    model: &Model,
-    station: u32,
-    ends: &CloneEnds,
-    bound: u64,
+    goal: &StepGoal<'_>,
     out: &mut ArrayVec<Msg, MAX_SENDS>,
     stage: &mut StepOutput,
     steps: &mut Steps<L>,
 ) -> Result<Stop, NoMemory>
-    requires may_advance { MayAdvance model.now station bound stage.old.handled copy.old }
+    requires may_advance { MayAdvance goal.now.model.now goal.now.station goal.now.bound stage.old.handled copy.old }
     // result: the advanced copy, its sends, and a step for each message
-    ensures onward { OnOk result (ComesFrom model.now station (ends_in model.now.horizon ends.now) bound copy.old
-        copy.new stage.old.sent stage.new.sent steps.old steps.new) }
+    ensures onward { OnOk result (ComesFrom goal.now.model.now goal.now.station (ends_for goal.now) goal.now.bound
+        copy.old copy.new stage.old.sent stage.new.sent steps.old steps.new) }
     // the reason to stop: nothing is due, the limit is reached, or its clones part
-    ensures stop { IfOk result (λ stop. IsStop model.now.limit (ends_in model.now.horizon ends.now) bound copy.new
+    ensures stop { IfOk result (λ stop. IsStop goal.now.model.now.limit (ends_for goal.now) goal.now.bound copy.new
         stage.new.takers stop) }
     // invariant of the stage: the finished copies, and the clones over the limit; messages are counted
     ensures done { OnOk result (stage.new.done ≡ stage.old.done) }
@@ -106,12 +102,12 @@ pub(crate) fn handle_together<L: Ledger>(
     ensures handled { OnOk result (stage.new.handled + steps.old ≡ stage.old.handled + steps.new) }
 {
     loop {
-        let count = handle_packed(copy, model, station, ends, bound, &mut stage.sent, steps)?;
+        let count = handle_packed(copy, goal, &mut stage.sent, steps)?;
         stage.handled += count;
-        if lower_bound_of(copy) >= bound {
+        if lower_bound_of(copy) >= goal.bound {
             return Ok(Stop::Settled);
         }
-        if let Some(stop) = handle_next(copy, model, station, ends, bound, out, stage, steps)? {
+        if let Some(stop) = handle_next(copy, goal, out, stage, steps)? {
             return Ok(stop);
         }
     }
@@ -121,33 +117,30 @@ pub(crate) fn handle_together<L: Ledger>(
 #[inline(never)]
 fn handle_next<L: Ledger>(
     copy: &mut PhysCopy,
-    model: &Model,
-    station: u32,
-    ends: &CloneEnds,
-    bound: u64,
+    goal: &StepGoal<'_>,
     out: &mut ArrayVec<Msg, MAX_SENDS>,
     stage: &mut StepOutput,
     steps: &mut Steps<L>,
 ) -> Result<Option<Stop>, NoMemory>
-    requires may_advance { MayAdvance model.now station bound stage.old.handled copy.old }
-    ensures onward { OnOk result (ComesFrom model.now station (ends_in model.now.horizon ends.now) bound copy.old
-        copy.new stage.old.sent stage.new.sent steps.old steps.new) }
-    ensures stop { IfOk result (λ o. IfSome o (λ stop. IsStop model.now.limit (ends_in model.now.horizon ends.now) bound
-        copy.new stage.new.takers stop)) }
+    requires may_advance { MayAdvance goal.now.model.now goal.now.station goal.now.bound stage.old.handled copy.old }
+    ensures onward { OnOk result (ComesFrom goal.now.model.now goal.now.station (ends_for goal.now) goal.now.bound
+        copy.old copy.new stage.old.sent stage.new.sent steps.old steps.new) }
+    ensures stop { IfOk result (λ o. IfSome o (λ stop. IsStop goal.now.model.now.limit (ends_for goal.now)
+        goal.now.bound copy.new stage.new.takers stop)) }
     ensures more { IfOk result (λ o. IfNone o (length copy.new.log ≡ length copy.old.log + 1)) }
     ensures done { OnOk result (stage.new.done ≡ stage.old.done) }
     ensures over { OnOk result (stage.new.over ≡ stage.old.over) }
     ensures handled { OnOk result (stage.new.handled + steps.old ≡ stage.old.handled + steps.new) }
 {
-    let Some(takers) = next_due(copy, ends, bound, model.horizon()) else {
+    let Some(takers) = next_due(copy, goal.ends, goal.bound, goal.model.horizon()) else {
         return Ok(Some(Stop::Settled));
     };
     if takers == copy.set() {
-        if copy.log().len() >= model.limit() {
+        if copy.log().len() >= goal.model.limit() {
             return Ok(Some(Stop::Full));
         }
         stage.handled += 1;
-        handle_least(copy, model, station, out, &mut stage.sent, steps)?;
+        handle_least(copy, goal.model, goal.station, out, &mut stage.sent, steps)?;
         Ok(None)
     } else {
         stage.takers = takers;
@@ -160,17 +153,14 @@ pub(crate) fn bring_to_bound<L: Ledger>(
     alloc: Global,
     copy: PhysCopy,
     stop: Stop,
-    model: &Model,
-    station: u32,
-    ends: &CloneEnds,
-    bound: u64,
+    goal: &StepGoal<'_>,
     out: &mut ArrayVec<Msg, MAX_SENDS>,
     stage: &mut StepOutput,
     steps: &mut Steps<L>,
 ) -> Result<(), NoMemory>
-    requires may_advance { MayAdvance model.now station bound stage.old.handled copy }
-    requires stop { IsStop model.now.limit (ends_in model.now.horizon ends.now) bound copy stage.old.takers stop }
-    ensures comes { OnOk result (IsAdvance model.now station (ends_in model.now.horizon ends.now) bound copy
+    requires may_advance { MayAdvance goal.now.model.now goal.now.station goal.now.bound stage.old.handled copy }
+    requires stop { IsStop goal.now.model.now.limit (ends_for goal.now) goal.now.bound copy stage.old.takers stop }
+    ensures comes { OnOk result (IsAdvance goal.now.model.now goal.now.station (ends_for goal.now) goal.now.bound copy
         stage.old.done stage.new.done stage.old.sent stage.new.sent stage.old.over stage.new.over
         steps.old steps.new) }
     ensures handled { OnOk result (stage.new.handled + steps.old ≡ stage.old.handled + steps.new) }
@@ -185,23 +175,10 @@ pub(crate) fn bring_to_bound<L: Ledger>(
         }
         Stop::Parts => {
             let (mut some, mut others) = copy.halves(alloc, stage.takers)?;
-            let first = handle_together(&mut some, model, station, ends, bound, out, stage, steps)?;
-            bring_to_bound(
-                alloc, some, first, model, station, ends, bound, out, stage, steps,
-            )?;
-            let second = handle_together(
-                &mut others,
-                model,
-                station,
-                ends,
-                bound,
-                out,
-                stage,
-                steps,
-            )?;
-            bring_to_bound(
-                alloc, others, second, model, station, ends, bound, out, stage, steps,
-            )?;
+            let first = handle_together(&mut some, goal, out, stage, steps)?;
+            bring_to_bound(alloc, some, first, goal, out, stage, steps)?;
+            let second = handle_together(&mut others, goal, out, stage, steps)?;
+            bring_to_bound(alloc, others, second, goal, out, stage, steps)?;
         }
     }
     Ok(())

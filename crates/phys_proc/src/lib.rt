@@ -38,6 +38,7 @@ pub mod proc;
 mod quick;
 pub mod rack;
 pub mod sent;
+mod step_goal;
 mod stepping;
 
 pub use clone_ends::CloneEnds;

@@ -21,6 +21,7 @@ use crate::copies::Copies;
 use crate::copy::PhysCopy;
 use crate::rack::Rack;
 use crate::sent::SentMessages;
+use crate::step_goal::StepGoal;
 use crate::stepping::step_copies;
 use arrayvec::ArrayVec;
 use clone_sets::CloneSet;
@@ -248,17 +249,13 @@ impl Proc {
         let _clones = self.living.len();
         let mut out = buffer(alloc, self.out.take())?;
         let mut stage = fresh(alloc, self.stage.take())?;
-        let stepped = step_copies(
-            alloc,
-            &mut self.copies,
+        let goal = StepGoal {
             model,
-            self.station,
+            station: self.station,
             ends,
             bound,
-            &mut out,
-            &mut stage,
-            steps,
-        );
+        };
+        let stepped = step_copies(alloc, &mut self.copies, &goal, &mut out, &mut stage, steps);
         if let Err(error) = stepped {
             self.living = CloneSet::empty();
             self.handled = 0;

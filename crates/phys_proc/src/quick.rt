@@ -10,14 +10,14 @@ ghost use Rattle.net_model.specs.Net.{site_at};
 ghost use Rattle.net_model.specs.Sites.{as_site};
 ghost use Rattle.stations.specs.Quick.{IsQuick, as_list, sends_of};
 ghost use Rattle.copy_pending.specs.Merged.{IsFirstForAll, IsLowerBoundOf, messages_of, without_first};
-ghost use Rattle.phys_proc.specs.Ends.{ends_in};
+ghost use Rattle.phys_proc.specs.StepGoals.{ends_for};
 ghost use Rattle.phys_proc.specs.Events.{MayTake, HasTaken};
 ghost use Rattle.phys_proc.specs.Own.{IsCopy, ComesFrom, pending_after, sent_after};
 ghost use Rattle.phys_proc.specs.Together.{AreAlive, copy_of, is_to};
 
-use crate::clone_ends::CloneEnds;
 use crate::copy::PhysCopy;
 use crate::sent::SentMessages;
+use crate::step_goal::StepGoal;
 use copy_pending::CopyPending;
 use log_chain::Log;
 use msg_heap::{Content, OptionalMsg, PackedMsg};
@@ -31,28 +31,25 @@ use std::sync::ledger::Ledger;
 #[inline(always)]
 pub(crate) fn handle_packed<L: Ledger>(
     copy: &mut PhysCopy,
-    model: &Model,
-    station: u32,
-    ends: &CloneEnds,
-    bound: u64,
+    goal: &StepGoal<'_>,
     sent: &mut SentMessages,
     steps: &mut Steps<L>,
 ) -> Result<u64, NoMemory>
-    requires fits { IsCopy model.now station copy.old }
-    requires time_max { bound ≤ model.now.horizon }
-    ensures onward { OnOk result (ComesFrom model.now station (ends_in model.now.horizon ends.now) bound copy.old
-        copy.new sent.old sent.new steps.old steps.new) }
+    requires fits { IsCopy goal.now.model.now goal.now.station copy.old }
+    requires time_max { goal.now.bound ≤ goal.now.model.now.horizon }
+    ensures onward { OnOk result (ComesFrom goal.now.model.now goal.now.station (ends_for goal.now) goal.now.bound
+        copy.old copy.new sent.old sent.new steps.old steps.new) }
     ensures counted { IfOk result (λ count. steps.new ≡ steps.old + count) }
 {
-    let together = bound
+    let together = goal
+        .bound
         .min(copy.pending.partial_time())
-        .min(ends.first_of(copy.pending.set()));
+        .min(goal.ends.first_of(copy.pending.set()));
     let count = run_packed(
         &mut copy.state,
         &mut copy.log,
         &mut copy.pending,
-        model,
-        station,
+        goal,
         together,
         sent,
         steps,
@@ -66,26 +63,26 @@ fn run_packed<L: Ledger>(
     state: &mut State,
     log: &mut Log,
     pending: &mut CopyPending,
-    model: &Model,
-    station: u32,
+    goal: &StepGoal<'_>,
     together: u64,
     sent: &mut SentMessages,
     steps: &mut Steps<L>,
 ) -> Result<u64, NoMemory>
-    requires fits { IsCopy model.now station (copy_of pending.old state.old log.old) }
+    requires fits { IsCopy goal.now.model.now goal.now.station (copy_of pending.old state.old log.old) }
     requires together { IsLowerBoundOf together pending.old.partial }
-    requires time_max { together ≤ model.now.horizon }
+    requires time_max { together ≤ goal.now.model.now.horizon }
     ensures onward { (ends : ℕ → ℕ) (bound : ℕ) → AreAlive ends bound together pending.old.set → OnOk result
-        (ComesFrom model.now station ends bound (copy_of pending.old state.old log.old)
+        (ComesFrom goal.now.model.now goal.now.station ends bound (copy_of pending.old state.old log.old)
         (copy_of pending.new state.new log.new) sent.old sent.new steps.old steps.new) }
     ensures counted { IfOk result (λ count. steps.new ≡ steps.old + count) }
 {
+    let model = goal.model;
     let room = model.limit() - log.len();
     let mut count = 0;
     if !is_quick(state, room) {
         return Ok(count);
     }
-    let site = model.station(station);
+    let site = model.station(goal.station);
     while count < room {
         let Some(event) = first_event(pending, together) else {
             return Ok(count);

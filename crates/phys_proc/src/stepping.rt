@@ -2,15 +2,14 @@
 ghost use Rattle.std.specs.Prelude.{◌≡◌, ◌+◌, ◌++◌, OnOk};
 ghost use Rattle.std.specs.List.{AllZip};
 ghost use Rattle.phys_proc.specs.Own.{IsStepResult, IsLowerBound};
-ghost use Rattle.phys_proc.specs.Ends.{ends_in};
+ghost use Rattle.phys_proc.specs.StepGoals.{ends_for};
 ghost use Rattle.phys_proc.specs.StepOutputs.{MayStepCopies, IsNewOutput};
 
 use crate::advancing::{StepOutput, Stop, bring_to_bound, handle_together};
-use crate::clone_ends::CloneEnds;
 use crate::copies::{Copies, lower_bound_of};
 use crate::copy::PhysCopy;
+use crate::step_goal::StepGoal;
 use arrayvec::ArrayVec;
-use net_model::Model;
 use sim_base::{Msg, NoMemory, Steps};
 use stations::MAX_SENDS;
 use std::alloc::Global;
@@ -23,19 +22,16 @@ fn step_copies_in_place<L: Ledger>(
     alloc: Global,
     copies: &mut Vec<PhysCopy>,
     bounds: &mut Vec<u64>,
-    model: &Model,
-    station: u32,
-    ends: &CloneEnds,
-    bound: u64,
+    goal: &StepGoal<'_>,
     out: &mut ArrayVec<Msg, MAX_SENDS>,
     stage: &mut StepOutput,
     steps: &mut Steps<L>,
 ) -> Result<(), NoMemory>
-    requires may_step { MayStepCopies model.now station bound copies.old.items }
+    requires may_step { MayStepCopies goal.now.model.now goal.now.station goal.now.bound copies.old.items }
     requires each { AllZip IsLowerBound bounds.old.items copies.old.items }
     requires new { IsNewOutput stage.old }
     // result: the copies at the bound, in place or finished, their sends, and the clones over the limit
-    ensures stepped { OnOk result (IsStepResult model.now station (ends_in model.now.horizon ends.now) bound
+    ensures stepped { OnOk result (IsStepResult goal.now.model.now goal.now.station (ends_for goal.now) goal.now.bound
         copies.old.items (copies.new.items ++ stage.new.done) stage.new.sent stage.new.over steps.old steps.new) }
     // lower bounds of the pending times of each copy in place
     ensures each { OnOk result (AllZip IsLowerBound bounds.new.items copies.new.items) }
@@ -45,20 +41,11 @@ fn step_copies_in_place<L: Ledger>(
     let mut i = 0;
     while i < copies.len() {
         let first = bounds[i];
-        if bound <= first {
+        if goal.bound <= first {
             i += 1;
             continue;
         }
-        let stop = handle_together(
-            &mut copies[i],
-            model,
-            station,
-            ends,
-            bound,
-            out,
-            stage,
-            steps,
-        )?;
+        let stop = handle_together(&mut copies[i], goal, out, stage, steps)?;
         match stop {
             Stop::Settled => {
                 let now = lower_bound_of(&copies[i]);
@@ -68,9 +55,7 @@ fn step_copies_in_place<L: Ledger>(
             _ => {
                 let copy = copies.remove(i);
                 let _ = bounds.remove(i);
-                bring_to_bound(
-                    alloc, copy, stop, model, station, ends, bound, out, stage, steps,
-                )?;
+                bring_to_bound(alloc, copy, stop, goal, out, stage, steps)?;
             }
         }
     }
@@ -83,28 +68,22 @@ fn step_copies_in_place<L: Ledger>(
 pub(crate) fn step_copies<L: Ledger>(
     alloc: Global,
     copies: &mut Copies,
-    model: &Model,
-    station: u32,
-    ends: &CloneEnds,
-    bound: u64,
+    goal: &StepGoal<'_>,
     out: &mut ArrayVec<Msg, MAX_SENDS>,
     stage: &mut StepOutput,
     steps: &mut Steps<L>,
 ) -> Result<(), NoMemory>
-    requires may_step { MayStepCopies model.now station bound copies.old }
+    requires may_step { MayStepCopies goal.now.model.now goal.now.station goal.now.bound copies.old }
     requires new { IsNewOutput stage.old }
-    ensures stepped { OnOk result (IsStepResult model.now station (ends_in model.now.horizon ends.now) bound copies.old
-        copies.new stage.new.sent stage.new.over steps.old steps.new) }
+    ensures stepped { OnOk result (IsStepResult goal.now.model.now goal.now.station (ends_for goal.now) goal.now.bound
+        copies.old copies.new stage.new.sent stage.new.over steps.old steps.new) }
     ensures handled { OnOk result (stage.new.handled + steps.old ≡ steps.new) }
 {
     let stepped = step_copies_in_place(
         alloc,
         &mut copies.copies,
         &mut copies.bounds,
-        model,
-        station,
-        ends,
-        bound,
+        goal,
         out,
         stage,
         steps,

@@ -1,7 +1,7 @@
 use Rattle.std.proofs.Common.{◌+◌, ◌<◌, ◌≤◌, ◌∙◌, ap, arith, subst, refl}
 use Rattle.clone_sets.specs.Sets.{minus, size, union}
 use Rattle.stations.specs.declared.sender.TheConstants.{MAX_COUNTS}
-use Rattle.phys_proc.specs.Ends.{ends_in}
+use Rattle.phys_proc.specs.StepGoals.{ends_for}
 use Rattle.phys_proc.specs.Own.{half, may_handle}
 use Rattle.phys_proc.proofs.Finishing.{advance-settled, advance-full, advance-parts, some_fits, others_fit}
 use Rattle.phys_proc.proofs.Finishing.{some_smaller, others_smaller, both_few, others_part}
@@ -11,16 +11,16 @@ use Rattle.phys_proc.proofs.advancing.+bring_to_bound.Goals as goal
 -- ---- Settled
 
 pub returns-in_ok-put-in-Settled-clause-comes : goal.returns-in_ok-put-in-Settled-clause-comes
-returns-in_ok-put-in-Settled-clause-comes g t c = advance-settled c.args.model.now c.args.station
-    (ends_in c.args.model.now.horizon c.args.ends.now) c.args.bound c.args.copy c.args.stage.now.sent
+returns-in_ok-put-in-Settled-clause-comes g t c = advance-settled c.args.goal.now.model.now c.args.goal.now.station
+    (ends_for c.args.goal.now) c.args.goal.now.bound c.args.copy c.args.stage.now.sent
     c.args.steps.now c.requires.may_advance.fits c.args.stage.now.done c.put.new.self c.args.stage.now.over
     (rw c.in-Settled.is at c.requires.stop) c.in_ok-put-in-Settled.ensures.more
 
 -- ---- Full
 
 pub returns-in-Full-clause-comes : goal.returns-in-Full-clause-comes
-returns-in-Full-clause-comes g t c = advance-full c.args.model.now c.args.station
-    (ends_in c.args.model.now.horizon c.args.ends.now) c.args.bound c.args.copy c.args.stage.now.sent
+returns-in-Full-clause-comes g t c = advance-full c.args.goal.now.model.now c.args.goal.now.station
+    (ends_for c.args.goal.now) c.args.goal.now.bound c.args.copy c.args.stage.now.sent
     c.args.steps.now c.requires.may_advance.fits c.args.stage.now.done c.args.stage.now.over c.union-stage.result
     (rw c.in-Full.is at c.requires.stop)
     (c.union-stage.ensures.value ∙ ap (union c.args.stage.now.over) c.set.ensures.value)
@@ -31,8 +31,8 @@ pub halves-requires-clause-others : goal.halves-requires-clause-others
 halves-requires-clause-others g t c =
     let set = c.args.copy.set in
     let takers = c.args.stage.now.takers in
-    let fits = others_fit c.args.model.now c.args.station (ends_in c.args.model.now.horizon c.args.ends.now)
-    c.args.bound c.args.copy c.args.stage.now.sent c.args.steps.now c.requires.may_advance.fits takers
+    let fits = others_fit c.args.goal.now.model.now c.args.goal.now.station (ends_for c.args.goal.now)
+    c.args.goal.now.bound c.args.copy c.args.stage.now.sent c.args.steps.now c.requires.may_advance.fits takers
     (rw c.in-Parts.is at c.requires.stop) (half c.args.copy (minus set takers)) refl in
     others_part set takers fits.inhabited.0 fits.inhabited.1
 
@@ -40,12 +40,12 @@ halves-requires-clause-others g t c =
 
 pub handle_together-requires : goal.handle_together-requires
 handle_together-requires g t c =
-    let fits = some_fits c.args.model.now c.args.station (ends_in c.args.model.now.horizon c.args.ends.now)
-    c.args.bound c.args.copy c.args.stage.now.sent c.args.steps.now c.requires.may_advance.fits
+    let fits = some_fits c.args.goal.now.model.now c.args.goal.now.station (ends_for c.args.goal.now)
+    c.args.goal.now.bound c.args.copy c.args.stage.now.sent c.args.steps.now c.requires.may_advance.fits
     c.args.stage.now.takers (rw c.in-Parts.is at c.requires.stop) c.in_ok-some-in-Parts.some
     c.in_ok-some-in-Parts.ensures.first in
-    let both = both_few c.args.model.now c.args.station (ends_in c.args.model.now.horizon c.args.ends.now)
-    c.args.bound c.args.copy c.args.stage.now.sent c.args.steps.now c.requires.may_advance.fits
+    let both = both_few c.args.goal.now.model.now c.args.goal.now.station (ends_for c.args.goal.now)
+    c.args.goal.now.bound c.args.copy c.args.stage.now.sent c.args.steps.now c.requires.may_advance.fits
     c.args.stage.now.takers (rw c.in-Parts.is at c.requires.stop) c.in_ok-some-in-Parts.some
     c.in_ok-some-in-Parts.others c.in_ok-some-in-Parts.ensures.first c.in_ok-some-in-Parts.ensures.second in
     let few = c.requires.may_advance.at_most in
@@ -59,19 +59,21 @@ handle_together-requires g t c =
 
 pub bring_to_bound-requires : goal.bring_to_bound-requires
 bring_to_bound-requires g t c =
-    let net = c.args.model.now in
-    let ends = ends_in net.horizon c.args.ends.now in
+    let net = c.args.goal.now.model.now in
+    let station = c.args.goal.now.station in
+    let bound = c.args.goal.now.bound in
+    let ends = ends_for c.args.goal.now in
     let a = c.in_ok-some-in-Parts.some in
     let a1 = c.handle_together.new.copy in
     let first = c.in_ok-first-in-Parts.ensures in
     let o = first.onward in
-    let fall : size a1.set < size c.args.copy.set = some_smaller net c.args.station ends c.args.bound c.args.copy
+    let fall : size a1.set < size c.args.copy.set = some_smaller net station ends bound c.args.copy
     c.args.stage.now.sent c.args.steps.now c.requires.may_advance.fits c.args.stage.now.takers
     (rw c.in-Parts.is at c.requires.stop) a a1 c.in_ok-some-in-Parts.ensures.first o.set in
-    let both = both_few net c.args.station ends c.args.bound c.args.copy c.args.stage.now.sent c.args.steps.now
+    let both = both_few net station ends bound c.args.copy c.args.stage.now.sent c.args.steps.now
     c.requires.may_advance.fits c.args.stage.now.takers (rw c.in-Parts.is at c.requires.stop) a
     c.in_ok-some-in-Parts.others c.in_ok-some-in-Parts.ensures.first c.in_ok-some-in-Parts.ensures.second in
-    let left = left_few net c.args.station ends c.args.bound a a1 c.args.stage.now.sent
+    let left = left_few net station ends bound a a1 c.args.stage.now.sent
     c.handle_together.new.stage.sent c.args.steps.now c.handle_together.new.steps o in
     let few0 = c.requires.may_advance.at_most in
     let counted = o.counted in
@@ -87,18 +89,20 @@ bring_to_bound-requires g t c =
 
 pub handle_together-requires-in-Parts : goal.handle_together-requires-in-Parts
 handle_together-requires-in-Parts g t c =
-    let net = c.args.model.now in
-    let ends = ends_in net.horizon c.args.ends.now in
-    let fits = others_fit net c.args.station ends c.args.bound c.args.copy c.args.stage.now.sent
+    let net = c.args.goal.now.model.now in
+    let station = c.args.goal.now.station in
+    let bound = c.args.goal.now.bound in
+    let ends = ends_for c.args.goal.now in
+    let fits = others_fit net station ends bound c.args.copy c.args.stage.now.sent
     c.args.steps.now c.requires.may_advance.fits c.args.stage.now.takers (rw c.in-Parts.is at c.requires.stop)
     c.in_ok-some-in-Parts.others c.in_ok-some-in-Parts.ensures.second in
     let first = c.in_ok-first-in-Parts.ensures in
     let o = first.onward in
-    let both = both_few net c.args.station ends c.args.bound c.args.copy c.args.stage.now.sent c.args.steps.now
+    let both = both_few net station ends bound c.args.copy c.args.stage.now.sent c.args.steps.now
     c.requires.may_advance.fits c.args.stage.now.takers (rw c.in-Parts.is at c.requires.stop)
     c.in_ok-some-in-Parts.some c.in_ok-some-in-Parts.others c.in_ok-some-in-Parts.ensures.first
     c.in_ok-some-in-Parts.ensures.second in
-    let left = left_few net c.args.station ends c.args.bound c.in_ok-some-in-Parts.some c.handle_together.new.copy
+    let left = left_few net station ends bound c.in_ok-some-in-Parts.some c.handle_together.new.copy
     c.args.stage.now.sent c.handle_together.new.stage.sent c.args.steps.now c.handle_together.new.steps o in
     let few = c.requires.may_advance.at_most in
     let counted = o.counted in
@@ -117,23 +121,25 @@ handle_together-requires-in-Parts g t c =
 
 pub bring_to_bound-requires-in-Parts : goal.bring_to_bound-requires-in-Parts
 bring_to_bound-requires-in-Parts g t c =
-    let net = c.args.model.now in
-    let ends = ends_in net.horizon c.args.ends.now in
+    let net = c.args.goal.now.model.now in
+    let station = c.args.goal.now.station in
+    let bound = c.args.goal.now.bound in
+    let ends = ends_for c.args.goal.now in
     let b = c.in_ok-some-in-Parts.others in
     let b1 = c.handle_together-in-Parts.new.copy in
     let first = c.in_ok-first-in-Parts.ensures in
     let second = c.in_ok-second-in-Parts.ensures in
     let o = second.onward in
-    let fall : size b1.set < size c.args.copy.set = others_smaller net c.args.station ends c.args.bound c.args.copy
+    let fall : size b1.set < size c.args.copy.set = others_smaller net station ends bound c.args.copy
     c.args.stage.now.sent c.args.steps.now c.requires.may_advance.fits c.args.stage.now.takers
     (rw c.in-Parts.is at c.requires.stop) b b1 c.in_ok-some-in-Parts.ensures.second o.set in
-    let both = both_few net c.args.station ends c.args.bound c.args.copy c.args.stage.now.sent c.args.steps.now
+    let both = both_few net station ends bound c.args.copy c.args.stage.now.sent c.args.steps.now
     c.requires.may_advance.fits c.args.stage.now.takers (rw c.in-Parts.is at c.requires.stop)
     c.in_ok-some-in-Parts.some b c.in_ok-some-in-Parts.ensures.first c.in_ok-some-in-Parts.ensures.second in
-    let left = left_few net c.args.station ends c.args.bound c.in_ok-some-in-Parts.some c.handle_together.new.copy
+    let left = left_few net station ends bound c.in_ok-some-in-Parts.some c.handle_together.new.copy
     c.args.stage.now.sent c.handle_together.new.stage.sent c.args.steps.now
     c.handle_together.new.steps first.onward in
-    let left1 = left_few net c.args.station ends c.args.bound b b1 c.bring_to_bound.new.stage.sent
+    let left1 = left_few net station ends bound b b1 c.bring_to_bound.new.stage.sent
     c.handle_together-in-Parts.new.stage.sent c.bring_to_bound.new.steps c.handle_together-in-Parts.new.steps o in
     let few0 = c.requires.may_advance.at_most in
     let counted = first.onward.counted in
@@ -158,8 +164,8 @@ returns-in_ok-bring_to_bound-in-Parts-2-clause-comes g t c =
     let first = c.in_ok-first-in-Parts.ensures in
     let second = c.in_ok-second-in-Parts.ensures in
     let last = c.bring_to_bound-in-Parts.new in
-    advance-parts c.args.model.now c.args.station
-    (ends_in c.args.model.now.horizon c.args.ends.now) c.args.bound c.args.copy c.args.stage.now.sent
+    advance-parts c.args.goal.now.model.now c.args.goal.now.station
+    (ends_for c.args.goal.now) c.args.goal.now.bound c.args.copy c.args.stage.now.sent
     c.args.steps.now c.requires.may_advance.fits c.args.stage.now.takers (rw c.in-Parts.is at c.requires.stop)
     c.in_ok-some-in-Parts.some c.handle_together.new.copy c.in_ok-some-in-Parts.others
     c.handle_together-in-Parts.new.copy c.args.stage.now.done c.handle_together.new.stage.done

@@ -9,7 +9,7 @@ use Rattle.phys_proc.proofs.quick.run_packed.Goals as goal
 
 pub loop-count-init : goal.loop-count-init
 loop-count-init g c = record {
-  onward = λ ends bound alive. comes_from-start c.args.model.now c.args.station ends bound
+  onward = λ ends bound alive. comes_from-start c.args.goal.now.model.now c.args.goal.now.station ends bound
       (copy_of c.args.pending.now c.args.state.now c.args.log.now) c.args.sent.now c.args.steps.now
       c.requires.fits;
   counted = omega arith;
@@ -27,7 +27,8 @@ first_event-requires g c = record {
 pub take_event-requires : goal.take_event-requires
 take_event-requires g c =
     let l = c.loop-count in
-    let net = c.args.model.now in
+    let net = c.args.goal.now.model.now in
+    let station = c.args.goal.now.station in
     let t = c.args.together in
     let fits = (l.invariant.onward (λ k. t) t (record { at_most = omega arith; alive = λ k i. omega arith })).fits in
     let below = c.loop-count-test.true in
@@ -37,7 +38,7 @@ take_event-requires g c =
     let early = c.requires.time_max in
     record {
       site = ap (λ (n : ℕ). site_at net n) fits.station ∙ c.station-site.ensures.value;
-      may_take = first_may net c.args.station l.pending l.state l.log c.in-Some.event.msg c.in-Some.ensures.first fits
+      may_take = first_may net station l.pending l.state l.log c.in-Some.event.msg c.in-Some.ensures.first fits
           less (omega (arith, soon, early));
       quick = quick_one (c.limit.result - c.len.result - l.count) l.state (omega (arith, below)) l.invariant.quick;
       first = c.in-Some.ensures.first;
@@ -47,7 +48,8 @@ take_event-requires g c =
 pub loop-count-preserved : goal.loop-count-preserved
 loop-count-preserved g c =
     let l = c.loop-count in
-    let net = c.args.model.now in
+    let net = c.args.goal.now.model.now in
+    let station = c.args.goal.now.station in
     let t = c.args.together in
     let here = l.invariant.onward (λ k. t) t (record { at_most = omega arith; alive = λ k i. omega arith }) in
     let below = c.loop-count-test.true in
@@ -58,7 +60,7 @@ loop-count-preserved g c =
     let steps = l.invariant.counted in
     let tick = taken.counted in
     record {
-      onward = λ ends bound alive. comes_from-first net c.args.station l.pending l.state l.log c.in-Some.event.msg
+      onward = λ ends bound alive. comes_from-first net station l.pending l.state l.log c.in-Some.event.msg
           c.in-Some.ensures.first here.fits ends bound t
           (subst (AreAlive ends bound t) (sym here.set) alive) c.in-Some.ensures.time_max
           (copy_of c.args.pending.now c.args.state.now c.args.log.now)

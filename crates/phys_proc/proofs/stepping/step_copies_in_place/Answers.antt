@@ -1,7 +1,7 @@
 use Rattle.std.proofs.Common.{◌≡◌, ◌<◌, arith, ap, refl, subst, sym, length, slice_set}
 use Rattle.std.proofs.lemmas.List.{length-set}
 use Rattle.std.proofs.lemmas.Slice.Zip.{AllZip-long}
-use Rattle.phys_proc.specs.Ends.{ends_in}
+use Rattle.phys_proc.specs.StepGoals.{ends_for}
 use Rattle.phys_proc.specs.Own.{StationCopy, IsCopy, IsLowerBound, IsAdvance, may_handle}
 use Rattle.phys_proc.specs.Stops.{IsStop}
 use Rattle.phys_proc.proofs.LowerBounds.{IsLowerBound-before}
@@ -15,8 +15,8 @@ use Rattle.phys_proc.proofs.stepping.step_copies_in_place.Goals as goal
 
 pub loop-i-init : goal.loop-i-init
 loop-i-init g c = record {
-  far = stepped_to-start c.args.model.now c.requires.may_step.valid c.args.station
-      (ends_in c.args.model.now.horizon c.args.ends.now) c.args.bound c.args.copies.now.items c.args.stage.now.done
+  far = stepped_to-start c.args.goal.now.model.now c.requires.may_step.valid c.args.goal.now.station
+      (ends_for c.args.goal.now) c.args.goal.now.bound c.args.copies.now.items c.args.stage.now.done
       c.args.stage.now.sent c.args.stage.now.over c.args.steps.now c.requires.new.none c.requires.new.silent
       c.requires.new.under;
   each = c.requires.each;
@@ -55,10 +55,12 @@ remove-requires g c = omega (
 
 -- ---- a copy with nothing due
 
-pub loop-i-preserved-then-bound-first : goal.loop-i-preserved-then-bound-first
-loop-i-preserved-then-bound-first g c =
-    let net = c.args.model.now in
-    let ends = ends_in net.horizon c.args.ends.now in
+pub loop-i-preserved-then-goal-first : goal.loop-i-preserved-then-goal-first
+loop-i-preserved-then-goal-first g c =
+    let net = c.args.goal.now.model.now in
+    let station = c.args.goal.now.station in
+    let bound = c.args.goal.now.bound in
+    let ends = ends_for c.args.goal.now in
     let l = c.loop-i in
     let cs = l.copies.items in
     let there : l.i < length cs = omega (arith, c.loop-i-test.true, c.len.ensures) in
@@ -67,11 +69,11 @@ loop-i-preserved-then-bound-first g c =
     let first = c.index-first.result.now in
     let late : IsLowerBound first x = bound_at l.bounds.items cs l.i first first x l.invariant.each there
     c.index-first.ensures at.1 in
-    let fits = stepped_to-fits net c.requires.may_step.valid c.args.station ends c.args.bound l.invariant.far there x
+    let fits = stepped_to-fits net c.requires.may_step.valid station ends bound l.invariant.far there x
     at.1 c.requires.may_step.fits in
     record {
-      far = stepped_to-idle net c.requires.may_step.valid c.args.station ends c.args.bound l.invariant.far there x at.1
-          c.requires.may_step.disjoint fits (IsLowerBound-before c.args.bound first x c.if-bound-first.true late);
+      far = stepped_to-idle net c.requires.may_step.valid station ends bound l.invariant.far there x at.1
+          c.requires.may_step.disjoint fits (IsLowerBound-before bound first x c.if-goal-first.true late);
       each = l.invariant.each;
       within = omega (arith, there);
       handled = l.invariant.handled;
@@ -82,13 +84,13 @@ loop-i-preserved-then-bound-first g c =
 pub handle_together-requires : goal.handle_together-requires
 handle_together-requires g c = record {
   may_advance = record {
-    fits = stepped_to-fits c.args.model.now c.requires.may_step.valid c.args.station
-        (ends_in c.args.model.now.horizon c.args.ends.now) c.args.bound c.loop-i.invariant.far
+    fits = stepped_to-fits c.args.goal.now.model.now c.requires.may_step.valid c.args.goal.now.station
+        (ends_for c.args.goal.now) c.args.goal.now.bound c.loop-i.invariant.far
         (omega (arith, c.loop-i-test.true, c.len.ensures)) c.index_mut.result.now c.index_mut.ensures.value
         c.requires.may_step.fits;
     time_max = c.requires.may_step.time_max;
-    at_most = stepped_to-few c.args.model.now c.requires.may_step.valid c.args.station
-        (ends_in c.args.model.now.horizon c.args.ends.now) c.args.bound c.loop-i.invariant.far
+    at_most = stepped_to-few c.args.goal.now.model.now c.requires.may_step.valid c.args.goal.now.station
+        (ends_for c.args.goal.now) c.args.goal.now.bound c.loop-i.invariant.far
         (omega (arith, c.loop-i-test.true, c.len.ensures)) c.index_mut.result.now c.index_mut.ensures.value
         c.requires.may_step.at_most c.loop-i.stage.handled c.loop-i.invariant.handled;
   };
@@ -96,8 +98,10 @@ handle_together-requires g c = record {
 
 pub loop-i-preserved-in-Settled : goal.loop-i-preserved-in-Settled
 loop-i-preserved-in-Settled g c =
-    let net = c.args.model.now in
-    let ends = ends_in net.horizon c.args.ends.now in
+    let net = c.args.goal.now.model.now in
+    let station = c.args.goal.now.station in
+    let bound = c.args.goal.now.bound in
+    let ends = ends_for c.args.goal.now in
     let l = c.loop-i in
     let cs = l.copies.items in
     let y = c.handle_together.new.copy in
@@ -105,7 +109,7 @@ loop-i-preserved-in-Settled g c =
     let one = c.in_ok-stop.ensures in
     let there : l.i < length cs = omega (arith, c.loop-i-test.true, c.len.ensures) in
     record {
-      far = stepped_to-next net c.requires.may_step.valid c.args.station ends c.args.bound l.invariant.far there
+      far = stepped_to-next net c.requires.may_step.valid station ends bound l.invariant.far there
           c.index_mut.result.now c.index_mut.ensures.value c.requires.may_step.disjoint y (slice_set cs l.i y)
           s.done s.sent s.over c.handle_together.new.steps one.onward (rw c.in-Settled.is at one.stop) refl
           one.done one.over;
@@ -120,8 +124,10 @@ loop-i-preserved-in-Settled g c =
 
 pub bring_to_bound-requires : goal.bring_to_bound-requires
 bring_to_bound-requires g c =
-    let net = c.args.model.now in
-    let ends = ends_in net.horizon c.args.ends.now in
+    let net = c.args.goal.now.model.now in
+    let station = c.args.goal.now.station in
+    let bound = c.args.goal.now.bound in
+    let ends = ends_for c.args.goal.now in
     let l = c.loop-i in
     let cs = l.copies.items in
     let x = c.index_mut.result.now in
@@ -130,27 +136,29 @@ bring_to_bound-requires g c =
     let one = c.in_ok-stop.ensures in
     let there : l.i < length cs = omega (arith, c.loop-i-test.true, c.len.ensures) in
     let same : z ≡ y = set_there cs l.i z y there c.remove-copy.ensures.value in
-    let few = stepped_to-few net c.requires.may_step.valid c.args.station ends c.args.bound l.invariant.far there x
+    let few = stepped_to-few net c.requires.may_step.valid station ends bound l.invariant.far there x
     c.index_mut.ensures.value c.requires.may_step.at_most l.stage.handled l.invariant.handled in
-    let left = left_few net c.args.station ends c.args.bound x y l.stage.sent
+    let left = left_few net station ends bound x y l.stage.sent
     c.handle_together.new.stage.sent l.steps c.handle_together.new.steps one.onward in
     let counted = one.onward.counted in
     let handled = one.handled in
     let is = ap (may_handle net.limit) same in
     record {
       may_advance = record {
-        fits = subst (IsCopy net c.args.station) (sym same) one.onward.fits;
+        fits = subst (IsCopy net station) (sym same) one.onward.fits;
         time_max = c.requires.may_step.time_max;
         at_most = omega (arith, few, left, counted, handled, is);
       };
-      stop = subst (λ (u : StationCopy). IsStop net.limit ends c.args.bound u c.handle_together.new.stage.takers
+      stop = subst (λ (u : StationCopy). IsStop net.limit ends bound u c.handle_together.new.stage.takers
           c.in_ok-stop.stop) (sym same) one.stop;
     }
 
 pub loop-i-preserved : goal.loop-i-preserved
 loop-i-preserved g c =
-    let net = c.args.model.now in
-    let ends = ends_in net.horizon c.args.ends.now in
+    let net = c.args.goal.now.model.now in
+    let station = c.args.goal.now.station in
+    let bound = c.args.goal.now.bound in
+    let ends = ends_for c.args.goal.now in
     let l = c.loop-i in
     let cs = l.copies.items in
     let y = c.handle_together.new.copy in
@@ -162,10 +170,10 @@ loop-i-preserved g c =
     let same : c.remove-copy.result ≡ y = set_there cs l.i c.remove-copy.result y there c.remove-copy.ensures.value in
     let after = c.remove-copy.new.self.items in
     record {
-      far = stepped_to-out net c.requires.may_step.valid c.args.station ends c.args.bound l.invariant.far there
+      far = stepped_to-out net c.requires.may_step.valid station ends bound l.invariant.far there
           c.index_mut.result.now c.index_mut.ensures.value c.requires.may_step.disjoint y after s.done f.done
           s.sent f.sent s.over f.over c.handle_together.new.steps c.bring_to_bound.new.steps one.onward
-          (subst (λ (u : StationCopy). IsAdvance net c.args.station ends c.args.bound u s.done f.done s.sent
+          (subst (λ (u : StationCopy). IsAdvance net station ends bound u s.done f.done s.sent
           f.sent s.over f.over c.handle_together.new.steps c.bring_to_bound.new.steps) same come.comes)
           c.remove-copy.ensures.items one.done one.over;
       each = rw (c.remove.ensures.items, c.remove-copy.ensures.items)
@@ -181,8 +189,8 @@ loop-i-preserved g c =
 -- ---- the result
 
 pub returns-clause-stepped : goal.returns-clause-stepped
-returns-clause-stepped g c = stepped_to-end c.args.model.now c.requires.may_step.valid c.args.station
-    (ends_in c.args.model.now.horizon c.args.ends.now) c.args.bound c.loop-i.invariant.far
+returns-clause-stepped g c = stepped_to-end c.args.goal.now.model.now c.requires.may_step.valid c.args.goal.now.station
+    (ends_for c.args.goal.now) c.args.goal.now.bound c.loop-i.invariant.far
     (omega (arith, c.loop-i-test.false, c.len.ensures))
 
 pub returns-clause-each : goal.returns-clause-each
