@@ -136,53 +136,31 @@ impl<'r, 'g, G: Gate, R: Wait> WithCrew<'r, 'g, G, R> {
         } = self;
         crew
     }
-}
 
-// By the crew: each station is a task, even if nothing is due there.
-fn step_with_crew<G: Gate, L: Ledger, R: Wait>(
-    rt: &R,
-    alloc: Global,
-    crew: &mut Crew<'_, Window, G>,
-    model: &Arc<Model>,
-    ends: &SharedEnds,
-    procs: &mut Vec<StationSlot>,
-    buffers: &mut Buffers,
-    steps: &mut Steps<L>,
-) -> Result<WindowResult, NoMemory>
-    requires stations { AreStations model.now.value procs.old.items }
-    requires bounds { AreBounds model.now.value procs.old.items buffers.old.bounds.items }
-    ensures stepped { IfOk result (λ s. AllSteppedAndGiven model.now.value (ends_in model.now.value.horizon ends.now)
-        (bound_of buffers.old.bounds.items) procs.old.items procs.new.items s.over steps.old steps.new) }
-    ensures at_most { IfOk result (λ s. IsPlaceOfOver s.over) }
-{
-    let work = Window::shared(alloc, model, ends)?;
-    let stepped = step_by_crew(rt, alloc, crew, work, procs, buffers, steps)?;
-    Ok(stepped)
-}
-
-// By the crew if the last step was large, and otherwise in place.
-fn step_beside<G: Gate, L: Ledger, R: Wait>(
-    rt: &R,
-    alloc: Global,
-    gate: &G,
-    crew: &mut Crew<'_, Window, G>,
-    large: bool,
-    model: &Arc<Model>,
-    ends: &SharedEnds,
-    procs: &mut Vec<StationSlot>,
-    buffers: &mut Buffers,
-    steps: &mut Steps<L>,
-) -> Result<WindowResult, NoMemory>
-    requires stations { AreStations model.now.value procs.old.items }
-    requires bounds { AreBounds model.now.value procs.old.items buffers.old.bounds.items }
-    ensures stepped { IfOk result (λ s. AllSteppedAndGiven model.now.value (ends_in model.now.value.horizon ends.now)
-        (bound_of buffers.old.bounds.items) procs.old.items procs.new.items s.over steps.old steps.new) }
-    ensures at_most { IfOk result (λ s. IsPlaceOfOver s.over) }
-{
-    if crew.is_single() || !large {
-        return step_and_deliver(alloc, gate, model, ends, procs, buffers, steps);
+    // By the crew if the last step was large: each station is a task, even if nothing is due there. Otherwise in place.
+    fn step_all<L: Ledger>(
+        &mut self,
+        alloc: Global,
+        model: &Arc<Model>,
+        ends: &SharedEnds,
+        procs: &mut Vec<StationSlot>,
+        buffers: &mut Buffers,
+        steps: &mut Steps<L>,
+    ) -> Result<WindowResult, NoMemory>
+        requires stations { AreStations model.now.value procs.old.items }
+        requires bounds { AreBounds model.now.value procs.old.items buffers.old.bounds.items }
+        ensures stepped { IfOk result (λ s. AllSteppedAndGiven model.now.value
+            (ends_in model.now.value.horizon ends.now) (bound_of buffers.old.bounds.items) procs.old.items
+            procs.new.items s.over steps.old steps.new) }
+        ensures at_most { IfOk result (λ s. IsPlaceOfOver s.over) }
+    {
+        if self.crew.is_single() || self.last < LARGE_STEP {
+            return step_and_deliver(alloc, self.gate, model, ends, procs, buffers, steps);
+        }
+        let work = Window::shared(alloc, model, ends)?;
+        let stepped = step_by_crew(self.rt, alloc, &mut self.crew, work, procs, buffers, steps)?;
+        Ok(stepped)
     }
-    step_with_crew(rt, alloc, crew, model, ends, procs, buffers, steps)
 }
 
 impl<'r, 'g, G: Gate, R: Wait> Stepper for WithCrew<'r, 'g, G, R> {
@@ -195,18 +173,7 @@ impl<'r, 'g, G: Gate, R: Wait> Stepper for WithCrew<'r, 'g, G, R> {
         buffers: &mut Buffers,
         steps: &mut Steps<L>,
     ) -> Result<WindowResult, NoMemory> {
-        let stepped = step_beside(
-            self.rt,
-            alloc,
-            self.gate,
-            &mut self.crew,
-            self.last >= LARGE_STEP,
-            model,
-            ends,
-            procs,
-            buffers,
-            steps,
-        )?;
+        let stepped = self.step_all(alloc, model, ends, procs, buffers, steps)?;
         self.last = stepped.handled;
         Ok(stepped)
     }

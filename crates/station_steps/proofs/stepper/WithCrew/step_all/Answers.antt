@@ -2,7 +2,7 @@ use Rattle.std.proofs.Common.{subst}
 use Rattle.phys_proc.specs.Ends.{ends_in}
 use Rattle.station_steps.specs.Stepping.{AllSteppedAndGiven}
 use Rattle.station_steps.specs.Windows.{WindowView, bound_of}
-use Rattle.station_steps.proofs.stepper.step_with_crew.Goals as goal
+use Rattle.station_steps.proofs.stepper.WithCrew.step_all.Goals as goal
 
 pub returns-clause-stepped : goal.returns-clause-stepped
 returns-clause-stepped g c =
