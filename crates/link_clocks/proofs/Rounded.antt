@@ -5,12 +5,28 @@ use Rattle.sim_base.specs.Clones.{Clone}
 use Rattle.net_model.specs.Net.{Net}
 use Rattle.phys_proc.specs.Procs.{ProcView}
 use Rattle.station_steps.specs.Windows.{AreBounds, AreStations, bound_of}
+use Rattle.world_core.specs.declared.advancing.Stations.{Stations}
 use Rattle.world_core.specs.declared.world.WorldFault.{WorldFault}
 use Rattle.world_core.specs.Cuts.{CutStands, HasSteppedTo, IsStepTo}
 use Rattle.link_laws.proofs.Clocks.{clock-within, clocks_make_rounds}
 use Rattle.link_clocks.specs.NetClocks.{HasClocks, clock, delays_of}
 use Rattle.link_clocks.specs.LinkWorlds.{IsRoundFault, LinkStands, LinkView, NoneBeyondAfter, total_after}
 use Rattle.link_clocks.proofs.OnLinks.{net_keeps_to_links}
+
+-- a world in rounds at these stations, of which others are a copy
+pub unboxed : (y x : Stations) (rounds : ℕ) (now next : List ℕ) (w : LinkView) → y ≡ x →
+    LinkStands x.model.value x.lists.clones x.ends rounds now next x.procs.items →
+    ◌≡◌ {A = LinkView} (record { net = x.model.value; clones = x.lists.clones; rounds = rounds }) w →
+    LinkStands y.model.value y.lists.clones y.ends rounds now next y.procs.items
+    × (◌≡◌ {A = LinkView} (record { net = y.model.value; clones = y.lists.clones; rounds = rounds }) w)
+unboxed y x rounds now next w e stands is = (
+  subst (λ (z : Stations). LinkStands z.model.value z.lists.clones z.ends rounds now next z.procs.items) (sym e) stands,
+  subst (λ (z : Stations). ◌≡◌ {A = LinkView} (record {
+    net = z.model.value;
+    clones = z.lists.clones;
+    rounds = rounds;
+  }) w) (sym e) is,
+)
 
 module _ (net : Net) (cs : List Clone) (ended : List (ℕ × ℕ)) (k : ℕ) (now next : List ℕ) (procs : List ProcView)
     (w : LinkView) (world : LinkStands net cs ended k now next procs)

@@ -22,7 +22,7 @@ use world_core::{Stations, World, WorldFault};
 /// All clones, each station at its own clock: the copies of every station represent them there.
 #[derive(Drop)]
 pub struct LinkWorld {
-    stations: Stations,
+    stations: Box<Stations>,
     clocks: Clocks,
 }
 
@@ -32,13 +32,13 @@ impl std::marker::Model for LinkWorld {
     ghost Value = { LinkView };
 
     ghost view = { λ w. record {
-      net = w.stations.model.value;
-      clones = w.stations.lists.clones;
+      net = w.stations.value.model.value;
+      clones = w.stations.value.lists.clones;
       rounds = w.clocks.rounds;
     } };
 
-    ghost invariant = { λ w. LinkStands w.stations.model.value w.stations.lists.clones w.stations.ends w.clocks.rounds
-        w.clocks.now.items w.clocks.next.items w.stations.procs.items };
+    ghost invariant = { λ w. LinkStands w.stations.value.model.value w.stations.value.lists.clones
+        w.stations.value.ends w.clocks.rounds w.clocks.now.items w.clocks.next.items w.stations.value.procs.items };
 }
 
 // Sets the bound of each station to its time in the list.
@@ -147,10 +147,11 @@ impl LinkWorld {
             mut stations,
             clocks,
         } = self;
-        bound_by(&mut stations.buffers, clocks.next.as_slice())?;
-        match stations.advance(alloc, stepper, steps) {
+        let parts = &mut *stations;
+        bound_by(&mut parts.buffers, clocks.next.as_slice())?;
+        match parts.advance(alloc, stepper, steps) {
             Ok(_) => {
-                let clocks = clocks.after_round(&stations.model);
+                let clocks = clocks.after_round(&parts.model);
                 Ok(LinkWorld { stations, clocks })
             }
             Err(fault) => Err(fault),

@@ -13,6 +13,7 @@ use Rattle.link_laws.proofs.WindowRounds.{window_is_round}
 use Rattle.world_core.specs.Cuts.{HasSteppedTo, IsStepTo}
 use Rattle.world_core.specs.Overs.{IsFault, NoneBeyond, NoneBeyondAt}
 use Rattle.world_core.specs.Worlds.{WorldStands, WorldView, total_handled}
+use Rattle.world_core.specs.declared.advancing.Stations.{Stations}
 use Rattle.world_core.specs.declared.world.WorldFault.{WorldFault}
 use Rattle.world_core.proofs.Worlds.{cut_of_world, world_of_cut}
 
@@ -20,6 +21,21 @@ use Rattle.world_core.proofs.Worlds.{cut_of_world, world_of_cut}
 none_beyond_front : (net : Net) (cs : List Clone) (front : ℕ) → NoneBeyondAt net cs (λ s. front) →
     NoneBeyond net cs front
 none_beyond_front net cs front h c l s is = h s (record { low = is.0; high = is.1 }) c l
+
+-- a world at these stations, of which others are a copy
+pub unboxed : (y x : Stations) (front : ℕ) (w : WorldView) → y ≡ x →
+    WorldStands x.model.value x.lists.clones x.ends front x.procs.items →
+    ◌≡◌ {A = WorldView} (record { net = x.model.value; clones = x.lists.clones; front = front }) w →
+    WorldStands y.model.value y.lists.clones y.ends front y.procs.items
+    × (◌≡◌ {A = WorldView} (record { net = y.model.value; clones = y.lists.clones; front = front }) w)
+unboxed y x front w e stands is = (
+  subst (λ (z : Stations). WorldStands z.model.value z.lists.clones z.ends front z.procs.items) (sym e) stands,
+  subst (λ (z : Stations). ◌≡◌ {A = WorldView} (record {
+    net = z.model.value;
+    clones = z.lists.clones;
+    front = front;
+  }) w) (sym e) is,
+)
 
 module _ (net : Net) (cs : List Clone) (ended : List (ℕ × ℕ)) (front bound : ℕ) (procs : List ProcView) (w : WorldView)
     (world : WorldStands net cs ended front procs)

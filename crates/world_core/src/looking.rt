@@ -33,11 +33,12 @@ impl World {
         requires in_range { c < length self.now.clones }
         ensures value { result ≡ least_of (simulation self.now.net) (clone_at self.now.clones c) self.now.front }
     {
+        let stations = &*self.stations;
         let mut least = None;
-        for i in 0..self.stations.procs.len() {
+        for i in 0..stations.procs.len() {
             least = earlier(
                 least,
-                self.stations.procs[i].least_of(&self.stations.model, self.stations.ends.ends(), c),
+                stations.procs[i].least_of(&stations.model, stations.ends.ends(), c),
             );
         }
         least
@@ -47,13 +48,10 @@ impl World {
     pub fn least(&self) -> Option<u64>
         ensures value { result ≡ least (simulation self.now.net) self.now.clones self.now.front }
     {
+        let stations = &*self.stations;
         let mut least = None;
-        for i in 0..self.stations.procs.len() {
-            least = self.stations.procs[i].with_least(
-                &self.stations.model,
-                self.stations.ends.ends(),
-                least,
-            );
+        for i in 0..stations.procs.len() {
+            least = stations.procs[i].with_least(&stations.model, stations.ends.ends(), least);
         }
         least
     }
@@ -73,7 +71,8 @@ impl World {
         ensures handled { result.handled ≡ handled_once self.now.net self.now.clones station self.now.front }
         ensures alone { result.alone ≡ handled_alone self.now.net self.now.clones station self.now.front }
     {
-        let proc = &self.stations.procs[station as usize - 1];
+        let stations = &*self.stations;
+        let proc = &stations.procs[station as usize - 1];
         Figures {
             copies: proc.copies().len() as u64,
             handled: proc.handled(),

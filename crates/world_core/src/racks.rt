@@ -22,9 +22,10 @@ impl World {
         // the world is unchanged, even if out of memory
         ensures same { self.new ≡ self.old }
     {
-        let model = share_of(&self.stations.model)?;
-        let lists = self.stations.lists.show(alloc)?;
-        let rack = self.stations.procs[station as usize - 1].rack(alloc, model, lists, self.front)?;
+        let stations = &mut *self.stations;
+        let model = share_of(&stations.model)?;
+        let lists = stations.lists.show(alloc)?;
+        let rack = stations.procs[station as usize - 1].rack(alloc, model, lists, self.front)?;
         Ok(rack)
     }
 }

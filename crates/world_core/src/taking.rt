@@ -101,9 +101,10 @@ impl World {
             front,
             last,
         } = self;
-        let number = stations.lists.lists().len();
-        stations.lists.fork(alloc, new, old)?;
-        fork_all(&mut stations.procs, old, number)?;
+        let parts = &mut *stations;
+        let number = parts.lists.lists().len();
+        parts.lists.fork(alloc, new, old)?;
+        fork_all(&mut parts.procs, old, number)?;
         Ok(World {
             stations,
             front,
@@ -128,9 +129,10 @@ impl World {
             front,
             last,
         } = self;
-        let msg = set_message(stations.lists.lists().list(who).len(), plan);
-        stations.lists.add(who, plan)?;
-        deliver_to(&mut stations.procs, msg, CloneSet::one(who))?;
+        let parts = &mut *stations;
+        let msg = set_message(parts.lists.lists().list(who).len(), plan);
+        parts.lists.add(who, plan)?;
+        deliver_to(&mut parts.procs, msg, CloneSet::one(who))?;
         Ok(World {
             stations,
             front,
@@ -152,8 +154,9 @@ impl World {
             front,
             last,
         } = self;
-        stations.lists.end(who, at);
-        stations.ends.end(alloc, who, at)?;
+        let parts = &mut *stations;
+        parts.lists.end(who, at);
+        parts.ends.end(alloc, who, at)?;
         Ok(World {
             stations,
             front,

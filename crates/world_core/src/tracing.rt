@@ -85,7 +85,8 @@ impl World {
             ≡ log_at (simulation self.now.net) (clone_at self.now.clones who) station self.now.front →
             has result.now.set c ≡ true }
     {
-        match copy_of(self.stations.procs[station as usize - 1].copies(), who) {
+        let stations = &*self.stations;
+        match copy_of(stations.procs[station as usize - 1].copies(), who) {
             Some(copy) => copy,
             None => unreachable!(),
         }

@@ -23,7 +23,8 @@ use std::sync::{Arc, Wait};
 /// The world of all clones at a front: the copies of every station represent them.
 #[derive(Drop)]
 pub struct World {
-    pub(crate) stations: Stations,
+    // boxed, so that a window moves a pointer
+    pub(crate) stations: Box<Stations>,
     pub(crate) front: u64,
     // the number of messages that the last window handled: a hint for the next one
     pub(crate) last: u64,
@@ -35,13 +36,13 @@ impl std::marker::Model for World {
     ghost Value = { WorldView };
 
     ghost view = { λ w. record {
-      net = w.stations.model.value;
-      clones = w.stations.lists.clones;
+      net = w.stations.value.model.value;
+      clones = w.stations.value.lists.clones;
       front = w.front;
     } };
 
-    ghost invariant = { λ w. WorldStands w.stations.model.value w.stations.lists.clones w.stations.ends w.front
-        w.stations.procs.items };
+    ghost invariant = { λ w. WorldStands w.stations.value.model.value w.stations.value.lists.clones w.stations.value.ends w.front
+        w.stations.value.procs.items };
 }
 
 /// Why a window has no result.
@@ -86,26 +87,27 @@ impl World {
         let procs = open_all(alloc, &model)?;
         let lists = SharedLists::new(alloc)?;
         let ends = SharedEnds::none(alloc)?;
+        let stations = Stations {
+            model,
+            lists,
+            ends,
+            procs,
+            buffers: Buffers::new(alloc),
+        };
         Ok(World {
-            stations: Stations {
-                model,
-                lists,
-                ends,
-                procs,
-                buffers: Buffers::new(alloc),
-            },
+            stations: Box::new(alloc, stations)?,
             front: 0,
             last: 0,
         })
     }
 
     /// Makes a world of these stations at this front.
-    pub fn of_stations(stations: Stations, front: u64) -> World
-        requires stands { WorldStands stations.model.value stations.lists.clones stations.ends front
-            stations.procs.items }
+    pub fn of_stations(stations: Box<Stations>, front: u64) -> World
+        requires stands { WorldStands stations.value.model.value stations.value.lists.clones stations.value.ends front
+            stations.value.procs.items }
         ensures value { result ≡ record {
-          net = stations.model.value;
-          clones = stations.lists.clones;
+          net = stations.value.model.value;
+          clones = stations.value.lists.clones;
           front = front;
         } }
     {
@@ -117,10 +119,10 @@ impl World {
     }
 
     /// Returns the stations of the world.
-    pub fn into_stations(self) -> Stations
-        ensures net { result.model.value ≡ self.net }
-        ensures clones { result.lists.clones ≡ self.clones }
-        ensures stands { WorldStands self.net self.clones result.ends self.front result.procs.items }
+    pub fn into_stations(self) -> Box<Stations>
+        ensures net { result.value.model.value ≡ self.net }
+        ensures clones { result.value.lists.clones ≡ self.clones }
+        ensures stands { WorldStands self.net self.clones result.value.ends self.front result.value.procs.items }
     {
         let World {
             stations,
@@ -190,8 +192,9 @@ impl World {
             front: _,
             last: _,
         } = self;
-        stations.buffers.bound_all(stations.procs.len(), bound)?;
-        match stations.advance(alloc, stepper, steps) {
+        let parts = &mut *stations;
+        parts.buffers.bound_all(parts.procs.len(), bound)?;
+        match parts.advance(alloc, stepper, steps) {
             Ok(handled) => Ok(World {
                 stations,
                 front: bound,

@@ -15,9 +15,9 @@ returns c =
     let count = c.self.invariant.clocks_are.now_are.count in
     let low = is.low in
     let high = is.high in
-    let there : x ≡ clock i.stations.model.value i.clocks.rounds s =
+    let there : x ≡ clock i.stations.value.model.value i.clocks.rounds s =
     c.index.ensures ∙ get_or_default_zero i.clocks.now.items (s - 1) x (omega (arith, count, low, high))
-    ∙ clock-at i.stations.model.value i.stations.lists.clones i.stations.ends i.clocks.rounds i.clocks.now.items
-    i.clocks.next.items i.stations.procs.items
+    ∙ clock-at i.stations.value.model.value i.stations.value.lists.clones i.stations.value.ends i.clocks.rounds i.clocks.now.items
+    i.clocks.next.items i.stations.value.procs.items
     c.self.invariant s is in
     record { value = subst (λ (v : LinkView). x ≡ clock v.net v.rounds s) c.self.view_is there }

@@ -8,17 +8,21 @@ use Rattle.world_core.specs.Worlds.{WorldView}
 use Rattle.station_steps.proofs.Places.{got_at}
 use Rattle.world_core.proofs.DueTimes.{TakenTo, least_next, least_all}
 use Rattle.world_core.proofs.Timing.{least_with}
+use Rattle.world_core.proofs.Windowed.{unboxed}
 use Rattle.world_core.proofs.world.World.least.Goals as goal
 
 pub loop-i-preserved : goal.loop-i-preserved
 loop-i-preserved c =
-    let procs = c.self.inside.stations.procs.items in
-    let ended = c.self.inside.stations.ends in
-    let net = c.self.inside.stations.model.value in
+    let i = c.deref-stations.result.now in
+    let of = unboxed i c.self.inside.stations.value c.self.inside.front c.args.self.now c.deref-stations.ensures
+    c.self.invariant c.self.view_is in
+    let procs = i.procs.items in
+    let ended = i.ends in
+    let net = i.model.value in
     let p = c.index.result.now in
     let l : c.loop-i.i < length procs =
-    omega (arith, c.loop-i-test.true, c.loop-i.auto.i-end, c.len-i-end.ensures, c.self.inside.stations.procs.ok.0) in
-    least_next net c.self.inside.stations.lists.clones ended c.self.inside.front procs c.self.invariant c.loop-i.i p
+    omega (arith, c.loop-i-test.true, c.loop-i.auto.i-end, c.len-i-end.ensures, i.procs.ok.0) in
+    least_next net i.lists.clones ended c.self.inside.front procs of.0 c.loop-i.i p
     c.with_least-least.result (got_at procs c.loop-i.i p l c.index.ensures)
     (least_with (ends_in net.horizon ended) p.copies c.loop-i.least c.with_least-least.result
     (subst (λ (e : List (ℕ × ℕ)). IsWithLeast (ends_in net.horizon e) p.copies c.loop-i.least
@@ -28,11 +32,15 @@ loop-i-preserved c =
     (TakenTo (ends_in net.horizon ended) procs c.loop-i.i) c.loop-i.invariant)
 
 pub returns : goal.returns
-returns c = record {
-  value = subst (λ (w : WorldView). c.loop-i.least ≡ least (simulation w.net) w.clones w.front) c.self.view_is
-      (least_all c.self.inside.stations.model.value c.self.inside.stations.lists.clones c.self.inside.stations.ends
-      c.self.inside.front
-      c.self.inside.stations.procs.items c.self.invariant c.loop-i.i c.loop-i.least
-      (omega (arith, c.loop-i-test.false, c.loop-i.auto.i-end, c.len-i-end.ensures, c.self.inside.stations.procs.ok.0))
-      c.loop-i.invariant);
-}
+returns c =
+    let i = c.deref-stations.result.now in
+    let of = unboxed i c.self.inside.stations.value c.self.inside.front c.args.self.now c.deref-stations.ensures
+    c.self.invariant c.self.view_is in
+    record {
+      value = subst (λ (w : WorldView). c.loop-i.least ≡ least (simulation w.net) w.clones w.front) of.1
+          (least_all i.model.value i.lists.clones i.ends
+          c.self.inside.front
+          i.procs.items of.0 c.loop-i.i c.loop-i.least
+          (omega (arith, c.loop-i-test.false, c.loop-i.auto.i-end, c.len-i-end.ensures, i.procs.ok.0))
+          c.loop-i.invariant);
+    }

@@ -3,5 +3,5 @@ use Rattle.world_core.proofs.DueTimes.{IsLeastTo}
 use Rattle.world_core.proofs.world.World.least.Given as goal
 
 abbrev pub invariant-loop-i : goal.invariant-loop-i
-invariant-loop-i l = IsLeastTo (ends_in l.self-inside.stations.model.value.horizon l.self-inside.stations.ends)
-    l.self-inside.stations.procs.items l.i l.least
+invariant-loop-i l = IsLeastTo (ends_in l.stations.model.value.horizon l.stations.ends)
+    l.stations.procs.items l.i l.least

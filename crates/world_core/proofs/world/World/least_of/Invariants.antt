@@ -6,8 +6,6 @@ use Rattle.world_core.proofs.world.World.least_of.Given as goal
 
 abbrev pub invariant-loop-i : goal.invariant-loop-i
 invariant-loop-i l = record {
-  within : l.i ≤ length l.self-inside.stations.procs.items;
-  least : l.least ≡ least_to (simulation l.self-inside.stations.model.value) (clone_at
-      l.self-inside.stations.lists.clones l.c)
-      l.self-inside.front l.i;
+  within : l.i ≤ length l.stations.procs.items;
+  least : l.least ≡ least_to (simulation l.self.net) (clone_at l.self.clones l.c) l.self.front l.i;
 }

@@ -7,12 +7,13 @@ use Rattle.run_laws.specs.Merges.{merge, merge_of_logs}
 use Rattle.run_laws.specs.Runs.{run_of}
 use Rattle.world_core.specs.Worlds.{WorldView}
 use Rattle.world_core.specs.Tracing.{by_key}
+use Rattle.world_core.specs.declared.advancing.Stations.{Stations}
 use Rattle.world_core.proofs.Merging.{one_more, all_merged}
 use Rattle.world_core.proofs.world.World.trace.Goals as goal
 
 pub log-requires-clause-is_station : goal.log-requires-clause-is_station
 log-requires-clause-is_station c =
-    let many = ap (λ (n : Net). length n.sites) c.deref.ensures in
+    let many = ap (λ (n : Net). length n.sites) (c.deref-2.ensures ∙ ap (λ (s : Stations). s.model.value) c.deref.ensures) in
     subst (λ (w : WorldView). HasStation w.net (c.loop-i.i + 1)) c.self.view_is (record {
       low = omega arith;
       high = omega (arith, c.loop-i-test.true, c.len-i-end.ensures.value, many);
@@ -29,14 +30,14 @@ pub returns : goal.returns
 returns c =
     let w = c.self.inside in
     let there = subst (λ (w : WorldView). c.args.who < length w.clones) (sym c.self.view_is) c.requires.in_range in
-    let many = ap (λ (n : Net). length n.sites) c.deref.ensures in
+    let many = ap (λ (n : Net). length n.sites) (c.deref-2.ensures ∙ ap (λ (s : Stations). s.model.value) c.deref.ensures) in
     let merged = subst (λ (w : WorldView). c.loop-i.trace.items
     ≡ merge_of_logs (simulation w.net) sender_of number_of (clone_at w.clones c.args.who) w.front c.loop-i.i)
     (sym c.self.view_is) c.loop-i.invariant in
     record {
       value = subst (λ (w : WorldView). c.loop-i.trace.items
           ≡ (run_of (simulation w.net) (clone_at w.clones c.args.who) w.front).at.trace) c.self.view_is
-          (all_merged w.stations.model.value w.stations.lists.clones w.stations.ends w.front w.stations.procs.items
+          (all_merged w.stations.value.model.value w.stations.value.lists.clones w.stations.value.ends w.front w.stations.value.procs.items
           c.self.invariant c.args.who there
           c.loop-i.i c.loop-i.trace.items
           (omega (arith, c.loop-i-test.false, c.loop-i.auto.i-end, c.len-i-end.ensures.value, many)) merged);
