@@ -10,3 +10,6 @@ pub mod SayableRuns
 pub mod RunSnapshots
 pub mod SoloSnapshots
 pub mod ResumedTexts
+pub mod Firsts
+pub mod KeyOrder
+pub mod FirstBeyond

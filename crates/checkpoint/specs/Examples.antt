@@ -1,11 +1,13 @@
 -- Worked examples: a snapshot of the run of two jobs at a desk, and pending messages that a snapshot may not have.
-use Rattle.std.specs.Prelude.{ℕ, List, [], ◌∷◌, codes, None}
+use Rattle.std.specs.Prelude.{ℕ, List, [], ◌∷◌, codes, drop, take, None}
+use Rattle.sim_base.specs.declared.message.Key.{Key}
 use Rattle.sim_base.specs.declared.message.Msg.{Msg}
 use Rattle.sim_base.specs.declared.message.Payload.{Payload}
 use Rattle.stations.specs.Examples.{job, done}
-use Rattle.stations.specs.Examples.OneDesk.{gate, desk, out}
+use Rattle.stations.specs.Examples.OneDesk.{gate, desk, one_desk_trace, out}
 use Rattle.stations.specs.Examples.SavedStates.{gate_at_10, desk_at_10, out_at_10}
 use Rattle.stations.specs.declared.saved.Saved.{Saved}
+use Rattle.solo_run.specs.SoloView.{Entries}
 use Rattle.checkpoint.specs.Snapshots.{SnapshotView}
 
 -- time, sender, number, receiver, payload
@@ -57,3 +59,18 @@ one_completion_too_many =
     message 11 desk 1 out (job gate 0 3)
     ∷ message 13 desk 0 desk (done gate 0 3)
     ∷ message 13 desk 2 desk (done gate 1 6) ∷ []
+
+-- the desk has the data of the gate, and so has the out
+abbrev pub two_unfit : List Saved
+two_unfit = gate_at_10 ∷ gate_at_10 ∷ gate_at_10 ∷ []
+
+-- the entries before 10, of which three are of the desk, and those from 10 on
+abbrev pub past_at_10 : Entries
+past_at_10 = take 5 one_desk_trace
+
+abbrev pub rest_at_10 : Entries
+rest_at_10 = drop 5 one_desk_trace
+
+-- the key of the desk's entry at 13
+abbrev pub key_at_13 : Key
+key_at_13 = record { time = 13; sender = desk; number = 2 }

@@ -4,4 +4,5 @@ pub mod Due
 pub mod Accepted
 pub mod RunSnapshots
 pub mod Laws
+pub mod Firsts
 pub mod Examples
