@@ -14,7 +14,7 @@
 //! ```text
 //! let (mut stocker, seats) = begin::<J, _>(rt, alloc, NewHistory::new(), racks, readers)?;  // the stocker keeps `rt`
 //! stocker.publish(alloc, rack)?;                      // the engine, after each window
-//! if let Some(told) = stocker.told() {                // once for each reader since the last publish
+//! if let Some(told) = stocker.stock.told() {          // once for each reader since the last publish
 //!     seat.learn(told);                               // no later look of this seat is older
 //! }
 //! let glance = seat.look(station, &name);             // waits for nobody, takes no memory, always answers
@@ -36,5 +36,5 @@ mod version;
 
 pub use history::{History, Naming, NewHistory, PublishedRacks};
 pub use seat::{Seat, Told};
-pub use stocker::{MAX_READERS, Stocker, begin};
+pub use stocker::{MAX_READERS, Stock, Stocker, begin};
 pub use version::Version;

@@ -85,13 +85,9 @@ fn publish_opening<J: Naming>(history: &mut History<J>, racks: &[Arc<Rack>])
     }
 }
 
-/// The writer of the shelf. It keeps a handle of the newest version for each reader, to tell the reader of it.
+/// What the stocker has published, with a handle of the newest version for each reader, to tell the reader of it.
 #[derive(Drop)]
-pub struct Stocker<J: Naming, R: Wait + Drop>
-where
-    ShownVersion<J>: Absorb<NextVersion<J>, State = ()>,
-{
-    writer: WriteHandle<ShownVersion<J>, NextVersion<J>, R>,
+pub struct Stock<J: Naming> {
     history: History<J>,
     newest: Arc<Version<J>>,
     /// The published racks, the opening ones first.
@@ -107,6 +103,40 @@ where
     ghost newest_is: { newest.value ≡ published },
     ghost history_is: { is_ahead ≡ false → history ≡ published },
     ghost spares_are: { All (λ a. arc_value a ≡ published) spares.items },
+}
+
+impl<J: Naming> Stock<J> {
+    /// Reports what was published, once for each reader after each publish. It is `None` exactly if nothing was
+    /// published after the opening racks. It takes no memory and waits for nobody.
+    pub fn told(&mut self) -> Option<Told<J>>
+        // some reader was not told of the last publish yet
+        requires left { self.old.has_published ≡ true → 1 ≤ length self.old.spares.items }
+        ensures some { IfSome result (λ t. (t ≡ self.old.published) × (self.old.has_published ≡ true)
+            × (length self.old.spares.items ≡ length self.new.spares.items + 1)) }
+        ensures none { IfNone result (self.old.has_published ≡ false) }
+        ensures published { self.new.published ≡ self.old.published }
+        ensures has_published { self.new.has_published ≡ self.old.has_published }
+        ensures readers { self.new.readers ≡ self.old.readers }
+    {
+        if !self.has_published {
+            return None;
+        }
+        let Some(version) = self.spares.pop() else {
+            unreachable!()
+        };
+        Some(Told { version })
+    }
+}
+
+/// The writer of the shelf. Its drop waits for readers that are in the middle of a look.
+#[derive(Drop)]
+pub struct Stocker<J: Naming, R: Wait + Drop>
+where
+    ShownVersion<J>: Absorb<NextVersion<J>, State = ()>,
+{
+    writer: WriteHandle<ShownVersion<J>, NextVersion<J>, R>,
+    /// What it has published.
+    pub stock: Stock<J>,
 }
 
 // Adds a rack to the history, and makes the next version, which shows these racks.
@@ -134,57 +164,37 @@ where
     /// Makes this the last rack of its station. Out of memory, readers are shown what they were shown before. If the
     /// rack was in the history by then, each later publish is out of memory too.
     pub fn publish(&mut self, alloc: Global, rack: Rack) -> Result<(), NoMemory>
-        requires has_rack { HasRack rack.station self.old.published }
-        requires may { MayBePublished self.old.published rack }
-        ensures published { OnOk result (self.new.published ≡ self.old.published ++ rack ∷ []) }
-        ensures tells { OnOk result (self.new.has_published ≡ true) }
-        ensures spares { OnOk result (length self.new.spares.items ≡ self.old.readers) }
-        ensures readers { self.new.readers ≡ self.old.readers }
-        ensures same { OnErr result ((self.new.published ≡ self.old.published)
-            × (self.new.spares.items ≡ self.old.spares.items)
-            × (self.new.has_published ≡ self.old.has_published)) }
+        requires has_rack { HasRack rack.station self.old.stock.published }
+        requires may { MayBePublished self.old.stock.published rack }
+        ensures published { OnOk result (self.new.stock.published ≡ self.old.stock.published ++ rack ∷ []) }
+        ensures tells { OnOk result (self.new.stock.has_published ≡ true) }
+        ensures spares { OnOk result (length self.new.stock.spares.items ≡ self.old.stock.readers) }
+        ensures readers { self.new.stock.readers ≡ self.old.stock.readers }
+        ensures same { OnErr result ((self.new.stock.published ≡ self.old.stock.published)
+            × (self.new.stock.spares.items ≡ self.old.stock.spares.items)
+            × (self.new.stock.has_published ≡ self.old.stock.has_published)) }
         ensures shown { OnErr result (shown_version self.new.writer ≡ shown_version self.old.writer) }
     {
-        if self.is_ahead || self.published.len() >= MAX_RACKS {
+        let stock = &mut self.stock;
+        if stock.is_ahead || stock.published.len() >= MAX_RACKS {
             return Err(NoMemory);
         }
         let rack = Arc::new(alloc, rack)?;
-        let racks = replace_rack(alloc, self.newest.racks(), &rack)?;
-        self.is_ahead = true;
-        let version = next_version(alloc, &mut self.history, &rack, racks)?;
-        let spares = share_version(alloc, &version, self.readers)?;
+        let racks = replace_rack(alloc, stock.newest.racks(), &rack)?;
+        stock.is_ahead = true;
+        let version = next_version(alloc, &mut stock.history, &rack, racks)?;
+        let spares = share_version(alloc, &version, stock.readers)?;
         let newest = Arc::try_clone(&version)?;
         self.writer
             .append(NextVersion::of(version)?)
             .map_err(|_| NoMemory)?;
         self.writer.publish()?;
-        self.published = self.history.published();
-        self.newest = newest;
-        self.has_published = true;
-        self.is_ahead = false;
-        self.spares = spares;
+        stock.published = stock.history.published();
+        stock.newest = newest;
+        stock.has_published = true;
+        stock.is_ahead = false;
+        stock.spares = spares;
         Ok(())
-    }
-
-    /// Reports what was published, once for each reader after each publish. It is `None` exactly if nothing was
-    /// published after the opening racks. It takes no memory.
-    pub fn told(&mut self) -> Option<Told<J>>
-        // some reader was not told of the last publish yet
-        requires left { self.old.has_published ≡ true → 1 ≤ length self.old.spares.items }
-        ensures some { IfSome result (λ t. (t ≡ self.old.published) × (self.old.has_published ≡ true)
-            × (length self.old.spares.items ≡ length self.new.spares.items + 1)) }
-        ensures none { IfNone result (self.old.has_published ≡ false) }
-        ensures published { self.new.published ≡ self.old.published }
-        ensures has_published { self.new.has_published ≡ self.old.has_published }
-        ensures readers { self.new.readers ≡ self.old.readers }
-    {
-        if !self.has_published {
-            return None;
-        }
-        let Some(version) = self.spares.pop() else {
-            unreachable!()
-        };
-        Some(Told { version })
     }
 }
 
@@ -232,10 +242,10 @@ pub fn begin<J: Naming, R: Wait + Drop>(
     requires at_least { 1 ≤ readers }
     requires most { readers ≤ MAX_READERS }
     // what it gives: a stocker that has published these racks, without spares
-    ensures published { IfOk result (λ r. r.0.published ≡ racks.items) }
-    ensures readers { IfOk result (λ r. r.0.readers ≡ readers) }
-    ensures quiet { IfOk result (λ r. r.0.has_published ≡ false) }
-    ensures spares { IfOk result (λ r. r.0.spares.items ≡ []) }
+    ensures published { IfOk result (λ r. r.0.stock.published ≡ racks.items) }
+    ensures readers { IfOk result (λ r. r.0.stock.readers ≡ readers) }
+    ensures quiet { IfOk result (λ r. r.0.stock.has_published ≡ false) }
+    ensures spares { IfOk result (λ r. r.0.stock.spares.items ≡ []) }
     // and a seat for each reader, which has them
     ensures many { IfOk result (λ r. length r.1.items ≡ readers) }
     ensures seats { IfOk result (λ r. All (λ s. s ≡ racks.items) r.1.items) }
@@ -253,8 +263,7 @@ pub fn begin<J: Naming, R: Wait + Drop>(
     };
     let writer = WriteHandle::new(alloc, rt, first, second, readers as usize)?;
     let seats = make_seats(alloc, &writer, &version, readers)?;
-    let stocker = Stocker {
-        writer,
+    let stock = Stock {
         history,
         newest: version,
         published,
@@ -263,5 +272,5 @@ pub fn begin<J: Naming, R: Wait + Drop>(
         is_ahead: false,
         spares: Vec::new(alloc),
     };
-    Ok((stocker, seats))
+    Ok((Stocker { writer, stock }, seats))
 }
