@@ -2,3 +2,4 @@ pub mod Sayable
 pub mod Writing
 pub mod Saving
 pub mod Laws
+pub mod ScriptLaws

@@ -3,6 +3,7 @@ ghost use Rattle.net_model.specs.Net.{Net};
 ghost use Rattle.net_model.specs.Rules.{IsNet};
 ghost use Rattle.saved_run.specs.Laws.{SavedRunsAreResumed};
 ghost use Rattle.saved_run.specs.Sayable.{ScriptsAreSayable};
+ghost use Rattle.saved_run.specs.ScriptLaws.{SavedScriptsAreResumed, ScriptsArePlanned};
 
 /// Words can say all clones of a script.
 #[tactic(auto, using(crate::proofs::Sayable::scripts_are_sayable))]
@@ -13,4 +14,15 @@ pub fn scripts_are_sayable()
 /// The text of a clone that was stopped is read back, and the run from it is the unbroken run.
 pub fn saved_runs_are_resumed()
     ensures { (net : Net) → IsNet net → SavedRunsAreResumed net }
+{}
+
+/// A book may have all clones of a script: few enough, each with few enough decisions, for stations that accept them,
+/// before the horizon.
+pub fn scripts_are_planned()
+    ensures { ScriptsArePlanned }
+{}
+
+/// Whatever text was saved of a clone of a script, it is read back, and the run from it is the unbroken run.
+pub fn saved_scripts_are_resumed()
+    ensures { SavedScriptsAreResumed }
 {}

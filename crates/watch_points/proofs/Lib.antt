@@ -15,3 +15,4 @@ pub mod PlaceOrder
 pub mod MadeBranch
 pub mod Peaks
 pub mod CloneNumbers
+pub mod FirstFaults

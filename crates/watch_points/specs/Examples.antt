@@ -1,5 +1,5 @@
 -- Texts of watches, and watches of one server whose second job waits from 8 to 9.
-use Rattle.std.specs.Prelude.{ℕ, List, [], ◌∷◌, codes, replicate}
+use Rattle.std.specs.Prelude.{ℕ, List, [], ◌∷◌, ◌++◌, codes, replicate}
 use Rattle.sim_base.specs.Clones.{Clone, base}
 use Rattle.sim_base.specs.declared.entry.Entry.{Entry}
 use Rattle.sim_base.specs.declared.entry.Line.{Line}
@@ -32,6 +32,10 @@ wrong_keyword = codes "watch base desk waits 1 fork help set desk servers 2\n"
 abbrev pub decision_line : List ℕ
 decision_line = codes "fork help from base\n"
 
+-- two lines with a fault: a leading zero, and then a keyword that a watch does not have
+abbrev pub two_faults : List ℕ
+two_faults = leading_zero ++ codes "\nwatch base desk waits 1 fork help set desk servers 2\n"
+
 -- ---- watches
 
 -- when one job waits at the desk, `help` has two servers there; the watch of that text
@@ -57,6 +61,13 @@ early = record help { line = 4; new = codes "early"; least = 0 }
 -- a watch whose branch has a change that no server takes: it would have no servers
 abbrev pub no_servers : Watch
 no_servers = record help { change = record { param = Servers; a = 0; b = 0 } }
+
+-- a watch of a station that the model does not have, and one whose branch has the name of another
+abbrev pub lost : Watch
+lost = record more { station = codes "desc" }
+
+abbrev pub again : Watch
+again = record early { new = codes "help" }
 
 -- ---- branches
 

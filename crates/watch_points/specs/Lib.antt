@@ -4,6 +4,7 @@ pub mod Reading
 pub mod Checking
 pub mod Triggers
 pub mod FittingWatches
+pub mod Firsts
 pub mod Progress
 pub mod Passes
 pub mod Watchers

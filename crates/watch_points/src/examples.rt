@@ -7,10 +7,14 @@ ghost use Rattle.stations.specs.Examples.OneDesk.{brief, one_desk};
 ghost use Rattle.decision_book.specs.declared.call.Reply.TheVariants.{UnknownClone, Ended, NameTaken, TooManyClones};
 ghost use Rattle.decision_book.specs.declared.call.Reply.TheVariants.{UnknownStation, WrongParameter, OutOfRange};
 ghost use Rattle.decision_book.specs.declared.call.Reply.TheVariants.{ListFull};
-ghost use Rattle.watch_points.specs.Checking.{fit};
+ghost use Rattle.decision_book.specs.declared.call.Reply.TheVariants.{Accepted};
+ghost use Rattle.decision_script.specs.Lines.{lines};
+ghost use Rattle.watch_points.specs.Checking.{fit, watch_reply};
 ghost use Rattle.watch_points.specs.Examples.{watch_after_comment, leading_zero, missing_value, wrong_keyword};
 ghost use Rattle.watch_points.specs.Examples.{decision_line, help, more, early, helped, helped_more, helped_early};
 ghost use Rattle.watch_points.specs.Examples.{helped_trace, no_servers, until, busy_base};
+ghost use Rattle.watch_points.specs.Examples.{again, lost, two_faults};
+ghost use Rattle.watch_points.specs.Firsts.{watches_in};
 ghost use Rattle.watch_points.specs.Reading.{watches};
 ghost use Rattle.watch_points.specs.Triggers.{clones_with_branches, first_wait};
 ghost use Rattle.watch_points.specs.declared.fault.WatchFault.TheVariants.{BadLine, BadNumber, NotAscii};
@@ -24,6 +28,13 @@ pub fn lines_that_are_read()
     ensures keyword { watches wrong_keyword ≡ Err (BadLine 1) }
     ensures decision { watches decision_line ≡ Err (BadLine 1) }
     ensures ascii { watches (35 ∷ 200 ∷ leading_zero) ≡ Err (NotAscii 1) }
+{}
+
+/// Of two lines with a fault the first is named. The watches that lines say are those of the text.
+pub fn the_first_line_with_a_fault()
+    ensures first { watches two_faults ≡ Err (BadNumber 2) }
+    ensures said { watches_in (lines watch_after_comment) ≡ help ∷ [] }
+    ensures unsaid { watches_in (lines two_faults) ≡ [] }
 {}
 
 /// A job first waits at 8, so the branch has its change at 10. Two jobs never wait.
@@ -88,6 +99,15 @@ pub fn watches_that_do_not_fit()
         ≡ Err (record { line = 2; reply = WrongParameter }) }
     ensures range { fit one_desk (base ∷ []) (no_servers ∷ [])
         ≡ Err (record { line = 2; reply = OutOfRange }) }
+{}
+
+/// Of two watches that do not fit the first is named. Each is refused after those before it.
+pub fn the_first_watch_that_does_not_fit()
+    ensures first { fit one_desk (base ∷ []) (help ∷ lost ∷ again ∷ [])
+        ≡ Err (record { line = 3; reply = UnknownStation }) }
+    ensures accepted { watch_reply one_desk (base ∷ []) [] help ≡ Accepted }
+    ensures refused { watch_reply one_desk (base ∷ []) (help ∷ []) lost ≡ UnknownStation }
+    ensures later { watch_reply one_desk (base ∷ []) (lost ∷ help ∷ []) again ≡ NameTaken }
 {}
 
 /// There may be 256 clones with all branches, and 256 decisions with those of the watches.

@@ -7,6 +7,7 @@ ghost use Rattle.stations.specs.Runs.{simulation};
 ghost use Rattle.watch_laws.specs.Laws.{BeyondStays, BranchesStay, BranchIsNotLate, DueAtFront, DueIsNotLate};
 ghost use Rattle.watch_laws.specs.PassLaws.{PassGoesOn};
 ghost use Rattle.watch_points.specs.CloneNumbers.{NumbersNameClones};
+ghost use Rattle.watch_points.specs.Firsts.{FirstFaultIsFound, FirstRefusedIsFound};
 ghost use Rattle.watch_points.specs.FittingWatches.{AcceptedWatchesFit};
 ghost use Rattle.watch_points.specs.Laws.{FiguresAreTheSame, FollowedClonesAreInOrder, FollowedClonesStay};
 ghost use Rattle.watch_points.specs.Laws.{OrderHasAllClones, TotalIsTheSame};
@@ -23,6 +24,20 @@ pub fn branches_are_made_in_time()
     ensures stay { (net : Net) → IsNet net → BranchesStay (simulation net) }
     ensures not_late { (net : Net) → IsNet net → BranchIsNotLate (simulation net) }
     ensures pass { (net : Net) → IsNet net → PassGoesOn (simulation net) }
+{}
+
+/// A fault names the first line that breaks a rule: that line breaks it, and no line before it breaks any. A text
+/// without such a line states the watches that its lines say.
+#[tactic(auto, using(crate::proofs::FirstFaults::first_fault_is_found))]
+pub fn faults_name_the_first_line()
+    ensures { FirstFaultIsFound }
+{}
+
+/// Of watches that do not fit the first is named: it is refused by that reply after those before it, and none of
+/// these is refused.
+#[tactic(auto, using(crate::proofs::FirstFaults::first_refused_is_found))]
+pub fn the_first_refused_watch_is_named()
+    ensures { FirstRefusedIsFound }
 {}
 
 /// Watches that the table of refusals accepts have new names for their branches, room for these, and each its clone
