@@ -85,7 +85,7 @@ mode_texts mode net clones = run_texts net clones
 abbrev pub mode_meets : Mode → Net → List Clone → ℕ → ℕ → Type 0
 mode_meets mode net clones = MeetsLimit net clones
 
--- ---- all clones, in rounds with a clock for each link
+-- ---- all clones, in rounds with a clock for each station
 
 -- the line with the number of rounds
 abbrev pub rounds_line : ℕ → List ℕ

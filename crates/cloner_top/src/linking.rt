@@ -1,5 +1,5 @@
-//! Runs all clones of a plan in one world, in rounds with a clock for each link. Writes their texts and the number of
-//! rounds.
+//! Runs all clones of a plan in one world, in rounds with a clock for each station. Writes their texts and the number
+//! of rounds.
 ghost use Rattle.std.specs.Prelude.{◌++◌, ◌∷◌, [], IfErr, IfOk};
 ghost use Rattle.study_run.specs.Accepted.{IsAcceptedJournal};
 ghost use Rattle.study_run.specs.Linking.{IsLinkedRun};

@@ -1,4 +1,4 @@
-//! Reads all texts and makes all decisions before the first message is handled.
+//! Reads all texts before the first message is handled, and makes all decisions, except those of a live study.
 ghost use Rattle.std.specs.Prelude.{◌≡◌, ◌≤◌, ◌+◌, ℕ, List, IfErr, IfOk, Ok, OnOk};
 ghost use Rattle.sim_outer.specs.Counts.{AreCounted, HasRisen};
 ghost use Rattle.decision_script.specs.Stating.{IsScript};
@@ -235,7 +235,8 @@ fn prepare_resume<I: Inputs>(
     }
 }
 
-/// Reads all texts of an assignment and makes its decisions. Returns the first error. No message is handled.
+/// Reads all texts of an assignment and makes its decisions, unless it is a live study. Returns the first error. No
+/// message is handled.
 pub(crate) fn prepare<I: Inputs>(
     alloc: Global,
     inputs: &mut I,

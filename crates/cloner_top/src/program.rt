@@ -145,8 +145,8 @@ fn run_or_report<I: Inputs, O: Sink, E: Sink, G: Gate + Sync, L: Ledger, R: Thre
 ///   earlier. It writes the text of a snapshot.
 /// - `resume MODEL SNAPSHOT` goes on from a snapshot. It writes the trace of the clone: the lines of the snapshot, and
 ///   those that follow.
-/// - `links MODEL SCRIPT` runs in rounds with a clock for each link. It writes what `run` writes, and then the number
-///   of rounds.
+/// - `links MODEL SCRIPT` runs in rounds with a clock for each station. It writes what `run` writes, and then the
+///   number of rounds.
 ///
 /// Each text is put in one call, and all memory is allocated before the first put. The status is 0 if everything is
 /// written. Otherwise one line to the error sink says why. If a live study exceeds the limit, its journal precedes that
