@@ -62,7 +62,7 @@ fn begin_with_two<J: Naming, W: Wait + Drop>(
     opened: NewHistory,
 ) -> Result<(World, Stocker<J, W>, Seat<J>), NoMemory>
     requires name { (opened.seen.book ≡ J.book) × (opened.pen.nib.key ≡ J.start) }
-    ensures two { IfOk result (λ r. AreTwoAt r.0.net r.0.front r.1.published) }
+    ensures two { IfOk result (λ r. AreTwoAt r.0.net r.0.front r.1.stock.published) }
     ensures gate { IfOk result (λ r. HasRack 1 r.2) }
     ensures desk { IfOk result (λ r. HasRack 2 r.2) }
 {
@@ -91,7 +91,7 @@ fn publish_two<J: Naming, W: Wait + Drop>(
     stocker: &mut Stocker<J, W>,
     opened_at: u64,
 ) -> Result<(), NoMemory>
-    requires two { AreTwoAt world.old.net opened_at stocker.old.published }
+    requires two { AreTwoAt world.old.net opened_at stocker.old.stock.published }
 {
     if world.front() <= opened_at {
         return Err(NoMemory);
@@ -107,7 +107,7 @@ fn publish_third<J: Naming, W: Wait + Drop>(
     world: World,
     stocker: &mut Stocker<J, W>,
 ) -> Result<u64, NoMemory>
-    requires two { AreTwoAt world.net world.front stocker.old.published }
+    requires two { AreTwoAt world.net world.front stocker.old.stock.published }
 {
     let opened_at = world.front();
     let Ok(mut world) = three_windows(alloc, world) else {
@@ -178,10 +178,10 @@ fn finds_last<J: Naming, W: Wait + Drop>(stocker: &mut Stocker<J, W>, seat: &mut
     requires gate { HasRack 1 seat.old }
     requires desk { HasRack 2 seat.old }
 {
-    if stocker.spares.len() == 0 {
+    if stocker.stock.spares.len() == 0 {
         return false;
     }
-    match stocker.told() {
+    match stocker.stock.told() {
         Some(told) => finds_told(seat, told),
         None => false,
     }

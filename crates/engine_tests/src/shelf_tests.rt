@@ -73,8 +73,8 @@ fn begin_shelf<J: Naming, W: Wait + Drop>(
     opened: NewHistory,
 ) -> Result<(World, Stocker<J, W>, Vec<Seat<J>>), NoMemory>
     requires name { (opened.seen.book ≡ J.book) × (opened.pen.nib.key ≡ J.start) }
-    ensures seen { IfOk result (λ r. AreSeenUpTo r.0.net r.0.front r.1.published) }
-    ensures has_rack { IfOk result (λ r. HasRack 1 r.1.published) }
+    ensures seen { IfOk result (λ r. AreSeenUpTo r.0.net r.0.front r.1.stock.published) }
+    ensures has_rack { IfOk result (λ r. HasRack 1 r.1.stock.published) }
     ensures quiet { IfOk result (λ r. r.1.has_published ≡ false) }
     ensures seats { IfOk result (λ r. All (λ s. HasRack 1 s) r.2.items) }
 {
@@ -134,10 +134,10 @@ fn publish_window<J: Naming, W: Wait + Drop>(
     world: World,
     stocker: &mut Stocker<J, W>,
 ) -> Result<World, NoMemory>
-    requires seen { AreSeenUpTo world.net world.front stocker.old.published }
-    requires has_rack { HasRack 1 stocker.old.published }
-    ensures seen { IfOk result (λ w. AreSeenUpTo w.net w.front stocker.new.published) }
-    ensures has_rack { IfOk result (λ w. HasRack 1 stocker.new.published) }
+    requires seen { AreSeenUpTo world.net world.front stocker.old.stock.published }
+    requires has_rack { HasRack 1 stocker.old.stock.published }
+    ensures seen { IfOk result (λ w. AreSeenUpTo w.net w.front stocker.new.stock.published) }
+    ensures has_rack { IfOk result (λ w. HasRack 1 stocker.new.stock.published) }
 {
     let Some((world, rack)) = step_window(alloc, world) else {
         return Err(NoMemory);
@@ -152,8 +152,8 @@ fn publish_all<J: Naming, W: Wait + Drop>(
     world: World,
     stocker: &mut Stocker<J, W>,
 ) -> Result<(), NoMemory>
-    requires seen { AreSeenUpTo world.net world.front stocker.old.published }
-    requires has_rack { HasRack 1 stocker.old.published }
+    requires seen { AreSeenUpTo world.net world.front stocker.old.stock.published }
+    requires has_rack { HasRack 1 stocker.old.stock.published }
 {
     let mut world = world;
     for _ in 0..HORIZON {
@@ -244,8 +244,8 @@ fn run_beside<J: Naming + Send + Sync, W: Wait + Drop + Send, R: Threads + Wait 
     two: Seat<J>,
     who: &Name,
 ) -> (Stocker<J, W>, (Reader<J>, Reader<J>))
-    requires seen { AreSeenUpTo world.net world.front stocker.published }
-    requires has_rack { HasRack 1 stocker.published }
+    requires seen { AreSeenUpTo world.net world.front stocker.stock.published }
+    requires has_rack { HasRack 1 stocker.stock.published }
     requires one { HasRack 1 one }
     requires two { HasRack 1 two }
     ensures one { HasRack 1 result.1.0.seat }
@@ -255,7 +255,7 @@ fn run_beside<J: Naming + Send + Sync, W: Wait + Drop + Send, R: Threads + Wait 
     thread::join(
         rt,
         move || -> Stocker<J, W>
-            requires { AreSeenUpTo world.net world.front stocker.published × HasRack 1 stocker.published }
+            requires { AreSeenUpTo world.net world.front stocker.stock.published × HasRack 1 stocker.stock.published }
         {
             // a run that ends early has published too few
             let _ = publish_all(alloc, world, &mut stocker);
@@ -276,12 +276,12 @@ fn sees_told<J: Naming, W: Wait + Drop>(
     front: u64,
 ) -> bool
     requires has_rack { HasRack 1 seat.old }
-    ensures published { stocker.new.published ≡ stocker.old.published }
+    ensures published { stocker.new.stock.published ≡ stocker.old.stock.published }
 {
-    if stocker.spares.len() == 0 {
+    if stocker.stock.spares.len() == 0 {
         return false;
     }
-    match stocker.told() {
+    match stocker.stock.told() {
         Some(told) => look_told(seat, told, who) == front,
         None => false,
     }
@@ -297,13 +297,13 @@ fn tells_each<J: Naming, W: Wait + Drop>(
 ) -> bool
     requires one { HasRack 1 one }
     requires two { HasRack 1 two }
-    ensures published { stocker.new.published ≡ stocker.old.published }
+    ensures published { stocker.new.stock.published ≡ stocker.old.stock.published }
 {
     let mut one = one;
     let mut two = two;
     let first = sees_told(stocker, &mut one, who, front);
     let second = sees_told(stocker, &mut two, who, front);
-    first && second && stocker.spares.is_empty()
+    first && second && stocker.stock.spares.is_empty()
 }
 
 /// Whether all windows were published, and the two concurrent readers saw what they should.
@@ -319,7 +319,7 @@ fn saw_all<J: Naming, W: Wait + Drop>(
     let mut stocker = stocker;
     let rise = one.rises && two.rises;
     let told = tells_each(&mut stocker, one.seat, two.seat, who, HORIZON);
-    rise && told && stocker.published.len() >= 10_000
+    rise && told && stocker.stock.published.len() >= 10_000
 }
 
 /// Whether two readers concurrent with a run saw what they should.
@@ -349,16 +349,16 @@ fn looks_are_right<J: Naming, W: Wait + Drop>(
     two: Seat<J>,
     who: &Name,
 ) -> Result<bool, NoMemory>
-    requires seen { AreSeenUpTo world.net world.front stocker.published }
-    requires has_rack { HasRack 1 stocker.published }
-    requires quiet { stocker.has_published ≡ false }
+    requires seen { AreSeenUpTo world.net world.front stocker.stock.published }
+    requires has_rack { HasRack 1 stocker.stock.published }
+    requires quiet { stocker.stock.has_published ≡ false }
     requires one { HasRack 1 one }
     requires two { HasRack 1 two }
 {
     let mut stocker = stocker;
     let mut one = one;
     let mut two = two;
-    let quiet = stocker.told().is_none();
+    let quiet = stocker.stock.told().is_none();
     let opens = look_once(&mut one, who) == 0;
     let world = publish_window(alloc, world, &mut stocker)?;
     let front = world.front();

@@ -61,3 +61,10 @@ CountsFew h old old_steps new_steps NoMemory = Unit {0}
 CountsFew h old old_steps new_steps (LimitMet station who) =
     new_steps + total_handled old.net old.clones old.front
     ≤ old_steps + most_handled h.net (length (after h.net h.helm).clones)
+
+-- what the engine hands back of its counter: at the horizon the number that the counter counted, which is each message
+-- that was handled, once for all clones that share it; if the engine stopped, nothing
+pub record HasCounted (run : Result WorldView StudyFault) (counter many : ℕ) : Type 0 where
+  pub counts : IfOk run (λ w. many ≡ counter)
+  pub once : IfOk run (λ w. counter ≡ total_handled w.net w.clones w.front)
+  pub none : IfErr run (λ e. many ≡ 0)

@@ -8,6 +8,7 @@ ghost use Rattle.live_study.specs.Driving.{CountsFew, CountsOnce, HasDriven, May
 ghost use Rattle.live_study.specs.Engines.{InStep, IsAhead, Steers, StopsEngine};
 ghost use Rattle.live_study.specs.Showing.{AreShownOf, AreShownTo, Raises, TellsEach};
 
+use crate::resources::Resources;
 use crew_pool::{Crew, Gate};
 use decision_desk::{Desk, Helm};
 use shelf::{Naming, Stocker};
@@ -17,6 +18,18 @@ use std::sync::Wait;
 use std::sync::ledger::Ledger;
 use study_run::{StudyFault, fault_of_window};
 use world_core::{Window, World};
+
+/// The engine's side of a live study, without its world: each window takes that and returns the next. `S` is the type
+/// of its stocker.
+#[derive(Drop)]
+pub(crate) struct Engine<S: Drop> {
+    /// Its handle on the desk's journal.
+    pub(crate) helm: Helm,
+    /// Publishes the racks.
+    pub(crate) stocker: S,
+    /// Which stations are looked at.
+    pub(crate) watched: Vec<bool>,
+}
 
 // The time of the next pending message of each clone.
 fn least_due_times(alloc: Global, world: &World) -> Result<Vec<Option<u64>>, NoMemory>
@@ -71,12 +84,12 @@ fn show_one<J: Naming, W: Wait + Drop>(
     station: u32,
 ) -> Result<(), NoMemory>
     requires is_station { HasStation world.old.net station }
-    requires may_show { MayShow helm.now world.old (station - 1) stocker.old.published }
+    requires may_show { MayShow helm.now world.old (station - 1) stocker.old.stock.published }
     ensures same { world.new ≡ world.old }
-    ensures shown { OnOk result (AreShownTo helm.now world.old station stocker.new.published) }
-    ensures readers { stocker.new.readers ≡ stocker.old.readers }
-    ensures tells { OnOk result (TellsEach stocker.new.readers stocker.new.has_published
-        (length stocker.new.spares.items)) }
+    ensures shown { OnOk result (AreShownTo helm.now world.old station stocker.new.stock.published) }
+    ensures readers { stocker.new.stock.readers ≡ stocker.old.stock.readers }
+    ensures tells { OnOk result (TellsEach stocker.new.stock.readers stocker.new.stock.has_published
+        (length stocker.new.stock.spares.items)) }
 {
     // for the rack's front, which is not beyond the horizon
     let _within = world.front();
@@ -92,13 +105,14 @@ fn show<J: Naming, W: Wait + Drop>(
     stocker: &mut Stocker<J, W>,
     watched: &[bool],
 ) -> Result<(), NoMemory>
-    requires may_show { MayShow helm.now world.old 0 stocker.old.published }
+    requires may_show { MayShow helm.now world.old 0 stocker.old.stock.published }
     ensures same { world.new ≡ world.old }
-    ensures shown { OnOk result (AreShownOf helm.now world.old stocker.new.published) }
-    ensures readers { stocker.new.readers ≡ stocker.old.readers }
+    ensures shown { OnOk result (AreShownOf helm.now world.old stocker.new.stock.published) }
+    ensures readers { stocker.new.stock.readers ≡ stocker.old.stock.readers }
     // at the horizon each reader can be told of the last rack
     ensures tells { OnOk result (world.old.front ≡ world.old.net.horizon →
-        TellsEach stocker.new.readers stocker.new.has_published (length stocker.new.spares.items)) }
+        TellsEach stocker.new.stock.readers stocker.new.stock.has_published
+        (length stocker.new.stock.spares.items)) }
 {
     let last = world.front() == world.model().horizon();
     let many = world.model().len();
@@ -112,8 +126,7 @@ fn show<J: Naming, W: Wait + Drop>(
 
 // A turn of the helm, and its window.
 fn take_window<G: Gate, L: Ledger, R: Wait>(
-    rt: &R,
-    alloc: Global,
+    resources: &Resources<'_, G, R>,
     crew: &mut Crew<'_, Window, G>,
     desk: &Desk,
     helm: &mut Helm,
@@ -130,10 +143,10 @@ fn take_window<G: Gate, L: Ledger, R: Wait>(
     ensures steps { IfOk result (λ w. CountsOnce world w steps.old steps.new) }
     ensures at_most { IfErr result (λ e. CountsFew helm.new world steps.old steps.new e) }
 {
-    let Ok((world, bound)) = take_turn(rt, alloc, desk, helm, world) else {
+    let Ok((world, bound)) = take_turn(resources.rt, resources.alloc, desk, helm, world) else {
         return Err(StudyFault::NoMemory);
     };
-    match world.window(rt, alloc, crew, bound, steps) {
+    match world.window(resources.rt, resources.alloc, crew, bound, steps) {
         Ok(world) => Ok(world),
         Err(fault) => Err(fault_of_window(fault)),
     }
@@ -141,65 +154,62 @@ fn take_window<G: Gate, L: Ledger, R: Wait>(
 
 // A turn of the helm and its window, and then readers are shown its result.
 fn take_window_and_show<G: Gate, J: Naming, L: Ledger, W: Wait + Drop, R: Wait>(
-    rt: &R,
-    alloc: Global,
+    resources: &Resources<'_, G, R>,
     crew: &mut Crew<'_, Window, G>,
     desk: &Desk,
-    helm: &mut Helm,
+    engine: &mut Engine<Stocker<J, W>>,
     world: World,
-    stocker: &mut Stocker<J, W>,
-    watched: &[bool],
     steps: &mut Steps<L>,
 ) -> Result<World, StudyFault>
-    requires may_turn { MayTurn (desk_id desk.now) helm.old world }
-    requires shown { AreShownOf helm.old world stocker.old.published }
+    requires may_turn { MayTurn (desk_id desk.now) engine.old.helm world }
+    requires shown { AreShownOf engine.old.helm world engine.old.stocker.stock.published }
     // what is kept of the helm in any case
-    ensures steers { Steers helm.old helm.new }
+    ensures steers { Steers engine.old.helm engine.new.helm }
     // what it returns: a world at a later front, in step with the helm, whose racks readers are shown
-    ensures in_step { IfOk result (λ w. InStep helm.new w) }
+    ensures in_step { IfOk result (λ w. InStep engine.new.helm w) }
     ensures rises { IfOk result (λ w. world.front < w.front) }
-    ensures shown { IfOk result (λ w. AreShownOf helm.new w stocker.new.published) }
-    ensures readers { stocker.new.readers ≡ stocker.old.readers }
+    ensures shown { IfOk result (λ w. AreShownOf engine.new.helm w engine.new.stocker.stock.published) }
+    ensures readers { engine.new.stocker.stock.readers ≡ engine.old.stocker.stock.readers }
     ensures tells { IfOk result (λ w. w.front ≡ w.net.horizon →
-        TellsEach stocker.new.readers stocker.new.has_published (length stocker.new.spares.items)) }
+        TellsEach engine.new.stocker.stock.readers engine.new.stocker.stock.has_published
+        (length engine.new.stocker.stock.spares.items)) }
     // or why the engine stops, over the journal of the helm
-    ensures stops { IfErr result (λ e. StopsEngine helm.new.net helm.new.helm e) }
+    ensures stops { IfErr result (λ e. StopsEngine engine.new.helm.net engine.new.helm.helm e) }
     // what is counted
     ensures steps { IfOk result (λ w. CountsOnce world w steps.old steps.new) }
-    ensures at_most { IfErr result (λ e. CountsFew helm.new world steps.old steps.new e) }
+    ensures at_most { IfErr result (λ e. CountsFew engine.new.helm world steps.old steps.new e) }
 {
-    let mut world = take_window(rt, alloc, crew, desk, helm, world, steps)?;
-    match show(alloc, helm, &mut world, stocker, watched) {
+    let mut world = take_window(resources, crew, desk, &mut engine.helm, world, steps)?;
+    match show(
+        resources.alloc,
+        &engine.helm,
+        &mut world,
+        &mut engine.stocker,
+        engine.watched.as_slice(),
+    ) {
         Ok(()) => Ok(world),
         Err(NoMemory) => Err(StudyFault::NoMemory),
     }
 }
 
-/// The engine runs to the horizon, publishes on its way, and returns its helm in any case.
+/// The engine runs to the horizon, and publishes on its way.
 pub(crate) fn drive<G: Gate, J: Naming, L: Ledger, W: Wait + Drop, R: Wait>(
-    rt: &R,
-    alloc: Global,
+    resources: &Resources<'_, G, R>,
     crew: &mut Crew<'_, Window, G>,
     desk: &Desk,
-    mut helm: Helm,
+    engine: &mut Engine<Stocker<J, W>>,
     mut world: World,
-    stocker: &mut Stocker<J, W>,
-    watched: &[bool],
     steps: &mut Steps<L>,
-) -> (Helm, Result<World, StudyFault>)
-    requires may_drive { MayDrive (desk_id desk.now) helm world stocker.old.published }
-    ensures driven { HasDriven helm result.0 result.1 stocker.new.published
-        stocker.old.readers stocker.new.has_published (length stocker.new.spares.items) }
-    ensures steps { IfOk result.1 (λ w. CountsOnce world w steps.old steps.new) }
-    ensures at_most { IfErr result.1 (λ e. CountsFew result.0 world steps.old steps.new e) }
+) -> Result<World, StudyFault>
+    requires may_drive { MayDrive (desk_id desk.now) engine.old.helm world engine.old.stocker.stock.published }
+    ensures driven { HasDriven engine.old.helm engine.new.helm result engine.new.stocker.stock.published
+        engine.old.stocker.stock.readers engine.new.stocker.stock.has_published
+        (length engine.new.stocker.stock.spares.items) }
+    ensures steps { IfOk result (λ w. CountsOnce world w steps.old steps.new) }
+    ensures at_most { IfErr result (λ e. CountsFew engine.new.helm world steps.old steps.new e) }
 {
     'turns: while world.front() < world.model().horizon() {
-        world = match take_window_and_show(
-            rt, alloc, crew, desk, &mut helm, world, stocker, watched, steps,
-        ) {
-            Ok(world) => world,
-            Err(fault) => return (helm, Err(fault)),
-        };
+        world = take_window_and_show(resources, crew, desk, engine, world, steps)?;
     }
-    (helm, Ok(world))
+    Ok(world)
 }

@@ -1,5 +1,5 @@
 //! The live study of a model and a script: an interactive simulation, with one journal of what its users decided.
-ghost use Rattle.std.specs.Prelude.{◌≡◌, ◌+◌, ◌≤◌, length, map, IfOk, IfErr, OnErr};
+ghost use Rattle.std.specs.Prelude.{◌≡◌, ◌+◌, ◌<◌, ◌≤◌, length, map, IfOk, IfErr, OnErr};
 ghost use Rattle.std.specs.List.{AllByRecursion};
 ghost use Rattle.net_model.specs.declared.limits.TheConstants.{MAX_STATIONS};
 ghost use Rattle.decision_desk.specs.Desks.{desk_id};
@@ -12,11 +12,14 @@ ghost use Rattle.live_study.specs.Scripts.{each_acts};
 
 use crate::analyst::Analyst;
 use crate::begin::{analysts_of, opening_racks, watched_in};
+use crate::engine::Engine;
 use crate::live::run_live;
 use crate::prepared::Prepared;
+use crate::ready::Ready;
 use crate::reserve::Reserve;
+use crate::resources::Resources;
 use crate::run::LiveRun;
-use crate::work::count_run;
+use crate::work::tick_often;
 use crew_pool::{Gate, Workers};
 use decision_desk::{Desk, Helm, Pass};
 use decision_script::Script;
@@ -26,7 +29,7 @@ use shelf::{Naming, NewHistory, Seat, Stocker, begin};
 use sim_base::{NoMemory, Steps};
 use std::alloc::Global;
 use std::marker::Brand;
-use std::sync::ledger::Ledger;
+use std::sync::ledger::{Blank, Ledger};
 use std::sync::{Arc, Wait};
 use std::thread::Threads;
 use world_core::World;
@@ -77,6 +80,7 @@ fn prepare(alloc: Global, model: &Arc<Model>, script: &Script) -> Result<Prepare
         world,
         racks,
         watched,
+        opened: NewHistory::new(),
         desk,
         helm,
         passes,
@@ -98,8 +102,8 @@ fn take_seats<J: Naming, W: Wait + Drop>(
     requires at_most { length racks.items ≤ MAX_STATIONS }
     requires many { length passes.items ≡ length script.now.analysts }
     // what it returns: a stocker that has published these racks
-    ensures published { IfOk result (λ r. r.0.published ≡ racks.items) }
-    ensures readers { IfOk result (λ r. r.0.readers ≡ length script.now.analysts) }
+    ensures published { IfOk result (λ r. r.0.stock.published ≡ racks.items) }
+    ensures readers { IfOk result (λ r. r.0.stock.readers ≡ length script.now.analysts) }
     // and an analyst for each pass, with its number and its acts, who has looked at nothing yet
     ensures passes { IfOk result (λ r. map (λ a. a.0.pass) r.1.items ≡ passes.items) }
     ensures numbers { IfOk result (λ r. map (λ a. a.0.number) r.1.items ≡ numbers_to (length passes.items)) }
@@ -112,31 +116,38 @@ fn take_seats<J: Naming, W: Wait + Drop>(
     Ok((stocker, seated))
 }
 
-// The study, over a history of racks that is named here.
+// The study, over a history of racks and a counter of the engine that are named here. When all threads are joined, the
+// caller's counter is ticked as often as the engine's was.
 fn run_prepared<
     G: Gate + Sync,
     J: Naming + Send + Sync,
+    E: Ledger + Send,
+    L: Ledger,
     W: Wait + Drop + Send,
     R: Threads + Wait + Sync,
 >(
-    rt: &R,
+    resources: &Resources<'_, G, R>,
     waits: W,
-    alloc: Global,
-    workers: Workers,
-    gate: &G,
     model: &Model,
     script: &Script,
     prepared: Prepared,
-    opened: NewHistory,
+    blank: Blank,
+    steps: &mut Steps<L>,
 ) -> Result<LiveRun, NoMemory>
-    requires name { (opened.seen.book ≡ J.book) × (opened.pen.nib.key ≡ J.start) }
+    requires name { (prepared.opened.seen.book ≡ J.book) × (prepared.opened.pen.nib.key ≡ J.start) }
+    requires counter { (blank.name ≡ E.name) × (blank.parts ≡ E.parts) × (0 < E.parts) }
     requires prepared { IsPrepared model.now (length script.now.analysts) prepared }
     ensures live_run { IfOk result (λ r. IsLiveRun model.now script.now r) }
+    ensures steps { IfOk result (λ r. IfOk r.run (λ w.
+        steps.new ≡ steps.old + total_handled w.net w.clones w.front)) }
+    ensures idle { IfOk result (λ r. IfErr r.run (λ e. steps.new ≡ steps.old)) }
+    ensures unchanged { OnErr result (steps.new ≡ steps.old) }
 {
     let Prepared {
         world,
         racks,
         watched,
+        opened,
         desk,
         helm,
         passes,
@@ -144,21 +155,29 @@ fn run_prepared<
     } = prepared;
     let _stations = model.len();
     let _valid = script.analysts();
-    let (stocker, seated) = take_seats::<J, W>(waits, alloc, script, opened, racks, passes)?;
-    Ok(run_live(
-        rt,
-        alloc,
-        workers,
-        gate,
-        model,
-        desk,
+    let (stocker, seated) = take_seats::<J, W>(
+        waits,
+        resources.alloc,
+        script,
+        opened,
+        racks,
+        passes,
+    )?;
+    let engine = Engine {
         helm,
-        world,
         stocker,
-        watched.as_slice(),
+        watched,
+    };
+    let ready = Ready {
+        desk,
+        engine,
+        world,
         seated,
         reserve,
-    ))
+    };
+    let (live, count) = run_live::<G, J, E, W, R>(resources, model, ready, blank);
+    tick_often(steps, count.many);
+    Ok(live)
 }
 
 /// Runs a live study: each analyst of the script decides and looks in its own thread while the engine runs. If memory
@@ -182,10 +201,19 @@ pub fn live_study<G: Gate + Sync, L: Ledger, R: Threads + Wait + Sync>(
     ensures unchanged { OnErr result (steps.new ≡ steps.old) }
 {
     let prepared = prepare(alloc, model, script)?;
-    let opened = NewHistory::new();
-    let live = run_prepared::<G, Brand, &R, R>(
-        rt, rt, alloc, workers, gate, model, script, prepared, opened,
-    )?;
-    count_run(&live.run, steps);
-    Ok(live)
+    let resources = Resources {
+        rt,
+        alloc,
+        workers,
+        gate,
+    };
+    run_prepared::<G, Brand, Brand, L, &R, R>(
+        &resources,
+        rt,
+        model,
+        script,
+        prepared,
+        Blank::new(1),
+        steps,
+    )
 }

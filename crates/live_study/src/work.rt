@@ -1,5 +1,6 @@
-//! The work of a run that is over: a step for each event that was executed once for all clones that share it.
-ghost use Rattle.std.specs.Prelude.{◌≡◌, ◌+◌, IfOk, IfErr};
+//! The steps of the engine: what its own counter counted, and how the caller's counter takes that over.
+ghost use Rattle.std.specs.Prelude.{◌≡◌, ◌+◌, IfErr, IfOk};
+ghost use Rattle.live_study.specs.Driving.{HasCounted};
 ghost use Rattle.world_core.specs.Worlds.{total_handled};
 
 use sim_base::Steps;
@@ -7,8 +8,17 @@ use std::sync::ledger::Ledger;
 use study_run::StudyFault;
 use world_core::World;
 
-// `many` steps.
-fn tick_often<L: Ledger>(steps: &mut Steps<L>, many: u64)
+/// A counter of steps, and the number that it counted. The counter takes no bytes, so only a clause links the two.
+#[derive(Drop)]
+pub(crate) struct Count<L: Ledger> {
+    /// The counter.
+    pub(crate) steps: Steps<L>,
+    /// What it counted, or 0 if the run was stopped.
+    pub(crate) many: u64,
+}
+
+/// `many` steps.
+pub(crate) fn tick_often<L: Ledger>(steps: &mut Steps<L>, many: u64)
     ensures value { steps.new ≡ steps.old + many }
 {
     for _i in 0..many {
@@ -16,22 +26,32 @@ fn tick_often<L: Ledger>(steps: &mut Steps<L>, many: u64)
     }
 }
 
-// A step for each message that a station of the world has handled, once for all clones that share it.
-fn count_handled<L: Ledger>(world: &World, steps: &mut Steps<L>)
-    ensures value { steps.new ≡ steps.old + total_handled world.now.net world.now.clones world.now.front }
+// The messages that the stations of a world at the horizon have handled, each once for all clones that share it.
+fn handled_in(world: &World) -> u64
+    requires finished { world.now.front ≡ world.now.net.horizon }
+    ensures value { result ≡ total_handled world.now.net world.now.clones world.now.front }
 {
+    let _few = world.lists();
+    let _valid = world.model().lookahead();
     let many = world.model().len();
+    let mut total = 0u64;
     for s in 0..many {
-        tick_often(steps, world.figures(s + 1).handled);
+        total += world.figures(s + 1).handled;
     }
+    total
 }
 
-/// A step for each message that a finished run has handled, and none for one that was stopped.
-pub(crate) fn count_run<L: Ledger>(run: &Result<World, StudyFault>, steps: &mut Steps<L>)
-    ensures value { IfOk run.now (λ w. steps.new ≡ steps.old + total_handled w.net w.clones w.front) }
-    ensures none { IfErr run.now (λ e. steps.new ≡ steps.old) }
+/// The count of an engine that began at 0, when nothing was handled.
+pub(crate) fn count_of<L: Ledger>(run: &Result<World, StudyFault>, steps: Steps<L>) -> Count<L>
+    requires finished { IfOk run.now (λ w. w.front ≡ w.net.horizon) }
+    requires handled { IfOk run.now (λ w. steps ≡ total_handled w.net w.clones w.front) }
+    ensures counted { HasCounted run.now result.steps result.many }
 {
-    if let Ok(world) = run {
-        count_handled(world, steps);
+    match run {
+        Ok(world) => Count {
+            many: handled_in(world),
+            steps,
+        },
+        Err(_) => Count { steps, many: 0 },
     }
 }

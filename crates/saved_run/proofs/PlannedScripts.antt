@@ -1,6 +1,6 @@
 -- A book may have the clones of a script, so what is saved of them is resumed.
-use Rattle.std.proofs.Common.{◌≡◌, ℕ, ◌+◌, ◌<◌, ◌≤◌, ◌∙◌, sym, ap, subst, refl, arith, List, [], ◌∷◌, length, Bool}
-use Rattle.std.proofs.Common.{true, false, nat_le, Option, Some, None, Result, Ok, Err, option_map, unwrap_or, position}
+use Rattle.std.proofs.Common.{◌≡◌, ℕ, ◌+◌, ◌<◌, ◌≤◌, sym, ap, subst, refl, arith, List, [], ◌∷◌, length, Bool}
+use Rattle.std.proofs.Common.{nat_le, Option, Some, None, Result, Ok, Err, option_map, unwrap_or, position}
 use Rattle.std.specs.Prelude.{is_none, is_some}
 use Rattle.std.specs.Str.{bytes_eq}
 use Rattle.std.proofs.lemmas.Bool.{leb-false}
@@ -12,15 +12,13 @@ use Rattle.sim_base.specs.declared.limits.TheConstants.{MAX_FILE_BYTES}
 use Rattle.sim_base.specs.declared.lists.TheConstants.{MAX_CLONES, MAX_DECISIONS}
 use Rattle.sim_base.specs.declared.message.Change.{Change}
 use Rattle.net_model.specs.Net.{Net, no_site, site_of, station_named}
-use Rattle.net_model.specs.Rules.{IsNet}
 use Rattle.stations.specs.Changes.{accepts}
 use Rattle.stations.specs.declared.change.ChangeFault.{ChangeFault}
 use Rattle.stations.specs.declared.change.ChangeFault.TheVariants as change_fault
 use Rattle.decision_script.specs.Alone.{decisions}
-use Rattle.decision_script.specs.Stating.{ScriptView}
 use Rattle.decision_book.specs.Journal.{Situation, clone_place, clones_after, if_accepted, outset, plan_of_set}
 use Rattle.decision_book.specs.Plans.{ArePlanned, IsPlan}
-use Rattle.decision_book.specs.Replies.{change_row, fault_row, first_row, reply, row, rows, time_rows}
+use Rattle.decision_book.specs.Replies.{change_row, fault_row, first_row, reply, row, time_rows}
 use Rattle.decision_book.specs.Scripts.{after_all, after_decision}
 use Rattle.decision_book.specs.declared.call.Reply.{Reply}
 use Rattle.decision_book.specs.declared.call.Reply.TheVariants.{Accepted, ListFull, NameTaken, TooManyClones}

@@ -3,3 +3,4 @@ pub mod Writing
 pub mod Saving
 pub mod Laws
 pub mod ScriptLaws
+pub mod Examples

@@ -19,6 +19,7 @@
 //!   limit that is met only later does not matter.
 #![tactic(auto)]
 
+pub mod examples;
 pub mod laws;
 pub mod saving;
 

@@ -10,14 +10,14 @@ use Rattle.engine_tests.proofs.shelf_looks.publish_two.Goals as goal
 pub publish-requires-clause-has_rack : goal.publish-requires-clause-has_rack
 publish-requires-clause-has_rack g c =
     let w = c.args.world.now in
-    let racks = c.args.stocker.now.published in
+    let racks = c.args.stocker.now.stock.published in
     subst (λ s. HasRack s racks) (sym c.in_ok-gate.ensures.gate.station)
     (first_has w.net c.args.opened_at racks c.requires.two)
 
 pub publish-requires-clause-may : goal.publish-requires-clause-may
 publish-requires-clause-may g c =
     let w = c.args.world.now in
-    let racks = c.args.stocker.now.published in
+    let racks = c.args.stocker.now.stock.published in
     let front = c.front.ensures.value in
     let later : c.args.opened_at < w.front = omega (arith, front) in
     let within : w.front ≤ w.net.horizon = let h = c.front.ensures.within in omega (arith, front, h) in
@@ -29,7 +29,7 @@ publish-requires-clause-may g c =
 pub publish-requires-2-clause-has_rack : goal.publish-requires-2-clause-has_rack
 publish-requires-2-clause-has_rack g c =
     let w = c.args.world.now in
-    let racks = c.args.stocker.now.published in
+    let racks = c.args.stocker.now.stock.published in
     let gate = c.in_ok-gate.gate in
     let desk = c.in_ok-gate.desk in
     subst (λ (l : List RackView). HasRack desk.station l) (sym c.in_ok-publish.ensures.published)
@@ -39,7 +39,7 @@ publish-requires-2-clause-has_rack g c =
 pub publish-requires-2-clause-may : goal.publish-requires-2-clause-may
 publish-requires-2-clause-may g c =
     let w = c.args.world.now in
-    let racks = c.args.stocker.now.published in
+    let racks = c.args.stocker.now.stock.published in
     let gate = c.in_ok-gate.gate in
     let desk = c.in_ok-gate.desk in
     let is = c.in_ok-gate.ensures in

@@ -10,7 +10,7 @@ use Rattle.engine_tests.proofs.shelf_tests.publish_window.Goals as goal
 pub returns-clause-seen : goal.returns-clause-seen
 returns-clause-seen g c =
     let w = c.in-Some.world in
-    let racks : List RackView = c.args.stocker.now.published in
+    let racks : List RackView = c.args.stocker.now.stock.published in
     let r : RackView = c.in-Some.rack in
     let after : List RackView = racks ++ r ∷ [] in
     let later = c.in-Some.ensures.later in
@@ -24,8 +24,8 @@ returns-clause-seen g c =
 pub returns-clause-has_rack : goal.returns-clause-has_rack
 returns-clause-has_rack g c =
     subst (λ (l : List RackView). HasRack 1 l) (sym c.in_ok-publish.ensures.published)
-    (HasRack-push 1 c.args.stocker.now.published c.in-Some.rack c.requires.has_rack)
+    (HasRack-push 1 c.args.stocker.now.stock.published c.in-Some.rack c.requires.has_rack)
 
 pub publish-requires-clause-has_rack : goal.publish-requires-clause-has_rack
 publish-requires-clause-has_rack g c =
-    subst (λ s. HasRack s c.args.stocker.now.published) (sym c.in-Some.ensures.gate) c.requires.has_rack
+    subst (λ s. HasRack s c.args.stocker.now.stock.published) (sym c.in-Some.ensures.gate) c.requires.has_rack

@@ -6,13 +6,14 @@ use Rattle.live_study.proofs.engine.drive.Given as goal
 
 abbrev pub invariant-turns : goal.invariant-turns
 invariant-turns g l = record {
-  steers : Steers l.initial.helm l.helm;
-  in_step : InStep l.helm l.world;
+  steers : Steers l.fn.engine.helm l.engine.helm;
+  in_step : InStep l.engine.helm l.world;
   counted : CountsOnce l.fn.world l.world l.fn.steps l.steps;
-  shown : AreShownOf l.helm l.world l.stocker.published;
-  readers : l.stocker.readers ≡ l.fn.stocker.readers;
+  shown : AreShownOf l.engine.helm l.world l.engine.stocker.stock.published;
+  readers : l.engine.stocker.stock.readers ≡ l.fn.engine.stocker.stock.readers;
   tells : l.world.front ≡ l.world.net.horizon
-      → TellsEach l.stocker.readers l.stocker.has_published (length l.stocker.spares.items);
+      → TellsEach l.engine.stocker.stock.readers l.engine.stocker.stock.has_published
+      (length l.engine.stocker.stock.spares.items);
 }
 
 abbrev pub decreases-turns : goal.decreases-turns

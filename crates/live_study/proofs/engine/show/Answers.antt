@@ -20,7 +20,7 @@ loop-s-init g c = record {
 pub show_one-requires-clause-may_show : goal.show_one-requires-clause-may_show
 show_one-requires-clause-may_show g c =
     let helm = c.args.helm.now in
-    let racks = c.loop-s.stocker.published in
+    let racks = c.loop-s.stocker.stock.published in
     let s = c.loop-s.s in
     let may = c.requires.may_show in
     let back : s ≡ s + 1 - 1 = omega arith in
@@ -40,20 +40,21 @@ loop-s-preserved g c =
       | then-last+in_ok-show_one w ↦ record {
         within = within;
         same = w.world-is ∙ w.show_one.ensures.same ∙ i.same;
-        shown = of_same _ _ w.stocker-is (λ t. AreShownTo helm world (s + 1) t.published)
-            (of_same _ _ (sym i.same) (λ v. AreShownTo helm v (s + 1) w.show_one.new.stocker.published)
+        shown = of_same _ _ w.stocker-is (λ t. AreShownTo helm world (s + 1) t.stock.published)
+            (of_same _ _ (sym i.same) (λ v. AreShownTo helm v (s + 1) w.show_one.new.stocker.stock.published)
             w.in_ok-show_one.ensures.shown);
-        readers = of_same _ _ w.stocker-is (λ t. t.readers ≡ c.args.stocker.now.readers)
+        readers = of_same _ _ w.stocker-is (λ t. t.stock.readers ≡ c.args.stocker.now.stock.readers)
             (w.show_one.ensures.readers ∙ i.readers);
         tells = λ last low.
-            of_same _ _ w.stocker-is (λ t. TellsEach t.readers t.has_published (length t.spares.items))
+            of_same _ _ w.stocker-is
+            (λ t. TellsEach t.stock.readers t.stock.has_published (length t.stock.spares.items))
             w.in_ok-show_one.ensures.tells;
       }
       | else-last+else-is_watched w ↦ record {
         within = within;
         same = w.world-is ∙ i.same;
-        shown = of_same _ _ w.stocker-is (λ t. AreShownTo helm world (s + 1) t.published)
-            (round_skips helm world s c.loop-s.stocker.published i.shown
+        shown = of_same _ _ w.stocker-is (λ t. AreShownTo helm world (s + 1) t.stock.published)
+            (round_skips helm world s c.loop-s.stocker.stock.published i.shown
             (λ last. absurd (grind (
               arith,
               nat_tests,
@@ -63,7 +64,7 @@ loop-s-preserved g c =
               c.horizon.ensures.value,
               ap (λ (n : Net). n.horizon) c.model.ensures.value,
             ))));
-        readers = of_same _ _ w.stocker-is (λ t. t.readers ≡ c.args.stocker.now.readers) i.readers;
+        readers = of_same _ _ w.stocker-is (λ t. t.stock.readers ≡ c.args.stocker.now.stock.readers) i.readers;
         tells = λ last low. absurd (grind (arith, nat_tests, last, w.if-last.false));
       }
     ]
@@ -75,7 +76,7 @@ returns-clause-shown g c =
     let many = ap (λ (n : Net). length n.sites) c.model-2.ensures.value in
     let all : c.loop-s.s ≡ length world.net.sites =
     omega (arith, i.within, c.loop-s-test.false, c.len-many.ensures.value, many) in
-    subst (λ n. AreShownUpTo c.args.helm.now world n c.loop-s.stocker.published) all i.shown.up_to
+    subst (λ n. AreShownUpTo c.args.helm.now world n c.loop-s.stocker.stock.published) all i.shown.up_to
 
 pub returns-clause-tells : goal.returns-clause-tells
 returns-clause-tells g c at =

@@ -21,12 +21,13 @@ publish-requires-clause-may g c =
 pub returns-clause-shown : goal.returns-clause-shown
 returns-clause-shown g c =
     let may = c.requires.may_show in
-    shows_if c.args.helm.now c.args.world.now c.args.station c.in_ok-rack.rack c.args.stocker.now.published
-    c.publish.new.self.published c.publish.result c.requires.is_station.low may.shown may.at may.net
+    shows_if c.args.helm.now c.args.world.now c.args.station c.in_ok-rack.rack c.args.stocker.now.stock.published
+    c.publish.new.self.stock.published c.publish.result c.requires.is_station.low may.shown may.at may.net
     c.in_ok-rack.ensures.net c.in_ok-rack.ensures.clones c.in_ok-rack.ensures.station c.in_ok-rack.ensures.front
     c.publish.ensures.published
 
 pub returns-clause-tells : goal.returns-clause-tells
 returns-clause-tells g c =
-    tells_if c.publish.result c.publish.new.self.has_published c.args.stocker.now.readers c.publish.new.self.readers
-    (length c.publish.new.self.spares.items) c.publish.ensures.readers c.publish.ensures.tells c.publish.ensures.spares
+    tells_if c.publish.result c.publish.new.self.stock.has_published c.args.stocker.now.stock.readers
+    c.publish.new.self.stock.readers (length c.publish.new.self.stock.spares.items) c.publish.ensures.readers
+    c.publish.ensures.tells c.publish.ensures.spares

@@ -4,7 +4,7 @@ use Rattle.live_study.proofs.engine.take_window_and_show.Goals as goal
 
 pub show-requires : goal.show-requires
 show-requires g c =
-    let old = c.args.helm.now in
+    let old = c.args.engine.now.helm in
     let new = c.take_window.new.helm in
     let w = c.in_ok-world.world in
     let e = c.in_ok-world.ensures in
@@ -13,7 +13,7 @@ show-requires g c =
       may_show = record {
         net = e.in_step.net;
         at = at_raised old new w e.raises e.in_step;
-        shown = round_begins old new c.args.world w c.args.stocker.now.published c.requires.shown net e.raises
-            (e.in_step.net ∙ net ∙ sym c.requires.may_turn.in_step.net) e.rises;
+        shown = round_begins old new c.args.world w c.args.engine.now.stocker.stock.published c.requires.shown net
+            e.raises (e.in_step.net ∙ net ∙ sym c.requires.may_turn.in_step.net) e.rises;
       };
     }

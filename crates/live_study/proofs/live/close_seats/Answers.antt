@@ -83,7 +83,7 @@ pub loop-one-preserved : goal.loop-one-preserved
 loop-one-preserved g c =
     let one = c.in-Some.one in
     let done = c.loop-one.yielded in
-    let first = c.args.stocker.now.published in
+    let first = c.args.stock.now.published in
     let i = c.loop-one.invariant in
     record {
       passes = with_image (λ (a : SeatedAnalyst). a.0.pass) c.args.reserve.passes.items c.loop-one.passes.items
@@ -95,19 +95,19 @@ loop-one-preserved g c =
       for_looks = stays (vec_capacity c.push_reserved-in-loop-one.new.self) (vec_capacity c.loop-one.looks)
           (vec_capacity c.args.reserve.looks) c.push_reserved-in-loop-one.ensures.capacity i.for_looks;
       published = elim c.if-finished.branch [
-        | then-finished w ↦ of_same _ _ w.stocker-is (λ t. t.published ≡ first)
+        | then-finished w ↦ of_same _ _ w.stock-is (λ t. t.published ≡ first)
             (w.learn_last.ensures.published ∙ i.published)
-        | else-finished w ↦ of_same _ _ w.stocker-is (λ t. t.published ≡ first) i.published
+        | else-finished w ↦ of_same _ _ w.stock-is (λ t. t.published ≡ first) i.published
       ];
       tells = elim c.if-finished.branch [
-        | then-finished w ↦ λ yes. of_same _ _ w.stocker-is (λ t. t.has_published ≡ true) w.learn_last.ensures.tells
+        | then-finished w ↦ λ yes. of_same _ _ w.stock-is (λ t. t.has_published ≡ true) w.learn_last.ensures.tells
         | else-finished w ↦ λ yes. absurd (true≢false (sym yes ∙ w.if-finished.false))
       ];
       left = elim c.if-finished.branch [
         | then-finished w ↦ λ yes.
             let before = i.left yes in
             let fewer = w.learn_last.ensures.left in
-            of_same _ _ w.stocker-is
+            of_same _ _ w.stock-is
             (λ t. length t.spares.items + length (done ++ one ∷ []) ≡ length c.args.seated.items)
             (omega (arith, before, fewer, length-append done (one ∷ [])))
         | else-finished w ↦ λ yes. absurd (true≢false (sym yes ∙ w.if-finished.false))

@@ -10,8 +10,8 @@ invariant-loop-one g l = record {
   looks : l.looks.items ≡ l.fn.reserve.looks.items ++ map (λ (a : SeatedAnalyst). a.0.looks) l.yielded;
   for_passes : vec_capacity l.passes ≡ vec_capacity l.fn.reserve.passes;
   for_looks : vec_capacity l.looks ≡ vec_capacity l.fn.reserve.looks;
-  published : l.stocker.published ≡ l.fn.stocker.published;
-  tells : l.finished ≡ true → l.stocker.has_published ≡ true;
-  left : l.finished ≡ true → length l.stocker.spares.items + length l.yielded ≡ length l.fn.seated.items;
-  history : l.finished ≡ true → AllReadOneHistory l.fn.stocker.published l.yielded;
+  published : l.stock.published ≡ l.fn.stock.published;
+  tells : l.finished ≡ true → l.stock.has_published ≡ true;
+  left : l.finished ≡ true → length l.stock.spares.items + length l.yielded ≡ length l.fn.seated.items;
+  history : l.finished ≡ true → AllReadOneHistory l.fn.stock.published l.yielded;
 }
