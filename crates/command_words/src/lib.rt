@@ -11,7 +11,7 @@
 //! cloner stats MODEL SCRIPT [--workers N]            all clones of a script: the statistics of their servers
 //! cloner save MODEL SCRIPT --clone NAME --until T    one clone alone until a time: its snapshot
 //! cloner resume MODEL SNAPSHOT                       the rest of a clone's run, from its snapshot
-//! cloner links MODEL SCRIPT [--workers N]            all clones of a script, in rounds with a clock for each link
+//! cloner links MODEL SCRIPT [--workers N]            all clones of a script, in rounds with a clock for each station
 //! ```
 //!
 //! `read_words` returns a `Request`: what to do (`Assignment`), and the number of workers. An assignment has no

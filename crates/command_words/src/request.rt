@@ -22,7 +22,7 @@ pub enum Mode {
     Report,
     /// All of them: the statistics of their servers.
     Stats,
-    /// All of them, in rounds with a clock for each link: their traces, the report, and the number of rounds.
+    /// All of them, in rounds with a clock for each station: their traces, the report, and the number of rounds.
     Links,
     /// The named clone alone: its trace.
     Solo(Name),

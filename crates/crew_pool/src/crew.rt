@@ -61,7 +61,7 @@ impl<'g, W: Work + Send + Drop, G: Gate> Crew<'g, W, G> {
     ///
     /// # Errors
     ///
-    /// [`NoMemory`], if the bell cannot be shared, or the crew is spent.
+    /// [`NoMemory`], if the bell cannot be shared, or there is none: the crew is spent, or was made by `single`.
     pub fn bell(&self) -> Result<Arc<Bell>, NoMemory> {
         match &self.idle {
             Some(idle) => idle.bell(),
@@ -88,7 +88,7 @@ impl<'g, W: Work + Send + Drop, G: Gate> Crew<'g, W, G> {
     /// # Errors
     ///
     /// [`NoMemory`]: the items are lost, the crew is spent, and nothing is said about the steps. Members may still run
-    /// the task that they have begun; they end with the bell.
+    /// tasks of this call: those that they have begun, and others that they steal. They end with the bell.
     pub fn all<L: Ledger, R: Wait>(
         &mut self,
         rt: &R,
@@ -117,7 +117,7 @@ impl<'g, W: Work + Send + Drop, G: Gate> Crew<'g, W, G> {
     ///
     /// # Errors
     ///
-    /// [`NoMemory`]: items and crew are lost.
+    /// [`NoMemory`]: items and crew are lost. Members that were given a job may still run tasks of this call.
     pub fn start(
         self,
         alloc: Global,

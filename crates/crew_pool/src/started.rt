@@ -62,8 +62,8 @@ impl<'g, W: Work + Send + Drop, G: Gate> Started<'g, W, G> {
     ///
     /// # Errors
     ///
-    /// [`NoMemory`]: the crew is lost, and nothing is said about the steps. Members may still run the task that they
-    /// have begun; they end with the bell.
+    /// [`NoMemory`]: the crew is lost, and nothing is said about the steps. Members may still run tasks of this call:
+    /// those that they have begun, and others that they steal. They end with the bell.
     pub fn finish<L: Ledger, R: Wait>(
         self,
         rt: &R,

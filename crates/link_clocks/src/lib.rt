@@ -31,8 +31,8 @@
 //! The promise: **after each round the copies of every station represent the clones at the station's own clock**. Each
 //! clone is in one copy, whose log and state are those of the clone's own run there. Two clones share a copy exactly if
 //! their logs are equal. This is the invariant of [`LinkWorld`], in place and by a crew. The steps of a round count
-//! exactly the messages that all clones together handle in it, shared ones once. The contract of
-//! [`LinkWorld::round_in_place`], which cannot wait, promises that it returns.
+//! exactly the messages that all clones together handle in it, shared ones once. [`LinkWorld::round_in_place`] waits
+//! only if its gate does.
 #![tactic(auto)]
 
 mod clocks;

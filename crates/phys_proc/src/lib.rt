@@ -18,7 +18,7 @@
 //!
 //! ```text
 //! let gain = proc.advance(alloc, &model, &ends, bound, &mut sent, &mut steps)?;
-//! for i in 0..sent.len() { let (msg, set) = sent.at(i); /* the receiver's */ proc.deliver(msg, set)?; }
+//! for i in 0..sent.len() { let (one, set) = sent.at(i); /* the receiver's */ proc.deliver(one.msg(), set)?; }
 //! ```
 //!
 //! Cost: a station with nothing due costs one comparison. A copy is stepped in place, and a message costs the same as

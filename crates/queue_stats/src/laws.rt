@@ -1,6 +1,7 @@
 //! The laws of queues in runs: each function's contract is a law, and there is nothing to run.
 //!
-//! `specs/Laws.antt` and `specs/Orders.antt` state them. Library calls, not used by `cloner`.
+//! `specs/Laws.antt` and `specs/Orders.antt` state them. `cloner` calls none of these functions, but the clauses of
+//! `stats_of` rest on what they state.
 ghost use Rattle.net_model.specs.Net.{Net};
 ghost use Rattle.net_model.specs.Rules.{IsNet};
 ghost use Rattle.queue_stats.specs.Laws.{LogsAreQueues, RunsKeepLindley, RunsKeepLittle};

@@ -162,7 +162,7 @@ where
     ShownVersion<J>: Absorb<NextVersion<J>, State = ()>,
 {
     /// Makes this the last rack of its station. Out of memory, readers are shown what they were shown before. If the
-    /// rack was in the history by then, each later publish is out of memory too.
+    /// rack was in the history by then, each later publish is out of memory too. So is one after `MAX_RACKS` racks.
     pub fn publish(&mut self, alloc: Global, rack: Rack) -> Result<(), NoMemory>
         requires has_rack { HasRack rack.station self.old.stock.published }
         requires may { MayBePublished self.old.stock.published rack }

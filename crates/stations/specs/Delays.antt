@@ -1,4 +1,4 @@
--- Delays: each job is held for a time, independently of the others.
+-- Delays: each job is held for a time, independently of the others. This is the definition of a delay, step by step.
 use Rattle.std.specs.Prelude.{ℕ, ◌+◌, if◌then◌else◌}
 use Rattle.sim_base.specs.declared.message.Job.{Job as JobOf}
 use Rattle.sim_base.specs.declared.message.Change.{Change}

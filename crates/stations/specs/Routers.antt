@@ -1,4 +1,5 @@
--- Routers: each job moves on at once, over a link that the router chooses.
+-- Routers: each job moves on at once, over a link that the router chooses. This is the definition of a router, step by
+-- step.
 use Rattle.std.specs.Prelude.{ℕ, ◌+◌, ◌-◌, ◌%◌, if◌then◌else◌, length, slice_get, slice_set}
 use Rattle.sim_base.specs.declared.message.Job.{Job as JobOf}
 use Rattle.sim_base.specs.declared.message.Change.{Change}

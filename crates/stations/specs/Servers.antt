@@ -1,4 +1,5 @@
--- Servers: jobs in service, and waiting jobs.
+-- Servers: jobs in service, and waiting jobs. This is the definition of a server, step by step. `queue_stats` proves
+-- from it that a server's log is the history of a queue.
 use Rattle.std.specs.Prelude.{ℕ, zero, suc, ◌+◌, ◌-◌, ◌==◌, nat_lt, min, if◌then◌else◌, List}
 use Rattle.std.specs.Prelude.{[], ◌∷◌, ◌++◌, length, remove, slice_get, Option, Some, None}
 use Rattle.std.specs.List.{position_or_len}

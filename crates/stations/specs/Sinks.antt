@@ -1,4 +1,4 @@
--- Sinks: where jobs leave the network.
+-- Sinks: where jobs leave the network. This is the definition of a sink, step by step.
 use Rattle.std.specs.Prelude.{ℕ, ◌+◌, ◌-◌}
 use Rattle.sim_base.specs.declared.message.Payload.{Payload}
 use Rattle.sim_base.specs.declared.message.Payload.TheVariants.{Job}

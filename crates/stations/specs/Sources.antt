@@ -1,4 +1,4 @@
--- Sources: where jobs come from.
+-- Sources: where jobs come from. This is the definition of a source, step by step.
 use Rattle.std.specs.Prelude.{ℕ, ◌+◌, nat_lt, if◌then◌else◌}
 use Rattle.sim_base.specs.declared.message.Job.{Job as JobOf}
 use Rattle.sim_base.specs.declared.message.Change.{Change}

@@ -29,7 +29,7 @@
 //! The promises: at every front, a world that follows these passes holds exactly the branches that follow from the logs
 //! before the front. At the horizon these are the branches of the whole run, each forked and changed in time.
 //!
-//! Library laws, not used by `cloner`.
+//! `cloner` rests on these laws: `watch_points` makes the branches of `watch` by such passes.
 #![tactic(auto)]
 
 pub mod examples;
