@@ -7,10 +7,10 @@
 //! sim_base_lists, sim_base_messages, sim_base_pending    sim_base
 //! packed_limits                                          msg_heap and log_chain
 //! clone_sets_tests         log_chain_tests          sim_outer_tests
-//! copy_pending_tests       log_merge_tests          solo_run_tests
-//! decision_book_tests      msg_heap_tests           stations_tests
-//! decision_script_tests    msg_route_tests          study_generator_tests
-//! journal_text_tests       net_model_tests          trace_report_tests
+//! copy_pending_tests       msg_heap_tests           solo_run_tests
+//! decision_book_tests      msg_route_tests          stations_tests
+//! decision_script_tests    net_model_tests          study_generator_tests
+//! journal_text_tests       trace_report_tests       trace_writer_tests
 //! phys_proc_tests          phys_proc: the lists of sent messages
 //! ```
 //!
@@ -40,8 +40,6 @@ mod lines;
 #[cfg(test)]
 mod log_chain_tests;
 #[cfg(test)]
-mod log_merge_tests;
-#[cfg(test)]
 mod msg_heap_tests;
 #[cfg(test)]
 mod msg_route_tests;
@@ -67,3 +65,5 @@ mod stations_tests;
 mod study_generator_tests;
 #[cfg(test)]
 mod trace_report_tests;
+#[cfg(test)]
+mod trace_writer_tests;

@@ -27,8 +27,8 @@ use Rattle.solo_run.specs.EventLists.{IsForStation}
 use Rattle.solo_run.specs.Limit.{receiver}
 use Rattle.solo_run.specs.SoloView.{Entries}
 use Rattle.checkpoint.specs.Accepted.{first_unfit}
-use Rattle.resume_laws.specs.RunKeeps.{completions_to}
-use Rattle.resume_laws.specs.Tally.{tally}
+use Rattle.checkpoint.specs.RunKeeps.{completions_to}
+use Rattle.checkpoint.specs.Tally.{tally}
 use Rattle.checkpoint.specs.Due.{first_bad, may_be_due, comes_after, is_less}
 use Rattle.checkpoint.specs.Laws.{AcceptedMayGoOn}
 use Rattle.checkpoint.proofs.FittingStations.{first_unfit-cons}

@@ -10,8 +10,8 @@ use Rattle.sim_base.proofs.ListLaws.{take-append}
 use Rattle.net_model.specs.Net.{Net}
 use Rattle.stations.specs.Fitting.{fits_saved}
 use Rattle.stations.specs.declared.saved.Saved.{Saved}
-use Rattle.resume_laws.specs.RunKeeps.{completions_to}
-use Rattle.resume_laws.specs.Tally.{tally}
+use Rattle.checkpoint.specs.RunKeeps.{completions_to}
+use Rattle.checkpoint.specs.Tally.{tally}
 use Rattle.checkpoint.specs.Accepted.{first_unfit}
 use Rattle.checkpoint.specs.Due.{first_bad, may_be_due}
 use Rattle.checkpoint.specs.Firsts.{FindsFirst, FirstBadIsFirst, FirstUnfitIsFirst, IsBad, IsFirst, IsUnfit}

@@ -41,8 +41,8 @@ use Rattle.stations.proofs.GoodLaws.{fresh-stations, lawful-stations, stations-t
 use Rattle.stations.proofs.KindLaws.{good_kind}
 use Rattle.stations.proofs.Lawful.{site_is}
 use Rattle.stations.proofs.RestoringLaws.{fits-restored}
-use Rattle.resume_laws.specs.RunKeeps.{completions_to}
-use Rattle.resume_laws.specs.Tally.{tally}
+use Rattle.checkpoint.specs.RunKeeps.{completions_to}
+use Rattle.checkpoint.specs.Tally.{tally}
 use Rattle.solo_run.specs.SoloView.{Entries, IsSoloAfter, IsStateAfter, SoloView, config_of, state_of}
 use Rattle.checkpoint.specs.Accepted.{IsAccepted}
 use Rattle.checkpoint.specs.Due.{comes_after, first_bad, is_less, may_be_due, next_in, next_of}

@@ -13,3 +13,12 @@ pub mod ResumedTexts
 pub mod Firsts
 pub mod KeyOrder
 pub mod FirstBeyond
+pub mod ResumedRuns
+pub mod Tallying
+pub mod UsedNumbers
+pub mod Adding
+pub mod ServerKeeps
+pub mod KindKeeps
+pub mod RunKeeps
+pub mod Restoring
+pub mod RunStates

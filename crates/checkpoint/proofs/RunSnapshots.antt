@@ -44,18 +44,18 @@ use Rattle.stations.specs.declared.kind_state.KindState.TheVariants.{Source, Ser
 use Rattle.stations.specs.declared.saved.Saved.{Saved}
 use Rattle.stations.specs.declared.sender.TheConstants.{MAX_EVENT_TIMES}
 use Rattle.stations.proofs.GoodLaws.{lawful-stations, stations-to_stations, fresh-stations}
-use Rattle.resume_laws.specs.Numbers.{PendingNumbersAreUsed}
-use Rattle.resume_laws.specs.Resume as resume
-use Rattle.resume_laws.specs.RunKeeps.{CarriesJobOf, RunKeepsMessage, RunKeepsWorld}
-use Rattle.resume_laws.specs.RunKeeps.{busy_of, completions_in, completions_to}
-use Rattle.resume_laws.specs.SavedLaws.{IsRunState}
-use Rattle.resume_laws.specs.Tally.{tally}
-use Rattle.resume_laws.proofs.Restoring.{state_is_restored}
-use Rattle.resume_laws.proofs.Resuming.{resumed_is_unbroken}
-use Rattle.resume_laws.proofs.RunKeeps.{run_invariant_holds}
-use Rattle.resume_laws.proofs.RunStates.{run_states_are_kept}
-use Rattle.resume_laws.proofs.Tallying.{tally-append}
-use Rattle.resume_laws.proofs.UsedNumbers.{pending_numbers_are_used_in_runs}
+use Rattle.checkpoint.specs.Numbers.{PendingNumbersAreUsed}
+use Rattle.checkpoint.specs.Resume as resume
+use Rattle.checkpoint.specs.RunKeeps.{CarriesJobOf, RunKeepsMessage, RunKeepsWorld}
+use Rattle.checkpoint.specs.RunKeeps.{busy_of, completions_in, completions_to}
+use Rattle.checkpoint.specs.SavedLaws.{IsRunState}
+use Rattle.checkpoint.specs.Tally.{tally}
+use Rattle.checkpoint.proofs.Restoring.{state_is_restored}
+use Rattle.checkpoint.proofs.ResumedRuns.{resumed_is_unbroken}
+use Rattle.checkpoint.proofs.RunKeeps.{run_invariant_holds}
+use Rattle.checkpoint.proofs.RunStates.{run_states_are_kept}
+use Rattle.checkpoint.proofs.Tallying.{tally-append}
+use Rattle.checkpoint.proofs.UsedNumbers.{pending_numbers_are_used_in_runs}
 use Rattle.checkpoint.specs.Accepted.{IsAccepted, first_unfit, fits_end}
 use Rattle.checkpoint.specs.Due.{busy_in, busy_shape, comes_after, first_bad, has_service, is_less, may_be_due}
 use Rattle.checkpoint.specs.Due.{may_carry, next_in, next_of}

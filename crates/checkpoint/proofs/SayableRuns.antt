@@ -37,10 +37,10 @@ use Rattle.stations.specs.declared.kind_state.KindState.{KindState}
 use Rattle.stations.specs.declared.kind_state.KindState.TheVariants.{Source, Server, Delay, Router, Sink}
 use Rattle.stations.specs.declared.sender.TheConstants.{MAX_EVENT_TIMES}
 use Rattle.stations.proofs.GoodLaws.{fresh-stations, handles-good, lawful-stations, stations-to_stations}
-use Rattle.resume_laws.specs.RunKeeps.{CarriesJobOf, RunKeepsKind, RunKeepsState, RunKeepsWorld}
-use Rattle.resume_laws.specs.SavedLaws.{IsRunState}
-use Rattle.resume_laws.proofs.RunKeeps.{first_world-keeps, run_keeps-step}
-use Rattle.resume_laws.proofs.RunStates.{run_states_are_kept}
+use Rattle.checkpoint.specs.RunKeeps.{CarriesJobOf, RunKeepsKind, RunKeepsState, RunKeepsWorld}
+use Rattle.checkpoint.specs.SavedLaws.{IsRunState}
+use Rattle.checkpoint.proofs.RunKeeps.{first_world-keeps, run_keeps-step}
+use Rattle.checkpoint.proofs.RunStates.{run_states_are_kept}
 use Rattle.checkpoint.specs.Due.{is_sayable, is_sayable_payload}
 use Rattle.checkpoint.specs.RunSnapshots.{HasSnapshot, trace_line}
 use Rattle.checkpoint.specs.TraceLines.{is_trace_line}

@@ -30,7 +30,7 @@ use Rattle.net_model.specs.declared.station.Kind.{Kind}
 use Rattle.net_model.specs.declared.station.Kind.TheVariants as kind
 use Rattle.stations.specs.Fitting.{is_job_of}
 use Rattle.stations.proofs.Lawful.{site_valid}
-use Rattle.resume_laws.specs.RunKeeps.{CarriesJobOf}
+use Rattle.checkpoint.specs.RunKeeps.{CarriesJobOf}
 use Rattle.trace_report.specs.TraceText.{change_text, class_text, counts_text, entry_line, job_text, line_start}
 use Rattle.trace_report.specs.TraceText.{name_or_analyst, payload_text, station_name}
 use Rattle.checkpoint.specs.Due.{is_sayable, is_sayable_payload}

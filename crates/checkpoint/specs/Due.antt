@@ -17,8 +17,8 @@ use Rattle.stations.specs.declared.saved.Saved.{Saved}
 use Rattle.stations.specs.declared.saved.Shape.{Shape}
 use Rattle.stations.specs.declared.saved.Shape.TheVariants as shape
 use Rattle.stations.specs.declared.sender.TheConstants.{MAX_EVENT_TIMES}
-use Rattle.resume_laws.specs.RunKeeps.{completions_to}
-use Rattle.resume_laws.specs.Tally.{tally}
+use Rattle.checkpoint.specs.RunKeeps.{completions_to}
+use Rattle.checkpoint.specs.Tally.{tally}
 
 -- ---- what a text can say
 

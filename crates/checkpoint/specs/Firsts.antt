@@ -15,8 +15,8 @@ use Rattle.solo_run.specs.Limit.{first_beyond, receiver}
 use Rattle.solo_run.specs.SoloView.{Entries}
 use Rattle.stations.specs.Fitting.{fits_saved}
 use Rattle.stations.specs.declared.saved.Saved.{Saved}
-use Rattle.resume_laws.specs.RunKeeps.{completions_to}
-use Rattle.resume_laws.specs.Tally.{tally}
+use Rattle.checkpoint.specs.RunKeeps.{completions_to}
+use Rattle.checkpoint.specs.Tally.{tally}
 use Rattle.checkpoint.specs.Accepted.{IsAccepted, first_unfit}
 use Rattle.checkpoint.specs.Due.{first_bad, is_less, may_be_due}
 use Rattle.checkpoint.specs.Snapshots.{SnapshotView, onward}

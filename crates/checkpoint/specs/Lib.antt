@@ -6,3 +6,8 @@ pub mod RunSnapshots
 pub mod Laws
 pub mod Firsts
 pub mod Examples
+pub mod Resume
+pub mod Numbers
+pub mod Tally
+pub mod RunKeeps
+pub mod SavedLaws

@@ -24,7 +24,7 @@
 //! Cost: `Snapshot::of` copies the states and the pending messages, and writes the lines of the trace. `onward` costs
 //! what the rest of the run costs. `lines_len` measures the lines first, and takes no memory.
 //!
-//! The promises:
+//! The promises, which follow from `resume_laws`:
 //!
 //! - *Unbroken.* A resumed run writes the text of the run that was not stopped.
 //! - *Accepted.* The snapshot of a run is never refused.
@@ -34,6 +34,7 @@
 
 pub mod examples;
 pub mod laws;
+pub mod resume_laws;
 mod resuming;
 mod saving;
 pub mod snapshot;

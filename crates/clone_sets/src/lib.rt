@@ -25,6 +25,8 @@
 //! in its result. `laws` has the laws of all sets: they may mark messages (`sim_base::Marks`), and a size is the number
 //! of clones. The promise of README.md that branches share exactly rests on both. No clone is lost in a split, and the
 //! number of messages handled alone counts each clone once.
+//!
+//! The tests are in `base_tests`.
 #![tactic(auto)]
 
 pub mod laws;

@@ -12,9 +12,9 @@ use Rattle.trace_report.specs.Outputs.{clone_text}
 use Rattle.checkpoint.specs.RunSnapshots.{snapshot_of}
 use Rattle.checkpoint.specs.Snapshots.{SnapshotView, onward}
 use Rattle.study_run.specs.Limits.{last_time, until}
-use Rattle.saved_run.specs.Laws.{IsResumed}
-use Rattle.saved_run.specs.Saving.{saved_text}
-use Rattle.saved_run.proofs.Resumed.{saved_runs_are_resumed}
+use Rattle.study_run.specs.SavedRunLaws.{IsResumed}
+use Rattle.study_run.specs.Saving.{saved_text}
+use Rattle.study_run.proofs.Resumed.{saved_runs_are_resumed}
 use Rattle.world_core.specs.Overs.{most_handled}
 use Rattle.cloner_top.specs.declared.excess.Excess.TheVariants.{LongSnapshot}
 use Rattle.cloner_top.specs.Endings.{Ending, MayGoOn, MayRunAlone, limit_met_at, overrun, saved_or_too_long}

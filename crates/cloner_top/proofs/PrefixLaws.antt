@@ -13,7 +13,7 @@ use Rattle.decision_script.specs.Reading.{after_lines, new_reader, script_of}
 use Rattle.decision_script.specs.declared.fault.ScriptFault.TheVariants as bad_script
 use Rattle.watch_points.specs.Reading as watch_text
 use Rattle.watch_points.specs.declared.fault.WatchFault.TheVariants as bad_watches
-use Rattle.exact_words.specs.Texts.{read_text}
+use Rattle.snapshot_lines.specs.Texts.{read_text}
 use Rattle.snapshot_text.specs.Reading.{ends, of_lines, step}
 use Rattle.snapshot_text.specs.declared.fault.SnapshotFault.TheVariants as bad_snapshot
 use Rattle.cloner_top.specs.Prefixes.{PrefixesStateTheSame}

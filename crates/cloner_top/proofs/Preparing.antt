@@ -22,8 +22,8 @@ use Rattle.watch_points.specs.declared.watch.Watch as watch
 use Rattle.checkpoint.specs.Snapshots.{SnapshotView}
 use Rattle.snapshot_text.specs.Reading.{snapshot}
 use Rattle.snapshot_text.specs.declared.fault.SnapshotFault.{SnapshotFault}
-use Rattle.saved_run.specs.Sayable.{AreSayable}
-use Rattle.saved_run.proofs.Sayable.{scripts_are_sayable}
+use Rattle.study_run.specs.SayableRuns.{AreSayable}
+use Rattle.study_run.proofs.Sayable.{scripts_are_sayable}
 use Rattle.command_words.specs.Requests.{AssignmentView, FileNames, Live, Number, Resume, SourceView, Study, Watch}
 use Rattle.cloner_top.specs.declared.refusal.Refusal.{Refusal}
 use Rattle.cloner_top.specs.declared.refusal.Refusal.TheVariants.{OutOfMemory, Usage, NotRead}

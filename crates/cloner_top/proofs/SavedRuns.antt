@@ -10,7 +10,7 @@ use Rattle.net_model.specs.Net.{Net}
 use Rattle.stations.specs.Runs.{trace_of}
 use Rattle.world_core.specs.Overs.{most_handled}
 use Rattle.study_run.specs.Limits.{until}
-use Rattle.saved_run.specs.Saving.{IsSaved, IsTooLong, StopsUntil, saved_text}
+use Rattle.study_run.specs.Saving.{IsSaved, IsTooLong, StopsUntil, saved_text}
 use Rattle.cloner_top.specs.declared.excess.Excess.{Excess}
 use Rattle.cloner_top.specs.declared.excess.Excess.TheVariants.{LongSnapshot}
 use Rattle.cloner_top.specs.declared.refusal.Refusal.{Refusal}

@@ -18,12 +18,12 @@ use Rattle.run_laws.proofs.Queue.{all_in}
 use Rattle.run_laws.proofs.Stands.{clone_in}
 use Rattle.stations.specs.Runs.{IsBeyond, simulation}
 use Rattle.decision_book.specs.Plans.{ArePlanned, IsPlanned}
-use Rattle.watch_laws.specs.Branches.{Branch, Trigger, branch_by, branch_from, branch_if_due, branch_named, branch_of}
-use Rattle.watch_laws.specs.Branches.{branches_at}
-use Rattle.watch_laws.specs.Branches.{due_time, initial_branch, with_branch}
-use Rattle.watch_laws.specs.Orders.{IsPlaceOrder, in_order}
-use Rattle.watch_laws.proofs.Branches.{branch_named-in, in-with_branch}
-use Rattle.watch_laws.proofs.Orders.{in_order-permutation, in_permuted}
+use Rattle.watch_points.specs.Branches.{Branch, Trigger, branch_by, branch_from, branch_if_due, branch_named, branch_of}
+use Rattle.watch_points.specs.Branches.{branches_at}
+use Rattle.watch_points.specs.Branches.{due_time, initial_branch, with_branch}
+use Rattle.run_laws.specs.Orders.{IsPlaceOrder, in_order}
+use Rattle.watch_points.proofs.Branches.{branch_named-in, in-with_branch}
+use Rattle.run_laws.proofs.Orders.{in_order-permutation, in_permuted}
 use Rattle.trace_report.specs.Outputs.{figures_to, report}
 use Rattle.world_core.specs.Overs.{most_handled}
 use Rattle.world_core.specs.Worlds.{total_handled}

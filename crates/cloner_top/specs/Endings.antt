@@ -17,7 +17,7 @@ use Rattle.world_core.specs.Overs.{most_handled}
 use Rattle.world_core.specs.Worlds.{total_handled}
 use Rattle.trace_report.specs.Outputs.{clone_text, report}
 use Rattle.study_run.specs.Limits.{AreWithin, IsWithin, MeetsLimit, MeetsLimitAlone, until}
-use Rattle.study_stats.specs.Rows.{statistics}
+use Rattle.queue_stats.specs.Rows.{statistics}
 use Rattle.link_clocks.specs.NetClocks.{AreAllRounds}
 use Rattle.journal_text.specs.declared.looked.Looked.{Looked}
 use Rattle.journal_text.specs.JournalText.{journal_text}
@@ -34,7 +34,7 @@ use Rattle.checkpoint.specs.Laws.{StaysOnward}
 use Rattle.checkpoint.specs.Snapshots.{SnapshotView, onward, resumed_text}
 use Rattle.snapshot_text.specs.Reading.{snapshot}
 use Rattle.snapshot_text.specs.declared.fault.SnapshotFault.{SnapshotFault}
-use Rattle.saved_run.specs.Saving.{MeetsLimitOnward, saved_text}
+use Rattle.study_run.specs.Saving.{MeetsLimitOnward, saved_text}
 use Rattle.command_words.specs.declared.request.Mode.{Mode}
 use Rattle.command_words.specs.declared.request.Mode.TheVariants.{Links, Report, Save, Solo, Stats}
 use Rattle.command_words.specs.Requests as asked

@@ -4,7 +4,7 @@ use Rattle.sim_base.specs.Clones.{Clone}
 use Rattle.net_model.specs.Net.{Net}
 use Rattle.net_model.specs.Rules.{IsNet}
 use Rattle.decision_book.specs.Plans.{ArePlanned}
-use Rattle.saved_run.specs.Sayable.{AreSayable}
+use Rattle.study_run.specs.SayableRuns.{AreSayable}
 use Rattle.command_words.specs.declared.request.Mode.TheVariants.{Save, Solo}
 use Rattle.cloner_top.specs.Endings.{Ending, MayResume, MaySimulate, early_stop, overrun, whole_output}
 

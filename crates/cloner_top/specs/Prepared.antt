@@ -4,7 +4,7 @@ use Rattle.sim_outer.specs.Files.{Files}
 use Rattle.command_words.specs.Requests.{AssignmentView}
 use Rattle.study_run.specs.Accepted.{IsAcceptedJournal}
 use Rattle.checkpoint.specs.Accepted.{IsAccepted}
-use Rattle.saved_run.specs.Sayable.{AreSayable}
+use Rattle.study_run.specs.SayableRuns.{AreSayable}
 use Rattle.watch_points.specs.Checking.{fit}
 use Rattle.cloner_top.specs.declared.prepared.Prepared.{Prepared}
 use Rattle.cloner_top.specs.declared.prepared.Prepared.TheVariants.{Decided, Resuming, Undecided, Watching}

@@ -19,6 +19,8 @@
 //! branch does not share with the branch before. Memory holds the world, and the lines that a text shares with the next
 //! one. The promises of the README rest on the contract of `cloner`: right traces, the first refusal, all or nothing,
 //! bounded work, each text in one call, each file fetched once.
+//!
+//! The tests are in `program_tests`.
 #![tactic(auto)]
 
 mod alone;

@@ -2,7 +2,7 @@
 ghost use Rattle.cloner_top.specs.Deciding.{clones_of_book};
 ghost use Rattle.cloner_top.specs.Endings.{MayRunAlone, saved_or_too_long};
 ghost use Rattle.cloner_top.specs.Outsides.{IsDone};
-ghost use Rattle.saved_run.specs.Sayable.{AreSayable};
+ghost use Rattle.study_run.specs.SayableRuns.{AreSayable};
 ghost use Rattle.study_run.specs.Limits.{until as until'};
 
 use crate::excess::Excess;
@@ -11,11 +11,11 @@ use crate::putting::put_text;
 use crate::refusal::Refusal;
 use crate::running::limit_at;
 use crate::stop::Stop;
-use saved_run::{SaveFault, save_alone};
 use sim_base::{Name, Steps};
 use sim_outer::Sink;
 use std::alloc::Global;
 use std::sync::ledger::Ledger;
+use study_run::{SaveFault, save_alone};
 
 /// Runs the named clone alone until a time, and writes the text of its snapshot.
 pub(crate) fn write_saved<O: Sink, L: Ledger>(

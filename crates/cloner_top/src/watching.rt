@@ -1,7 +1,7 @@
 //! Runs all clones of a plan with its watches in one world, and writes their texts.
 ghost use Rattle.std.specs.Prelude.{◌≡◌, length, IfErr, IfOk, Ok};
 ghost use Rattle.study_run.specs.Accepted.{IsAcceptedJournal};
-ghost use Rattle.watch_laws.specs.Orders.{IsPlaceOrder, in_order};
+ghost use Rattle.run_laws.specs.Orders.{IsPlaceOrder, in_order};
 ghost use Rattle.watch_points.specs.Checking.{fit};
 ghost use Rattle.study_run.specs.Watching.{IsWatchedRun};
 ghost use Rattle.cloner_top.specs.Deciding.{clones_of_book};

@@ -4,7 +4,7 @@ ghost use Rattle.cloner_top.specs.Deciding.{clones_of_book};
 ghost use Rattle.cloner_top.specs.Endings.{MaySimulate};
 ghost use Rattle.cloner_top.specs.Outsides.{IsDone, IsHalted, IsStudyPut};
 ghost use Rattle.cloner_top.specs.Prepared.{IsReady, MayEndFrom};
-ghost use Rattle.saved_run.specs.Sayable.{AreSayable};
+ghost use Rattle.study_run.specs.SayableRuns.{AreSayable};
 ghost use Rattle.study_run.specs.Accepted.{IsAcceptedJournal};
 
 use crate::alone::write_alone;

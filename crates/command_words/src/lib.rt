@@ -25,6 +25,8 @@
 //!
 //! Parsing allocates a command of seven arguments and a list of the words. The promise: **a command line of no known
 //! form is refused before any file is read, and none is taken for another**.
+//!
+//! The tests are in `program_tests`.
 #![tactic(auto)]
 
 mod command;

@@ -11,6 +11,8 @@
 //! Contracts see both as one list in the order of messages, each once with the clones that take it. A message may be in
 //! the heap and in the list: then its clones are those of both. If the copy gets one clone more, the marks in the list
 //! change, and the heap does not. If the copy splits, the heap is copied, and the list is cut.
+//!
+//! The tests are in `base_tests`.
 #![tactic(auto)]
 
 pub mod pending;

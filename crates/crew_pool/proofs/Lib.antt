@@ -3,3 +3,5 @@ mod Pairs
 mod DequeRule
 mod PlaceLaws
 mod Taken
+mod Moves
+mod SeatsAfterSteps

@@ -7,11 +7,11 @@ ghost use Rattle.crew_pool.specs.Tasks.{AnswersTo};
 ghost use Rattle.crew_pool.specs.Deque.{SameDeque, seat_view, numbers, EachPair};
 ghost use Rattle.crew_pool.specs.Calls.{JobView, IsEnd, HasTaken, AreIdle, AreOut};
 
+use crate::Caller;
 use crate::job::{ByStealing, End, Job};
 use crate::lists::{add, add_all};
 use crate::task_deque::{OnePart, Owner, Seat};
 use crate::work::Work;
-use mailbox::Caller;
 use sim_base::NoMemory;
 use std::alloc::Global;
 use std::sync::Wait;

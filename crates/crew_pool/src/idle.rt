@@ -122,7 +122,7 @@ impl<W: Work + Send + Drop> IdleCrew<W> {
         let mut members = Vec::new(alloc);
         let mut wakers = Vec::new(alloc);
         for number in 1..workers.count {
-            let (caller, jobs) = mailbox::open(alloc)?;
+            let (caller, jobs) = crate::open(alloc)?;
             let parker = Parker::new(alloc)?;
             add(&mut wakers, parker.unparker().clone()?)?;
             add(&mut callers, caller)?;

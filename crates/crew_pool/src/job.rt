@@ -4,11 +4,11 @@ ghost use Rattle.crossbeam_deque.specs.Handles.{stealer_deque};
 ghost use Rattle.crew_pool.specs.Tasks.{AnswersTo, EachAt};
 ghost use Rattle.crew_pool.specs.Calls.{dealt_of, IsStart, IsEnd};
 
+use crate::Errand;
 use crate::gate::Gate;
 use crate::taking::steal_all;
 use crate::task_deque::{Seat, Thief};
 use crate::work::Work;
-use mailbox::Errand;
 use sim_base::NoMemory;
 use std::alloc::Global;
 use std::sync::Arc;

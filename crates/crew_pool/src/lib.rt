@@ -27,6 +27,8 @@
 //! // outs[i] is the answer to items[i]
 //! ```
 //!
+//! The caller gives each member its jobs by a mailbox ([`open`]): a channel of capacity one, with a reply to each task.
+//!
 //! [`Crew::all`] is [`Crew::start`] and then [`Started::finish`]: between the two the caller is free, and members
 //! already run tasks. A crew of one worker has no members, and its caller runs all tasks in order. The code that starts
 //! the members calls [`Bell::end`] on each way out, since they wait for it.
@@ -41,32 +43,44 @@
 //! single call, which starts and joins its threads. The speed of a crew is not proved, nor that two workers ever run at
 //! the same time. A [`Gate`] is called before each task, and before each call of an analyst in a live study; tests hold
 //! threads with it.
+//!
+//! The tests are in `engine_tests`.
 #![tactic(auto)]
 
 pub mod bell;
+pub mod caller;
 pub mod crew;
+pub mod errand;
 pub mod forked;
 pub mod gate;
 mod gathering;
 pub mod idle;
 pub mod job;
 pub mod lists;
+mod mail;
 pub mod member;
+mod opening;
 pub mod own_counter;
 mod places;
 pub mod started;
+mod steps;
 mod taking;
 pub mod task_deque;
 pub mod work;
+pub mod worker;
 pub mod workers;
 
 pub use bell::Bell;
+pub use caller::Caller;
 pub use crew::{Crew, MAX_TASKS};
+pub use errand::Errand;
 pub use forked::Forked;
 pub use gate::{Gate, NoGate};
 pub use lists::{add, add_all};
 pub use member::{Member, serve, serve_all};
+pub use opening::open;
 pub use own_counter::{run_with_own_counter, tick_costs};
 pub use started::Started;
 pub use work::Work;
+pub use worker::Worker;
 pub use workers::{MAX_WORKERS, Workers};

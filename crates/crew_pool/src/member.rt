@@ -1,10 +1,10 @@
 //! The members of a crew, and what each of them runs.
+use crate::Worker;
 use crate::bell::Bell;
 use crate::gate::Gate;
 use crate::job::{ByStealing, End, Job};
 use crate::work::Work;
 use crossbeam_utils::sync::Parker;
-use mailbox::Worker;
 use std::alloc::Global;
 use std::sync::Wait;
 use std::thread;

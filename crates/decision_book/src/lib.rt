@@ -29,6 +29,8 @@
 //! is right if each reply is that of the table after the events before it, and the fronts rise. The laws carry the
 //! promise that a clone may be run alone. The decisions that reach it lead to the same list and the same end as all
 //! decisions.
+//!
+//! The tests are in `base_tests`.
 #![tactic(auto)]
 
 pub mod book;

@@ -27,6 +27,8 @@
 //! seen. The rule of the desk is in `specs/Turns.antt`. It defines what each step of a seat does to the words front,
 //! ticket, serving and count, and to the slot of the book. The invariant of the book's type is that its journal is
 //! legal: each front is the next one of the clones before it.
+//!
+//! The tests are in `engine_tests`.
 #![tactic(auto)]
 
 pub mod desk;

@@ -27,6 +27,8 @@
 //! The definitions in `specs/` are the grammar, and `read_script` follows them. It returns the script of the text, or
 //! the first faulty line with its first fault. Two promises rest on this. The canonical text of every script is read as
 //! that script. A clone that is run from its own script has the same decisions as in the whole one.
+//!
+//! The tests are in `base_tests`.
 #![tactic(auto)]
 
 pub mod examples;

@@ -6,7 +6,7 @@
 //! ```text
 //! crew_pool_tests        phys_proc_tests        world_core_tests
 //! decision_desk_tests    shelf_tests
-//! live_study_tests       study_stats_tests
+//! live_study_tests       queue_stats_tests
 //! linked_tests: the rounds of study_run
 //! ```
 //!
@@ -25,10 +25,10 @@ mod live_study_tests;
 #[cfg(test)]
 mod phys_proc_tests;
 #[cfg(test)]
+mod queue_stats_tests;
+#[cfg(test)]
 mod shelf_looks;
 #[cfg(test)]
 mod shelf_tests;
-#[cfg(test)]
-mod study_stats_tests;
 #[cfg(test)]
 mod world_core_tests;

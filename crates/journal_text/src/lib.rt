@@ -29,6 +29,8 @@
 //! right journal's calls, without comments, are read as a script. Its items are the accepted decisions, in order, each
 //! by the analyst who made it. All are accepted before the simulation begins, and lead to the same clones as the
 //! journal. So the script has the same traces and the same report.
+//!
+//! The tests are in `base_tests`.
 #![tactic(auto)]
 
 pub mod examples;

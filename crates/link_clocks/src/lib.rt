@@ -33,6 +33,8 @@
 //! their logs are equal. This is the invariant of [`LinkWorld`], in place and by a crew. The steps of a round count
 //! exactly the messages that all clones together handle in it, shared ones once. [`LinkWorld::round_in_place`] waits
 //! only if its gate does.
+//!
+//! The tests are in `engine_tests`.
 #![tactic(auto)]
 
 mod clocks;

@@ -33,6 +33,8 @@
 //! the journal. It stays true of those that the journal leaves, since nothing after a front changes a log before it
 //! (`laws`). If a log would get longer than the limit, the result names the least station and there the least clone at
 //! the last front. It is not proved that threads run concurrently.
+//!
+//! The tests are in `engine_tests`.
 #![tactic(auto)]
 
 pub mod analyst;

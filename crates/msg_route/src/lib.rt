@@ -23,6 +23,8 @@
 //!
 //! The two calls promise that no message is lost and none is given twice. `laws` shows that a clone takes the same
 //! messages from the grouped ones as from those that were sent.
+//!
+//! The tests are in `base_tests`.
 #![tactic(auto)]
 
 pub mod groups;

@@ -27,6 +27,8 @@
 //! exactly that, unless it is out of memory. Every `Model` keeps the rules of `specs/Rules.antt`, so no crate above has
 //! to test them again. Example texts are in `specs/Examples.antt`. Of the promises in README.md this crate carries "a
 //! refusal is the first one, and it is true", for the text of the model.
+//!
+//! The tests are in `base_tests`.
 #![tactic(auto)]
 
 mod draft;

@@ -26,6 +26,8 @@
 //! `over` has the clones whose logs would get longer than the limit.
 //!
 //! It carries the promise that sharing changes no result, and the exact count of messages handled once.
+//!
+//! The tests are in `engine_tests`, those of lists of sent messages in `base_tests`.
 #![tactic(auto)]
 
 mod advancing;

@@ -17,3 +17,5 @@ mod VisitOrder
 mod OrderedRuns
 mod ServerLogs
 mod CommonLogs
+mod Gathering
+mod SharedLogs

@@ -10,3 +10,5 @@ pub mod Laws
 pub mod CommonLogs
 pub mod Orders
 pub mod Examples
+pub mod Rows
+pub mod RowExamples

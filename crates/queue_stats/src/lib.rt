@@ -19,6 +19,8 @@
 //! let other = stats.with_end(until, earlier);      // of a clone that has the same log and ends earlier
 //! ```
 //!
+//! `rows` has the statistics of a whole study: of each clone and server of a world at the horizon.
+//!
 //! One walk along the log adds up all figures except the waits. The waits take two more walks at once, the second of
 //! which goes from arrival to arrival, so waiting jobs need no list. An entry costs a few additions, and nothing is
 //! allocated. Clones with the same log share the walks: `with_end` moves the statistics to another end without one. A
@@ -38,16 +40,21 @@
 //! then about visits by count, not one job's wait. Statistics report waits only at a server by arrival.
 //!
 //! All three laws rest on one, `laws::logs_are_queues`: the log of every server in every run is the history of a queue.
+//!
+//! The tests are in `engine_tests`.
 #![tactic(auto)]
 
 pub mod examples;
 pub mod laws;
 mod pieces;
+pub mod row_examples;
+pub mod rows;
 pub mod stats;
 mod tally;
 pub mod text;
 pub mod waits;
 
+pub use rows::make_statistics;
 pub use stats::{Stats, stats_of};
 pub use text::{StatRow, stats_text};
 pub use waits::Waits;

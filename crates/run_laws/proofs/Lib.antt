@@ -38,3 +38,6 @@ pub mod FewGains
 pub mod SharedTextsAgreeing
 pub mod SharedTextsWeighing
 pub mod Numbers
+pub mod Orders
+pub mod BeginningParts
+pub mod BeginningTraces

@@ -20,3 +20,6 @@ pub mod FrontLaws
 pub mod CountLaws
 pub mod SharedTexts
 pub mod Numbers
+pub mod Orders
+pub mod Beginnings
+pub mod BeginningExamples

@@ -12,10 +12,11 @@
 //! `specs/` has all definitions, each with a line of comment. Read them in this order:
 //!
 //! - Queue, Machine, Simulation, World, Handlers, Window, Runs, Fronts: a clone's run, alone on one thread;
-//! - Sharing, Prefixes, Copies, Merges: what clones have in common, and copies that represent them;
+//! - Sharing, Prefixes, Copies, Merges, Orders: what clones have in common, and copies that represent them;
 //! - Laws, StepLaws, MarkLaws, CopyLaws, CountLaws, FrontLaws, TraceLaws, SharedTexts, Numbers: the laws, as statements
 //!   that contracts cite;
-//! - Examples: two stations that throw a ball to each other, computed.
+//! - Beginnings: what the trace of a clone begins with is kept for the next clone;
+//! - Examples, BeginningExamples: two stations that throw a ball to each other, computed.
 //!
 //! There is nothing to run, and nothing costs time. The contract of each function in `laws` is a law, and `examples`
 //! pins the definitions by worked values. A crate above cites a definition in its contracts and a lemma in its proofs,
@@ -30,7 +31,10 @@
 //! it together. Windows on many threads change nothing.
 #![tactic(auto)]
 
+pub mod beginning_examples;
+pub mod beginning_laws;
 pub mod examples;
 pub mod laws;
 pub mod number_laws;
+pub mod order_laws;
 pub mod text_laws;

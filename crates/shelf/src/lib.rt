@@ -26,6 +26,8 @@
 //! What it promises: **a look reports a published rack**, and the front of this rack is at least the one that the seat
 //! has seen or learnt at that station. What a rack reports of a clone is true of the clone's own run: that is the
 //! invariant of the rack itself.
+//!
+//! The tests are in `engine_tests`.
 #![tactic(auto)]
 
 mod entry;

@@ -29,6 +29,8 @@
 //! The types over real files and streams are the trusted edge, a few lines each. It is proved that they raise the count
 //! at each fault. The promise that each status of the program has a cause rests on them. A file that was not read, or
 //! an output that was cut off, is counted as a fault and never ignored.
+//!
+//! The tests are in `base_tests`.
 #![tactic(auto)]
 
 pub mod examples;

@@ -22,16 +22,16 @@ use Rattle.sim_base.proofs.Digits.{digit_numerals}
 use Rattle.sim_base.proofs.ListLaws.{list_all-weaker}
 use Rattle.stations.specs.declared.saved.Shape.{Shape}
 use Rattle.stations.specs.declared.saved.Shape.TheVariants as shape
-use Rattle.exact_words.specs.Forms.{Form, IsExact, IsReadJoined, WritesOnly, WritesSome, and_then, and_what_follows}
-use Rattle.exact_words.specs.Forms.{many}
-use Rattle.exact_words.specs.Forms.{as_value, led, led_or, nothing, number, silent, such, IsLedByOthers}
-use Rattle.exact_words.proofs.ExactForms.{and_then-exact, as_value-exact, follows-exact, led-exact, many-exact}
-use Rattle.exact_words.proofs.ExactForms.{nothing-exact, number-exact, silent-exact, spelled-exact, such-exact}
-use Rattle.exact_words.proofs.JoinedWords.{joined-exact, joined_words-exact, led_or-exact}
-use Rattle.exact_words.proofs.Written.{and_then-only, as_value-only, follows-only, joined-only}
-use Rattle.exact_words.proofs.Written.{led-only}
-use Rattle.exact_words.proofs.Written.{led_or-only, many-only, nothing-only, number-only}
-use Rattle.exact_words.proofs.Written.{silent-only, spelled-only, such-only}
+use Rattle.snapshot_lines.specs.Forms.{Form, IsExact, IsReadJoined, WritesOnly, WritesSome, and_then, and_what_follows}
+use Rattle.snapshot_lines.specs.Forms.{many}
+use Rattle.snapshot_lines.specs.Forms.{as_value, led, led_or, nothing, number, silent, such, IsLedByOthers}
+use Rattle.snapshot_lines.proofs.ExactForms.{and_then-exact, as_value-exact, follows-exact, led-exact, many-exact}
+use Rattle.snapshot_lines.proofs.ExactForms.{nothing-exact, number-exact, silent-exact, spelled-exact, such-exact}
+use Rattle.snapshot_lines.proofs.JoinedWords.{joined-exact, joined_words-exact, led_or-exact}
+use Rattle.snapshot_lines.proofs.Written.{and_then-only, as_value-only, follows-only, joined-only}
+use Rattle.snapshot_lines.proofs.Written.{led-only}
+use Rattle.snapshot_lines.proofs.Written.{led_or-only, many-only, nothing-only, number-only}
+use Rattle.snapshot_lines.proofs.Written.{silent-only, spelled-only, such-only}
 use Rattle.decision_script.specs.declared.number.TheConstants.{MAX_NUMBER}
 use Rattle.snapshot_lines.specs.declared.numbers.TheConstants.{MAX_STAY}
 use Rattle.snapshot_lines.specs.Grammar.{number_word, stay_word, two_numbers, three_numbers, job_of, parts_of_job}

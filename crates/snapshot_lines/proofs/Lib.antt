@@ -5,3 +5,7 @@ pub mod ExactLines
 pub mod SpacedWords
 pub mod WaitingLines
 pub mod StationText
+pub mod ExactForms
+pub mod JoinedWords
+pub mod ExactTexts
+pub mod Written

@@ -12,7 +12,7 @@ use Rattle.sim_base.specs.Names.{is_digit, is_leading}
 use Rattle.sim_base.proofs.Digits.{digit_numerals}
 use Rattle.decision_script.specs.Lines.{has_number_form}
 use Rattle.decision_script.proofs.Numbers.{has_number_form-decimal}
-use Rattle.exact_words.specs.Forms.{is_number}
+use Rattle.snapshot_lines.specs.Forms.{is_number}
 use Rattle.snapshot_lines.specs.declared.numbers.TheConstants.{MAX_NUMBER_LEN}
 
 -- ---- has_number_form

@@ -1,7 +1,7 @@
 -- Values of a form, read one after the other.
 use Rattle.std.proofs.Common.{◌≡◌, ℕ, zero, suc, ◌-◌, ◌<◌, List, [], ◌∷◌, ◌++◌, Some, None}
 use Rattle.std.proofs.Common.{refl, sym, ap, ◌∙◌, arith, append_assoc}
-use Rattle.exact_words.specs.Forms.{Form, Read, read_as, read_many, read_then}
+use Rattle.snapshot_lines.specs.Forms.{Form, Read, read_as, read_many, read_then}
 
 module _ {A : Type 0} (f : Form A) where
   -- one value more

@@ -3,8 +3,8 @@ use Rattle.std.proofs.Common.{◌≡◌, ℕ, suc, ◌+◌, List, [], ◌∷◌,
 use Rattle.std.specs.Prelude.{codes}
 use Rattle.std.proofs.lemmas.List.{length-append}
 use Rattle.stations.specs.declared.saved.Saved.{Saved}
-use Rattle.exact_words.specs.Forms.{line_of}
-use Rattle.exact_words.specs.Texts.{ended}
+use Rattle.snapshot_lines.specs.Forms.{line_of}
+use Rattle.snapshot_lines.specs.Texts.{ended}
 use Rattle.snapshot_lines.specs.Grammar.{shape_form, station_line}
 use Rattle.snapshot_lines.specs.Spaced.{spaced}
 use Rattle.snapshot_lines.proofs.SpacedWords.{ended_spaced, spaced_append}

@@ -13,9 +13,9 @@ use Rattle.decision_script.specs.declared.number.TheConstants.{MAX_NUMBER}
 use Rattle.stations.specs.declared.saved.Saved.{Saved}
 use Rattle.stations.specs.declared.saved.Shape.{Shape}
 use Rattle.stations.specs.declared.saved.Shape.TheVariants as shape
-use Rattle.exact_words.specs.Forms.{Form, and_then, and_what_follows, as_value, joined, led, led_or, many, nothing}
-use Rattle.exact_words.specs.Forms.{number}
-use Rattle.exact_words.specs.Forms.{silent, spelled, such}
+use Rattle.snapshot_lines.specs.Forms.{Form, and_then, and_what_follows, as_value, joined, led, led_or, many, nothing}
+use Rattle.snapshot_lines.specs.Forms.{number}
+use Rattle.snapshot_lines.specs.Forms.{silent, spelled, such}
 use Rattle.snapshot_lines.specs.declared.read_lines.Head.{Head}
 use Rattle.snapshot_lines.specs.declared.numbers.TheConstants.{MAX_STAY}
 

@@ -3,3 +3,5 @@ pub mod WordsLeft
 pub mod ServerWords
 pub mod Examples
 pub mod Spaced
+pub mod Forms
+pub mod Texts

@@ -1,6 +1,6 @@
 //! Worked lines of a snapshot, computed by the checker. The function's contract is a theorem; there is nothing to run.
 ghost use Rattle.std.specs.Prelude.{◌≡◌, Some, None, codes};
-ghost use Rattle.exact_words.specs.Forms.{line_of, line_says};
+ghost use Rattle.snapshot_lines.specs.Forms.{line_of, line_says};
 ghost use Rattle.snapshot_lines.specs.Examples.{desk, desk_line, desk_with_zero, desk_with_spaces, desk_without_job};
 ghost use Rattle.snapshot_lines.specs.Examples.{split, split_line, waiting, waiting_line};
 ghost use Rattle.snapshot_lines.specs.Grammar.{station_line};

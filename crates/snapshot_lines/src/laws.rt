@@ -1,6 +1,6 @@
 //! What is proved of the lines: each function's contract is a law, and there is nothing to run.
 ghost use Rattle.std.specs.Prelude.{ℕ, ◌<◌, ◌^◌};
-ghost use Rattle.exact_words.specs.Forms.{IsReadJoined};
+ghost use Rattle.snapshot_lines.specs.Forms.{IsReadJoined};
 ghost use Rattle.snapshot_lines.specs.Grammar.{head_line, station_line, pending_line, message_line, trace_line};
 
 /// Each line is read as the value that it was written for, and nothing else is read.

@@ -3,8 +3,8 @@
 //! The sums have 128 bits, since a waiting line of any length can be measured.
 ghost use Rattle.std.specs.Prelude.{◌≡◌, ◌+◌, ◌^◌, ◌<◌, ◌≤◌, ◌∷◌, [], length, decimal};
 ghost use Rattle.std.specs.List.{flat_map};
-ghost use Rattle.exact_words.specs.Forms.{line_of};
-ghost use Rattle.exact_words.specs.Texts.{ended};
+ghost use Rattle.snapshot_lines.specs.Forms.{line_of};
+ghost use Rattle.snapshot_lines.specs.Texts.{ended};
 ghost use Rattle.snapshot_lines.specs.Grammar.{change_form, end_form, head_line, job_word, number_word};
 ghost use Rattle.snapshot_lines.specs.Grammar.{message_line, payload_form, pending_line, shape_form, station_line};
 ghost use Rattle.snapshot_lines.specs.Grammar.{trace_line};

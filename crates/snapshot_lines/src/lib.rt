@@ -11,7 +11,7 @@
 //! trace 5
 //! ```
 //!
-//! `specs/Grammar.antt` states each line as a form of `exact_words`: what is written for a value, and what is read. All
+//! `specs/Grammar.antt` states each line as a form (`exact_laws`): what is written for a value, and what is read. All
 //! numbers are decimal and have no leading zero. Two spaces, a job too few or a word too many make another line, which
 //! is refused.
 //!
@@ -33,6 +33,7 @@
 //! - *Exactness.* A line is read as the value that it was written for, and nothing else is read (`laws`).
 #![tactic(auto)]
 
+pub mod exact_laws;
 pub mod examples;
 pub mod laws;
 pub mod lengths;

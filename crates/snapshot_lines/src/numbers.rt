@@ -4,7 +4,7 @@ ghost use Rattle.std.specs.List.{list_all};
 ghost use Rattle.std.specs.Str.Parse.{digits_value};
 ghost use Rattle.sim_base.specs.Names.{is_digit};
 ghost use Rattle.decision_script.specs.Lines.{has_number_form as has_number_form'};
-ghost use Rattle.exact_words.specs.Forms.{is_number};
+ghost use Rattle.snapshot_lines.specs.Forms.{is_number};
 ghost use Rattle.snapshot_lines.specs.declared.numbers.TheConstants.{MAX_NUMBER_LEN};
 
 use sim_base::number::{are_digits, is_digit_byte, may_lead};

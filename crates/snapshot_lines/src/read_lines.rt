@@ -1,6 +1,6 @@
 //! Reads the lines of a snapshot.
 ghost use Rattle.std.specs.Prelude.{◌≡◌, ℕ, ◌≤◌, IfOk};
-ghost use Rattle.exact_words.specs.Forms.{line_says, read_as, read_then};
+ghost use Rattle.snapshot_lines.specs.Forms.{line_says, read_as, read_then};
 ghost use Rattle.net_model.specs.declared.limits.TheConstants.{MAX_LINKS};
 ghost use Rattle.snapshot_lines.specs.Grammar.{param_form, values_form, change_form, payload_form, end_form, head_line};
 ghost use Rattle.snapshot_lines.specs.Grammar.{saved_with, shape_form, station_line, pending_line, message_line};

@@ -1,7 +1,7 @@
 //! Reads numbers, jobs and shapes from words.
 ghost use Rattle.std.specs.Prelude.{◌≡◌, ◌≤◌, ◌++◌, ◌∷◌, [], length, option_map, IfOk, IfSome, OnOk};
 ghost use Rattle.std.proofs.Common.{inl, inr};
-ghost use Rattle.exact_words.specs.Forms.{many, read_as, read_then};
+ghost use Rattle.snapshot_lines.specs.Forms.{many, read_as, read_then};
 ghost use Rattle.decision_script.specs.declared.number.TheConstants.{MAX_NUMBER};
 ghost use Rattle.net_model.specs.declared.limits.TheConstants.{MAX_LINKS};
 ghost use Rattle.snapshot_lines.specs.Grammar.{number_word, stay_word, three_numbers, job_parts, job_word, line_words};

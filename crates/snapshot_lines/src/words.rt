@@ -1,7 +1,7 @@
 //! The words of a line, one after the other.
 ghost use Rattle.std.specs.Prelude.{◌≡◌, ◌∷◌, ◌<◌, ◌≤◌, ◌==◌, [], length, position, IfSome, MatchBool, MatchOption};
 ghost use Rattle.std.specs.List.{slice_split};
-ghost use Rattle.exact_words.specs.Forms.{whole as whole', words_after};
+ghost use Rattle.snapshot_lines.specs.Forms.{whole as whole', words_after};
 
 use std::marker::Model;
 

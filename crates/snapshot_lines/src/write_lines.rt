@@ -1,7 +1,7 @@
 //! Writes the lines of a snapshot, each with its line feed.
 ghost use Rattle.std.specs.Prelude.{◌≡◌, ◌++◌, ◌∷◌, [], decimal, codes, OnOk};
-ghost use Rattle.exact_words.specs.Forms.{line_of};
-ghost use Rattle.exact_words.specs.Texts.{ended};
+ghost use Rattle.snapshot_lines.specs.Forms.{line_of};
+ghost use Rattle.snapshot_lines.specs.Texts.{ended};
 ghost use Rattle.snapshot_lines.specs.Grammar.{head_line, message_line, pending_line, station_line, trace_line};
 ghost use Rattle.snapshot_lines.specs.Spaced.{spaced};
 

@@ -27,13 +27,13 @@ use Rattle.stations.specs.declared.saved.Shape.{Shape}
 use Rattle.stations.specs.declared.saved.Shape.TheVariants as shape
 use Rattle.stations.specs.declared.sender.TheConstants.{MAX_STAY_SUM, MAX_EVENT_TIMES, MAX_SENDS}
 use Rattle.stations.proofs.Lawful.{site_valid}
-use Rattle.exact_words.specs.Forms.{line_of}
-use Rattle.exact_words.specs.Texts.{ended}
+use Rattle.snapshot_lines.specs.Forms.{line_of}
+use Rattle.snapshot_lines.specs.Texts.{ended}
 use Rattle.snapshot_lines.specs.declared.numbers.TheConstants.{MAX_STAY}
 use Rattle.snapshot_lines.specs.Grammar.{end_form, job_word, message_line, number_word, payload_form}
 use Rattle.snapshot_lines.specs.Grammar.{pending_line, shape_form, station_line, trace_line}
-use Rattle.resume_laws.specs.RunKeeps.{completions_to}
-use Rattle.resume_laws.specs.Tally.{tally}
+use Rattle.checkpoint.specs.RunKeeps.{completions_to}
+use Rattle.checkpoint.specs.Tally.{tally}
 use Rattle.checkpoint.specs.Accepted.{IsAccepted, first_unfit, fits_end}
 use Rattle.checkpoint.specs.Due.{comes_after, first_bad, is_sayable_payload, may_be_due, may_carry, next_in, next_of}
 use Rattle.checkpoint.specs.Snapshots.{SnapshotView}

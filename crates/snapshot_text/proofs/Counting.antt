@@ -14,9 +14,9 @@ use Rattle.net_model.specs.declared.limits.TheConstants.{MAX_STATIONS}
 use Rattle.net_model.specs.Net.{Net}
 use Rattle.stations.specs.Fitting.{fits_saved}
 use Rattle.stations.specs.declared.saved.Saved.{Saved}
-use Rattle.resume_laws.specs.RunKeeps.{completions_in, completions_to}
-use Rattle.resume_laws.specs.Tally.{tally}
-use Rattle.resume_laws.proofs.Tallying.{tally-append}
+use Rattle.checkpoint.specs.RunKeeps.{completions_in, completions_to}
+use Rattle.checkpoint.specs.Tally.{tally}
+use Rattle.checkpoint.proofs.Tallying.{tally-append}
 use Rattle.checkpoint.specs.Accepted.{first_unfit}
 use Rattle.checkpoint.specs.Due.{first_bad, may_be_due, may_carry, next_in, next_of}
 use Rattle.snapshot_text.specs.Counts.{HasCounts, is_in_time}

@@ -12,8 +12,8 @@ use Rattle.std.proofs.lemmas.Option.{same_Some}
 use Rattle.decision_script.specs.declared.number.TheConstants.{MAX_NUMBER}
 use Rattle.net_model.specs.Net.{Net}
 use Rattle.stations.specs.declared.saved.Saved.{Saved}
-use Rattle.exact_words.specs.Forms.{line_of, line_says}
-use Rattle.exact_words.specs.Texts.{Leads}
+use Rattle.snapshot_lines.specs.Forms.{line_of, line_says}
+use Rattle.snapshot_lines.specs.Texts.{Leads}
 use Rattle.snapshot_lines.specs.Grammar.{head_line, station_line, pending_line, message_line, trace_line}
 use Rattle.snapshot_lines.specs.declared.read_lines.Head.{Head}
 use Rattle.snapshot_lines.proofs.ExactLines.{line-head, line-message, line-pending, line-station, line-trace}

@@ -3,8 +3,8 @@ use Rattle.std.proofs.Common.{◌≡◌, ℕ, ◌+◌, ◌==◌, Bool, List, [],
 use Rattle.std.proofs.Common.{Option, Some, None, Ok, Err}
 use Rattle.std.specs.Prelude.{◌&&◌, if◌then◌else◌, option_map}
 use Rattle.std.specs.List.{slice_split}
-use Rattle.exact_words.specs.Texts.{is_newline, or_line, read_parts}
-use Rattle.exact_words.proofs.ExactTexts.{first-part}
+use Rattle.snapshot_lines.specs.Texts.{is_newline, or_line, read_parts}
+use Rattle.snapshot_lines.proofs.ExactTexts.{first-part}
 
 module _ {S : Type 0} (step : S → List ℕ → Option S) (ends : S → Bool) where
   parts-line : (n : ℕ) (s : S) (rest first more : List ℕ)

@@ -12,10 +12,10 @@ use Rattle.decision_script.specs.declared.number.TheConstants.{MAX_NUMBER}
 use Rattle.net_model.specs.Net.{Net}
 use Rattle.net_model.specs.Rules.{IsNet}
 use Rattle.stations.specs.declared.saved.Saved.{Saved}
-use Rattle.exact_words.specs.Forms.{Form, WritesOnly, line_of}
-use Rattle.exact_words.specs.Texts.{IsOneLine, ended, is_newline, read_text}
-use Rattle.exact_words.proofs.ExactTexts.{lines-are_read, text-of_lines}
-use Rattle.exact_words.proofs.Written.{joined_words-only}
+use Rattle.snapshot_lines.specs.Forms.{Form, WritesOnly, line_of}
+use Rattle.snapshot_lines.specs.Texts.{IsOneLine, ended, is_newline, read_text}
+use Rattle.snapshot_lines.proofs.ExactTexts.{lines-are_read, text-of_lines}
+use Rattle.snapshot_lines.proofs.Written.{joined_words-only}
 use Rattle.snapshot_lines.specs.Grammar.{head_line, station_line, pending_line, message_line, trace_line}
 use Rattle.snapshot_lines.proofs.ExactLines.{is_visible, line-head, line-message, line-pending, line-station}
 use Rattle.snapshot_lines.proofs.ExactLines.{line-trace}

@@ -7,8 +7,8 @@ use Rattle.std.proofs.lemmas.Grind.{flat_map-append}
 use Rattle.std.proofs.lemmas.List.{drop_more, length-append}
 use Rattle.net_model.specs.Net.{Net}
 use Rattle.stations.specs.declared.saved.Saved.{Saved}
-use Rattle.exact_words.specs.Forms.{line_of}
-use Rattle.exact_words.specs.Texts.{ended}
+use Rattle.snapshot_lines.specs.Forms.{line_of}
+use Rattle.snapshot_lines.specs.Texts.{ended}
 use Rattle.snapshot_lines.specs.Grammar.{head_line, message_line, pending_line, station_line, trace_line}
 use Rattle.checkpoint.specs.Snapshots.{SnapshotView}
 use Rattle.checkpoint.specs.TraceLines.{lines_text}

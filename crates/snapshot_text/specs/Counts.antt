@@ -4,8 +4,8 @@ use Rattle.sim_base.specs.declared.message.Msg.{Msg}
 use Rattle.net_model.specs.declared.limits.TheConstants.{MAX_STATIONS}
 use Rattle.net_model.specs.Net.{Net}
 use Rattle.stations.specs.declared.sender.TheConstants.{MAX_EVENT_TIMES}
-use Rattle.resume_laws.specs.RunKeeps.{completions_to}
-use Rattle.resume_laws.specs.Tally.{tally}
+use Rattle.checkpoint.specs.RunKeeps.{completions_to}
+use Rattle.checkpoint.specs.Tally.{tally}
 use Rattle.checkpoint.specs.Due.{comes_after}
 
 -- whether a message comes after the last one, not before the front, and not too late

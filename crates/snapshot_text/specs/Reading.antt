@@ -5,8 +5,8 @@ use Rattle.sim_base.specs.declared.limits.TheConstants.{MAX_FILE_BYTES}
 use Rattle.sim_base.specs.declared.message.Msg.{Msg}
 use Rattle.net_model.specs.Net.{Net}
 use Rattle.stations.specs.declared.saved.Saved.{Saved}
-use Rattle.exact_words.specs.Forms.{line_says}
-use Rattle.exact_words.specs.Texts.{read_text}
+use Rattle.snapshot_lines.specs.Forms.{line_says}
+use Rattle.snapshot_lines.specs.Texts.{read_text}
 use Rattle.snapshot_lines.specs.Grammar.{head_line, station_line, pending_line, message_line, trace_line}
 use Rattle.snapshot_lines.specs.declared.read_lines.Head.{Head}
 use Rattle.checkpoint.specs.Accepted.{first_unfit, fits_front}

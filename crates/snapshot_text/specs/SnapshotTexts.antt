@@ -4,8 +4,8 @@ use Rattle.std.specs.List.{flat_map, list_all}
 use Rattle.decision_script.specs.declared.number.TheConstants.{MAX_NUMBER}
 use Rattle.net_model.specs.Net.{Net, site_of}
 use Rattle.stations.specs.declared.saved.Saved.{Saved}
-use Rattle.exact_words.specs.Forms.{line_of}
-use Rattle.exact_words.specs.Texts.{ended}
+use Rattle.snapshot_lines.specs.Forms.{line_of}
+use Rattle.snapshot_lines.specs.Texts.{ended}
 use Rattle.snapshot_lines.specs.Grammar.{head_line, station_line, pending_line, message_line, trace_line}
 use Rattle.snapshot_lines.specs.declared.read_lines.Head.{Head}
 use Rattle.checkpoint.specs.Snapshots.{SnapshotView}

@@ -4,7 +4,7 @@ ghost use Rattle.std.specs.Prelude.{IfSome, IsTrue};
 ghost use Rattle.net_model.specs.Net.{HasStation};
 ghost use Rattle.net_model.specs.Rules.{IsNet};
 ghost use Rattle.net_model.specs.declared.limits.TheConstants.{MAX_STATIONS};
-ghost use Rattle.resume_laws.specs.RunKeeps.{completions_to};
+ghost use Rattle.checkpoint.specs.RunKeeps.{completions_to};
 ghost use Rattle.checkpoint.specs.Accepted.{first_unfit as first_unfit', fits_end as fits_end'};
 ghost use Rattle.checkpoint.specs.Accepted.{fits_front as fits_front'};
 ghost use Rattle.checkpoint.specs.Due.{busy_shape, comes_after as comes_after', first_bad as first_bad'};

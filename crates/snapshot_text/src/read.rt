@@ -2,7 +2,7 @@
 ghost use Rattle.std.specs.Prelude.{◌≡◌, ◌≢◌, ◌≤◌, length, Some, None, Ok, Err, IfOk, IfErr, MatchBool};
 ghost use Rattle.sim_base.specs.declared.limits.TheConstants.{MAX_FILE_BYTES};
 ghost use Rattle.net_model.specs.Rules.{IsNet};
-ghost use Rattle.exact_words.specs.Texts.{read_text};
+ghost use Rattle.snapshot_lines.specs.Texts.{read_text};
 ghost use Rattle.checkpoint.specs.Accepted.{IsAccepted};
 ghost use Rattle.snapshot_text.specs.Reading.{ends, if_accepted, of_lines, snapshot, step};
 ghost use Rattle.snapshot_text.specs.SnapshotTexts.{IsSayable};

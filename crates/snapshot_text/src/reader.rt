@@ -5,7 +5,7 @@ ghost use Rattle.std.specs.List.{list_all};
 ghost use Rattle.std.specs.Prelude.{OnOk, ◌+◌, ◌≤◌, ◌^◌, ◌==◌, if◌then◌else◌};
 ghost use Rattle.net_model.specs.Net.{HasStation};
 ghost use Rattle.net_model.specs.declared.limits.TheConstants.{MAX_LINKS};
-ghost use Rattle.exact_words.specs.Forms.{line_says};
+ghost use Rattle.snapshot_lines.specs.Forms.{line_says};
 ghost use Rattle.snapshot_lines.specs.Grammar.{head_line, message_line, pending_line, station_line, trace_line};
 ghost use Rattle.checkpoint.specs.TraceLines.{is_printed as is_printed', is_trace_line as is_trace_line'};
 ghost use Rattle.snapshot_text.specs.Reading.{after_line, at_lines, at_messages, begun, may_end, with_line};

@@ -1,8 +1,8 @@
 //! Writes a snapshot's text, and measures it before.
 ghost use Rattle.std.specs.Prelude.{◌≡◌, ◌^◌, ◌<◌, ◌≤◌, ◌++◌, length, map, IfOk, OnOk};
 ghost use Rattle.std.specs.List.{flat_map};
-ghost use Rattle.exact_words.specs.Forms.{line_of};
-ghost use Rattle.exact_words.specs.Texts.{ended};
+ghost use Rattle.snapshot_lines.specs.Forms.{line_of};
+ghost use Rattle.snapshot_lines.specs.Texts.{ended};
 ghost use Rattle.net_model.specs.declared.limits.TheConstants.{MAX_STATIONS};
 ghost use Rattle.snapshot_lines.specs.Grammar.{message_line};
 ghost use Rattle.snapshot_text.specs.SnapshotTexts.{head_of, station_lines, text_of};

@@ -27,6 +27,8 @@
 //! It is the reference for all sharing: `run_to` reaches exactly the run of the clone by the definitions (`ok`). If a
 //! station would handle more messages than the limit, it names the station of the first such message (`stops`). The
 //! cost of a clone here is its share of *alone* in a report.
+//!
+//! The tests are in `base_tests`.
 #![tactic(auto)]
 
 mod event_list;

@@ -31,6 +31,8 @@
 //! station and clone whose log would get longer than the limit. Delivery gives each station exactly the messages for
 //! it, in the order of the senders. Contracts describe a station together with its mail, whether or not its copies have
 //! taken it.
+//!
+//! The tests are in `engine_tests`.
 #![tactic(auto)]
 
 pub mod delivery;

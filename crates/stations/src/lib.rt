@@ -31,6 +31,8 @@
 //! Every simulator of this project computes with `handle`, whose contract is the definition in `specs/Handling.antt`.
 //! `laws` has the laws that sharing copies rests on, for every valid network. The state of a station is the replay of
 //! its log. Sends come later, and over links by at least the lookahead. No sequence number is used twice.
+//!
+//! The tests are in `base_tests`.
 #![tactic(auto)]
 
 pub mod change;

@@ -25,6 +25,8 @@
 //! Cost: one walk over the wards and one over the plans; the two texts have less than 3,000 bytes together. Promise:
 //! for every number, no decision of the script is refused, and it leaves a clone for each plan
 //! (`decisions_are_accepted`).
+//!
+//! The tests are in `base_tests`.
 #![tactic(auto)]
 
 pub mod examples;

@@ -11,13 +11,13 @@ use Rattle.net_model.specs.Net.{Net}
 use Rattle.run_laws.specs.Handlers.{AllAreForStations}
 use Rattle.run_laws.specs.Simulation.{Simulation}
 use Rattle.stations.specs.Runs.{simulation}
-use Rattle.watch_laws.specs.Branches.{Branch, HaveNewNames, TargetsAreStations, Trigger, branch_by, branches_at}
-use Rattle.watch_laws.specs.Branches.{initial_branch, with_branch}
-use Rattle.watch_laws.specs.Keeping.{trigger_order}
-use Rattle.watch_laws.specs.Laws.{DueAtFront}
-use Rattle.watch_laws.specs.PassLaws.{SameOrLate}
-use Rattle.watch_laws.proofs.Branches.{AgreeSoFar, FrontPair, agree-initial, agree-next, branch_by-same_or_late}
-use Rattle.watch_laws.proofs.Keeping.{clones_in_trigger_order}
+use Rattle.watch_points.specs.Branches.{Branch, HaveNewNames, TargetsAreStations, Trigger, branch_by, branches_at}
+use Rattle.watch_points.specs.Branches.{initial_branch, with_branch}
+use Rattle.watch_points.specs.Keeping.{trigger_order}
+use Rattle.watch_points.specs.BranchLaws.{DueAtFront}
+use Rattle.watch_points.specs.PassLaws.{SameOrLate}
+use Rattle.watch_points.proofs.Branches.{AgreeSoFar, FrontPair, agree-initial, agree-next, branch_by-same_or_late}
+use Rattle.watch_points.proofs.Keeping.{clones_in_trigger_order}
 use Rattle.watch_points.specs.Progress.{places_of}
 use Rattle.watch_points.specs.Triggers.{clones_with_branches}
 use Rattle.watch_points.specs.Watchers.{Follows, WatcherView, active_triggers, progress_of, watches_of}

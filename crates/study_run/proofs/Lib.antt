@@ -13,3 +13,8 @@ pub mod WatchedWindows
 pub mod WatchedWhole
 pub mod Rounds
 pub mod LinkedWhole
+pub mod Sayable
+pub mod SavedRuns
+pub mod SavedPasts
+pub mod Resumed
+pub mod PlannedScripts

@@ -11,3 +11,9 @@ pub mod Linking
 pub mod Stops
 pub mod Watching
 pub mod Reports
+pub mod SayableRuns
+pub mod Writing
+pub mod Saving
+pub mod SavedRunLaws
+pub mod ScriptLaws
+pub mod SavedExamples

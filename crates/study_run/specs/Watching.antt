@@ -4,7 +4,7 @@ use Rattle.sim_base.specs.Clones.{Clone}
 use Rattle.net_model.specs.Net.{Net}
 use Rattle.run_laws.specs.Handlers.{AllAreForStations}
 use Rattle.stations.specs.Runs.{simulation}
-use Rattle.watch_laws.specs.Orders.{IsPlaceOrder, in_order}
+use Rattle.run_laws.specs.Orders.{IsPlaceOrder, in_order}
 use Rattle.world_core.specs.Worlds.{WorldView, total_handled}
 use Rattle.study_run.specs.Limits.{AreWithin}
 use Rattle.study_run.specs.declared.fault.StudyFault.{StudyFault}

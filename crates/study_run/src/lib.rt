@@ -18,6 +18,8 @@
 //! let watched = run_watched(&rt, alloc, workers, &NoGate, &model, book.calls(), &watches, &mut steps)?;
 //! ```
 //!
+//! `saving` runs one clone of a study alone until a time, and writes the text of its snapshot.
+//!
 //! Cost: one step for each message that is handled, once for all clones that share it, and the memory of the world. A
 //! clone alone costs one step for each message of its trace. Watches cost what `watch_points` says. A round checks each
 //! station and link once. The driver starts threads (a crew) when a window was large, or when two stations have
@@ -39,6 +41,8 @@
 //! - *Rounds*: the world is that of `run_study`, and the number of rounds is the network's own. It depends only on the
 //!   links and the horizon, and is at most the horizon over the lookahead, rounded down, plus one. If the limit is met,
 //!   the fault names a log that is beyond it at the horizon.
+//!
+//! The tests are in `engine_tests`.
 #![tactic(auto)]
 
 pub mod alone;
@@ -52,6 +56,9 @@ pub mod linked_study;
 pub mod onwards;
 pub mod plain;
 pub mod report;
+pub mod saved_examples;
+pub mod saved_laws;
+pub mod saving;
 pub mod study;
 pub mod watched;
 pub mod watched_study;
@@ -65,6 +72,7 @@ pub use linked_study::{LinkedWorld, run_linked, run_linked_sequentially};
 pub use onwards::Onwards;
 pub use plain::PlainRun;
 pub use report::make_report;
+pub use saving::{SaveFault, save_alone};
 pub use study::{run_study, run_study_sequentially};
 pub use watched::WatchedRun;
 pub use watched_study::{WatchedWorld, run_watched, run_watched_sequentially};

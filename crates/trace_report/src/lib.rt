@@ -29,6 +29,8 @@
 //! out of memory is the only error.
 //!
 //! The promise: **every trace and the report are right**. Each text is exactly what the definitions name.
+//!
+//! The tests are in `base_tests`.
 #![tactic(auto)]
 
 mod digits;

@@ -3,8 +3,8 @@ use Rattle.std.proofs.Common.{◌≡◌, ℕ, ◌<◌, ◌≤◌, List, [], ◌�
 use Rattle.std.specs.List.{AllByRecursion}
 use Rattle.std.proofs.lemmas.List.{flat_map_more}
 use Rattle.net_model.specs.Net.{Net}
-use Rattle.log_merge.specs.Cursors.{IsNextWord}
-use Rattle.log_merge.specs.Words.{word_of}
+use Rattle.trace_writer.specs.Cursors.{IsNextWord}
+use Rattle.trace_writer.specs.Words.{word_of}
 use Rattle.trace_report.specs.TraceText.{entry_line}
 use Rattle.trace_writer.specs.Pages.{IsBelow, IsPast, IsPage}
 use Rattle.trace_writer.proofs.Marks.{E}

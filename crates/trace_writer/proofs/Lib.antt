@@ -14,3 +14,9 @@ pub mod Keeping
 pub mod PageLines
 pub mod LinePuts
 pub mod PartPuts
+pub mod Nodes
+pub mod Merged
+pub mod Popping
+pub mod Stepping
+pub mod Fixing
+pub mod Searching

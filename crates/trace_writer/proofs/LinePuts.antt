@@ -13,10 +13,10 @@ use Rattle.stations.specs.Runs.{trace_of}
 use Rattle.stations.proofs.GoodLaws.{lawful-stations, stations-to_stations, fresh-stations}
 use Rattle.trace_report.specs.TraceText.{entry_line}
 use Rattle.world_core.specs.Worlds.{AreInNet}
-use Rattle.beginning_laws.specs.Beginnings.{before, from}
-use Rattle.beginning_laws.proofs.Parts.{before_from}
-use Rattle.beginning_laws.proofs.Traces.{beginning_is_same}
-use Rattle.log_merge.specs.Words.{entry_word, first_word}
+use Rattle.run_laws.specs.Beginnings.{before, from}
+use Rattle.run_laws.proofs.BeginningParts.{before_from}
+use Rattle.run_laws.proofs.BeginningTraces.{beginning_is_same}
+use Rattle.trace_writer.specs.Words.{entry_word, first_word}
 use Rattle.trace_writer.specs.Kept.{lines_before, lines_text, trace_before, HasFirstLines, IsPutTo}
 use Rattle.trace_writer.specs.Pages.{IsPast}
 use Rattle.trace_writer.specs.Puts.{IsPartPut, IsCutOff}

@@ -22,9 +22,9 @@ use Rattle.stations.specs.Runs.{simulation, trace_of, log_at}
 use Rattle.stations.proofs.GoodLaws.{lawful-stations, stations-to_stations, fresh-stations}
 use Rattle.stations.proofs.KeyLaws.{log_keys-small}
 use Rattle.log_chain.specs.Packing.{FitWords}
-use Rattle.log_merge.specs.Words.{by_key, entry_word, IsInOrder}
-use Rattle.beginning_laws.specs.Beginnings.{from, merge_from, Rise}
-use Rattle.beginning_laws.proofs.Traces.{all_filter, merged_from}
+use Rattle.trace_writer.specs.Words.{by_key, entry_word, IsInOrder}
+use Rattle.run_laws.specs.Beginnings.{from, merge_from, Rise}
+use Rattle.run_laws.proofs.BeginningTraces.{all_filter, merged_from}
 use Rattle.trace_writer.proofs.Marks.{E}
 
 -- ---- entry_word

@@ -12,7 +12,7 @@ use Rattle.sim_base.proofs.ListLaws.{all_append, all_weaker}
 use Rattle.run_laws.proofs.Queue.{all_from}
 use Rattle.run_laws.proofs.Lists.{filter_none}
 use Rattle.net_model.specs.Net.{Net}
-use Rattle.log_merge.specs.Words.{entry_word}
+use Rattle.trace_writer.specs.Words.{entry_word}
 use Rattle.trace_writer.specs.Kept.{lines_before, lines_text, IsMarkOf, AreMarksOf, IsMarked}
 use Rattle.trace_writer.specs.declared.texts.Mark.{Mark}
 

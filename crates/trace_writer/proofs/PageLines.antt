@@ -15,10 +15,10 @@ use Rattle.run_laws.proofs.Lists.{filter_all, filter_none}
 use Rattle.run_laws.proofs.Queue.{all_in}
 use Rattle.net_model.specs.Net.{Net}
 use Rattle.trace_report.specs.TraceText.{entry_line}
-use Rattle.beginning_laws.specs.Beginnings.{before, Rise}
-use Rattle.log_merge.specs.Cursors.{IsNextWord}
-use Rattle.log_merge.specs.Words.{entry_word}
-use Rattle.log_merge.specs.declared.tree.TheConstants.{NO_WORD}
+use Rattle.run_laws.specs.Beginnings.{before, Rise}
+use Rattle.trace_writer.specs.Cursors.{IsNextWord}
+use Rattle.trace_writer.specs.Words.{entry_word}
+use Rattle.trace_writer.specs.declared.tree.TheConstants.{NO_WORD}
 use Rattle.trace_writer.specs.Kept.{lines_text, AreMarksOf, HasFirstLines, IsPageKept, IsPutTo}
 use Rattle.trace_writer.specs.Kept.{HasSameLines}
 use Rattle.trace_writer.specs.Pages.{IsBelow, IsPage, IsPast, reached}

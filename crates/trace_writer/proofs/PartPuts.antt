@@ -14,9 +14,9 @@ use Rattle.run_laws.proofs.Lists.{filter_none, filter_swap, in_filter}
 use Rattle.run_laws.proofs.Queue.{all_from}
 use Rattle.net_model.specs.Net.{Net}
 use Rattle.trace_report.specs.TraceText.{entry_line}
-use Rattle.beginning_laws.specs.Beginnings.{before, from, Rise}
-use Rattle.beginning_laws.proofs.Parts.{before_before, before_from, from_from, parts_join, rise_filter}
-use Rattle.log_merge.specs.Words.{entry_word}
+use Rattle.run_laws.specs.Beginnings.{before, from, Rise}
+use Rattle.run_laws.proofs.BeginningParts.{before_before, before_from, from_from, parts_join, rise_filter}
+use Rattle.trace_writer.specs.Words.{entry_word}
 use Rattle.trace_writer.specs.Batches.{AreMade}
 use Rattle.trace_writer.specs.Kept.{AreMarksOf, CanPut, HasSameLines, IsPageKept, lines_before, lines_text}
 use Rattle.trace_writer.specs.Pages.{IsPast}

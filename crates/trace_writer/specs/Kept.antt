@@ -8,8 +8,8 @@ use Rattle.sim_base.specs.declared.message.Msg.{Msg}
 use Rattle.net_model.specs.Net.{Net}
 use Rattle.sim_outer.specs.Views.{SinkView}
 use Rattle.stations.specs.Runs.{trace_of}
-use Rattle.beginning_laws.specs.Beginnings.{before}
-use Rattle.log_merge.specs.Words.{entry_word}
+use Rattle.run_laws.specs.Beginnings.{before}
+use Rattle.trace_writer.specs.Words.{entry_word}
 use Rattle.trace_report.specs.TraceText.{entry_line}
 use Rattle.trace_report.specs.declared.line.TheConstants.{MAX_LINE}
 use Rattle.trace_writer.specs.Puts.{IsPartPut}

@@ -7,3 +7,7 @@ pub mod Parts
 pub mod Batches
 pub mod Texts
 pub mod Puts
+pub mod Tournament
+pub mod FixedTrees
+pub mod Words
+pub mod Cursors

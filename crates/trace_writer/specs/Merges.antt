@@ -1,5 +1,5 @@
 -- The merge of a clone's logs.
-use Rattle.log_merge.specs.Cursors.{CursorView}
+use Rattle.trace_writer.specs.Cursors.{CursorView}
 use Rattle.trace_writer.specs.declared.merge.AnyCursor.{AnyCursor}
 use Rattle.trace_writer.specs.declared.merge.AnyCursor.TheVariants.{Small, Middle, Large}
 

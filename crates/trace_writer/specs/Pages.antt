@@ -7,7 +7,7 @@ use Rattle.sim_base.specs.declared.entry.Line.{Line}
 use Rattle.sim_base.specs.declared.message.Msg.{Msg}
 use Rattle.sim_base.specs.declared.message.TheConstants.{WORD_PLACES}
 use Rattle.net_model.specs.Net.{Net}
-use Rattle.log_merge.specs.Words.{entry_word, word_of}
+use Rattle.trace_writer.specs.Words.{entry_word, word_of}
 use Rattle.trace_report.specs.TraceText.{entry_line}
 
 -- an entry whose word is below a limit, at the place of its log

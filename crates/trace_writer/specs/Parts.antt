@@ -2,8 +2,8 @@
 use Rattle.std.specs.Prelude.{◌≡◌, ℕ, ◌%◌, ◌<◌, ◌≤◌, List, [], ◌∷◌, length}
 use Rattle.sim_base.specs.declared.message.TheConstants.{WORD_PLACES}
 use Rattle.sim_outer.specs.Views.{SinkView}
-use Rattle.beginning_laws.specs.Beginnings.{before, from}
-use Rattle.log_merge.specs.Words.{entry_word}
+use Rattle.run_laws.specs.Beginnings.{before, from}
+use Rattle.trace_writer.specs.Words.{entry_word}
 use Rattle.trace_writer.specs.Kept.{lines_text}
 use Rattle.trace_writer.specs.Puts.{IsPartPut}
 use Rattle.trace_writer.specs.Rests.{MayPut, trace_at}

@@ -7,8 +7,8 @@ use Rattle.sim_base.specs.declared.message.Msg.{Msg}
 use Rattle.sim_base.specs.declared.message.TheConstants.{WORD_PLACES}
 use Rattle.sim_outer.specs.Views.{SinkView}
 use Rattle.stations.specs.Runs.{trace_of}
-use Rattle.beginning_laws.specs.Beginnings.{from}
-use Rattle.log_merge.specs.Words.{entry_word}
+use Rattle.run_laws.specs.Beginnings.{from}
+use Rattle.trace_writer.specs.Words.{entry_word}
 use Rattle.trace_writer.specs.Kept.{AreMarksOf, CanPut, lines_before, lines_text}
 use Rattle.trace_writer.specs.Puts.{IsCutOff, IsPartPut}
 use Rattle.trace_writer.specs.WorldTraces.{WorldTracesView}

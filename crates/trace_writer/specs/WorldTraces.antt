@@ -7,7 +7,7 @@ use Rattle.net_model.specs.Net.{Net}
 use Rattle.net_model.specs.Rules.{IsNet}
 use Rattle.trace_report.specs.Slots.{AreNames}
 use Rattle.trace_report.specs.declared.names.Slot.{Slot}
-use Rattle.watch_laws.specs.Orders.{IsPlaceOrder, in_order}
+use Rattle.run_laws.specs.Orders.{IsPlaceOrder, in_order}
 use Rattle.world_core.specs.Overs.{NoneBeyond}
 use Rattle.world_core.specs.Worlds.{AreInNet, WorldView}
 use Rattle.trace_writer.specs.declared.text_order.TextOrder.{TextOrder}

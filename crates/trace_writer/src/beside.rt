@@ -9,6 +9,7 @@ ghost use Rattle.trace_writer.specs.Rests.{MayPut, PutsRest, rest_lines};
 
 use crate::batches::{Batch, Makers};
 use crate::cuts::cuts_from;
+use crate::first_word;
 use crate::kept::keep_page;
 use crate::making::MadePart;
 use crate::rest_putter::RestPutter;
@@ -16,7 +17,6 @@ use crate::text_order::place_in;
 use crate::text_rest::{TextRest, put_rest};
 use crate::texts::Texts;
 use crate::world_traces::WorldTraces;
-use log_merge::first_word;
 use sim_outer::{PutFailed, Sink};
 use std::alloc::Global;
 use std::sync::Wait;

@@ -4,7 +4,7 @@ ghost use Rattle.sim_base.specs.declared.message.TheConstants.{WORD_PLACES};
 
 use crate::text_order::place_in;
 use crate::world_traces::WorldTraces;
-use log_merge::{place_of_word, word_at};
+use crate::{place_of_word, word_at};
 use sim_base::message::WORD_PLACES;
 
 // The approximate number of lines of a part: its task costs little compared to them, and its buffer stays in the cache.

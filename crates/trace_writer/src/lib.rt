@@ -18,7 +18,7 @@
 //! ```
 //!
 //! A text is put in one call, in parts. First come the name line and the kept lines. Then the logs of all stations are
-//! merged from there on ([`log_merge`]), and their lines are written into a page of 32 KB, which is put when it is
+//! merged from there on ([`cursor`]), and their lines are written into a page of 32 KB, which is put when it is
 //! full. Lines that the next text begins with are also appended to the kept ones. A *mark* says that the kept lines up
 //! to some byte are those of the entries before some word. There is one at the end of each page and of the kept lines.
 //! The next text keeps the lines before the last mark that is not after its own parting. So a mark is a hint: without
@@ -46,12 +46,15 @@
 //! The promise: **each text is the trace of its clone simulated alone**, byte for byte, and the texts are in the
 //! requested order. The texts need no memory once the first part is put, so out of memory can occur only before any
 //! output.
+//!
+//! The tests are in `base_tests`.
 #![tactic(auto)]
 
 mod alone;
 mod batches;
 mod beside;
 mod bounds;
+pub mod cursor;
 mod cuts;
 mod kept;
 pub mod laws;
@@ -65,9 +68,14 @@ mod rest_putter;
 mod text_order;
 mod text_rest;
 mod texts;
+pub mod tree;
+pub mod words;
 mod world_traces;
 
 pub use alone::put_alone;
+pub use cursor::Cursor;
 pub use putting::{put_texts, put_texts_sequentially};
 pub use texts::{Texts, prepare};
+pub use tree::{NO_WORD, Tree};
+pub use words::{first_word, place_of_word, walk_from_word, word_at};
 pub use world_traces::WorldTraces;

@@ -3,17 +3,17 @@ ghost use Rattle.std.specs.Prelude.{◌≡◌, ◌+◌, ◌%◌, ◌<◌, ◌≤
 ghost use Rattle.sim_base.specs.declared.message.TheConstants.{WORD_PLACES};
 ghost use Rattle.run_laws.specs.Merges.{merge};
 ghost use Rattle.log_chain.specs.Packing.{FitWords};
-ghost use Rattle.log_merge.specs.Cursors.{IsNextWord};
-ghost use Rattle.log_merge.specs.Words.{by_key};
+ghost use Rattle.trace_writer.specs.Cursors.{IsNextWord};
+ghost use Rattle.trace_writer.specs.Words.{by_key};
 ghost use Rattle.trace_report.specs.Slots.{AreNames};
 ghost use Rattle.trace_report.specs.declared.line.TheConstants.{MAX_LINE};
 ghost use Rattle.trace_writer.specs.Merges.{cursor_in};
 ghost use Rattle.trace_writer.specs.Pages.{IsPage, IsPast, reached};
 ghost use Rattle.trace_writer.specs.declared.pages.TheConstants.{PAGE};
 
+use crate::Cursor;
 use crate::pages::fill_page;
 use log_chain::Walk;
-use log_merge::Cursor;
 use net_model::Model;
 use sim_base::NoMemory;
 use sim_base::message::WORD_PLACES;
@@ -38,7 +38,7 @@ pub(crate) struct LogMerge<'a> {
 }
 
 impl<'a> std::marker::Model for LogMerge<'a> {
-    ghost use Rattle.log_merge.specs.Cursors.{CursorView};
+    ghost use Rattle.trace_writer.specs.Cursors.{CursorView};
     ghost use Rattle.trace_writer.specs.Merges.{cursor_in};
 
     ghost Value = { CursorView };

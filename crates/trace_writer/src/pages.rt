@@ -5,7 +5,7 @@ ghost use Rattle.trace_writer.specs.declared.pages.TheConstants.{PAGE};
 ghost use Rattle.trace_report.specs.Slots.{AreNames};
 ghost use Rattle.trace_report.specs.declared.line.TheConstants.{MAX_LINE};
 
-use log_merge::Cursor;
+use crate::Cursor;
 use net_model::Model;
 use trace_report::{MAX_LINE, Names, write_stored};
 

@@ -2,8 +2,8 @@
 ghost use Rattle.std.specs.Prelude.{◌≡◌, ◌<◌, length};
 ghost use Rattle.sim_base.specs.Clones.{clone_at};
 ghost use Rattle.stations.specs.Runs.{trace_of};
-ghost use Rattle.beginning_laws.specs.Beginnings.{from};
-ghost use Rattle.log_merge.specs.Words.{entry_word};
+ghost use Rattle.run_laws.specs.Beginnings.{from};
+ghost use Rattle.trace_writer.specs.Words.{entry_word};
 ghost use Rattle.trace_writer.specs.Rests.{MayPut, PutsRest};
 
 use crate::line_puts::put_lines;
@@ -11,7 +11,7 @@ use crate::merge::LogMerge;
 use crate::text_order::place_in;
 use crate::texts::Texts;
 use crate::world_traces::WorldTraces;
-use log_merge::{first_word, walk_from_word};
+use crate::{first_word, walk_from_word};
 use sim_outer::{PutFailed, Sink};
 
 /// The rest of a text: the lines of a clone from a word on.

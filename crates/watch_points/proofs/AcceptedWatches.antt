@@ -23,7 +23,7 @@ use Rattle.decision_book.specs.declared.call.Reply.TheVariants.{Accepted, Ended,
 use Rattle.decision_book.specs.declared.call.Reply.TheVariants.{TooManyClones, UnknownStation, WrongParameter}
 use Rattle.decision_book.specs.declared.call.Reply.TheVariants.{ListFull}
 use Rattle.decision_book.proofs.Rows.{first_row-Accepted}
-use Rattle.watch_laws.specs.Branches.{HaveNewNames}
+use Rattle.watch_points.specs.Branches.{HaveNewNames}
 use Rattle.watch_points.specs.Checking.{watched_clone, script_clone, branch_clone, is_taken, is_server, server_row}
 use Rattle.watch_points.specs.Checking.{clone_rows, watch_rows, watch_reply, if_accepted, fit_after}
 use Rattle.watch_points.specs.FittingWatches.{AcceptedWatchesFit, FitsAfter, IsWatchable}

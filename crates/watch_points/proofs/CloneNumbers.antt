@@ -14,12 +14,12 @@ use Rattle.sim_base.proofs.ListLaws.{slice_get-map_some}
 use Rattle.net_model.specs.Net.{Net}
 use Rattle.run_laws.proofs.Lists.{in_append}
 use Rattle.stations.specs.Runs.{simulation}
-use Rattle.watch_laws.specs.Branches.{Branch, Trigger, branches_at, initial_branch, present}
-use Rattle.watch_laws.specs.Keeping.{IsPlaced, option_at, outcome_at, trigger_order}
-use Rattle.watch_laws.proofs.Keeping.{present-at, range-below, range-has}
-use Rattle.watch_laws.proofs.Orders.{in_permuted}
-use Rattle.watch_laws.proofs.Sources.{branch_by-name}
-use Rattle.watch_laws.proofs.Steps.{outcomes-at}
+use Rattle.watch_points.specs.Branches.{Branch, Trigger, branches_at, initial_branch, present}
+use Rattle.watch_points.specs.Keeping.{IsPlaced, option_at, outcome_at, trigger_order}
+use Rattle.watch_points.proofs.Keeping.{present-at, range-below, range-has}
+use Rattle.run_laws.proofs.Orders.{in_permuted}
+use Rattle.watch_points.proofs.BranchSources.{branch_by-name}
+use Rattle.watch_points.proofs.BranchSteps.{outcomes-at}
 use Rattle.watch_points.specs.CloneNumbers.{IsPlaceOf, NamesClone, NumbersNameClones, clone_number, is_made_at}
 use Rattle.watch_points.specs.CloneNumbers.{maker_of, new_name}
 use Rattle.watch_points.specs.CloneNumbers.{numbered_name}

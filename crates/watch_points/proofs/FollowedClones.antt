@@ -8,13 +8,13 @@ use Rattle.sim_base.proofs.SameEntry.{same_entry-Decides}
 use Rattle.net_model.specs.Net.{Net}
 use Rattle.run_laws.specs.Handlers.{AllAreForStations, AreForStations}
 use Rattle.stations.specs.Runs.{handled_once, simulation}
-use Rattle.watch_laws.specs.Branches.{initial_branch}
-use Rattle.watch_laws.specs.Keeping.{trigger_order}
-use Rattle.watch_laws.specs.Laws.{AreValidTriggers}
-use Rattle.watch_laws.specs.Orders.{IsPlaceOrder, in_order}
-use Rattle.watch_laws.proofs.Keeping.{clones_in_trigger_order}
-use Rattle.watch_laws.proofs.Limits.{held_clones_stay}
-use Rattle.watch_laws.proofs.Orders.{figures_ignore_order}
+use Rattle.watch_points.specs.Branches.{initial_branch}
+use Rattle.watch_points.specs.Keeping.{trigger_order}
+use Rattle.watch_points.specs.BranchLaws.{AreValidTriggers}
+use Rattle.run_laws.specs.Orders.{IsPlaceOrder, in_order}
+use Rattle.watch_points.proofs.Keeping.{clones_in_trigger_order}
+use Rattle.watch_points.proofs.BranchLimits.{held_clones_stay}
+use Rattle.run_laws.proofs.Orders.{figures_ignore_order}
 use Rattle.watch_points.specs.Laws.{FiguresAreTheSame, FollowedClonesAreInOrder, FollowedClonesStay, OrderHasAllClones}
 use Rattle.watch_points.specs.Laws.{TotalIsTheSame, watch_order}
 use Rattle.watch_points.specs.Progress.{places_of}

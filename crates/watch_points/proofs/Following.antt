@@ -18,14 +18,14 @@ use Rattle.run_laws.specs.Sharing.{handled_once}
 use Rattle.run_laws.specs.CountLaws.{TellsEntries}
 use Rattle.run_laws.proofs.Counts.{map_has}
 use Rattle.run_laws.proofs.HandledStays.{handled-added, handled-forked, log_at-0}
-use Rattle.watch_laws.specs.Due.{due_in}
-use Rattle.watch_laws.specs.Branches.{Branch, Trigger, branches_at, initial_branch}
-use Rattle.watch_laws.specs.Keeping.{HoldsBranches, trigger_order}
-use Rattle.watch_laws.specs.Orders.{in_order}
-use Rattle.watch_laws.specs.PassLaws.{source_at}
-use Rattle.watch_laws.proofs.Bodies.{fork_with_plan}
-use Rattle.watch_laws.proofs.Keeping.{clones_in_trigger_order, holds_at_start, pass_begins, pass_ends}
-use Rattle.watch_laws.proofs.Orders.{in_order-permutation, in_permuted}
+use Rattle.watch_points.specs.Due.{due_in}
+use Rattle.watch_points.specs.Branches.{Branch, Trigger, branches_at, initial_branch}
+use Rattle.watch_points.specs.Keeping.{HoldsBranches, trigger_order}
+use Rattle.run_laws.specs.Orders.{in_order}
+use Rattle.watch_points.specs.PassLaws.{source_at}
+use Rattle.watch_points.proofs.BranchBodies.{fork_with_plan}
+use Rattle.watch_points.proofs.Keeping.{clones_in_trigger_order, holds_at_start, pass_begins, pass_ends}
+use Rattle.run_laws.proofs.Orders.{in_order-permutation, in_permuted}
 use Rattle.watch_points.specs.Passes.{AreFollowed, HavePassed}
 use Rattle.watch_points.specs.Progress.{HasProgress, IsWaiting, made_place, places_of}
 use Rattle.watch_points.specs.declared.watcher.Progress.{Progress}

@@ -7,13 +7,13 @@ use Rattle.sim_base.specs.Clones.{Clone, clone_at, place_of}
 use Rattle.run_laws.specs.Queue.{In}
 use Rattle.run_laws.specs.Simulation.{Simulation}
 use Rattle.run_laws.specs.Handlers.{AreForStations}
-use Rattle.watch_laws.specs.Branches.{Branch, Trigger, initial_branch, branch_named, branches_at, due_time}
-use Rattle.watch_laws.specs.Branches.{HaveNewNames}
-use Rattle.watch_laws.specs.Keeping.{outcome_at}
-use Rattle.watch_laws.specs.Laws.{DueAtFront}
-use Rattle.watch_laws.specs.PassLaws.{SameOrLate, source_at}
-use Rattle.watch_laws.proofs.Sources.{branch_named-script, branch_named-outcome}
-use Rattle.watch_laws.proofs.Steps.{branch_named-branches_at}
+use Rattle.watch_points.specs.Branches.{Branch, Trigger, initial_branch, branch_named, branches_at, due_time}
+use Rattle.watch_points.specs.Branches.{HaveNewNames}
+use Rattle.watch_points.specs.Keeping.{outcome_at}
+use Rattle.watch_points.specs.BranchLaws.{DueAtFront}
+use Rattle.watch_points.specs.PassLaws.{SameOrLate, source_at}
+use Rattle.watch_points.proofs.BranchSources.{branch_named-script, branch_named-outcome}
+use Rattle.watch_points.proofs.BranchSteps.{branch_named-branches_at}
 use Rattle.watch_points.proofs.Seen.{time_before-some}
 
 -- a clone of the first branches has one of the clones' names

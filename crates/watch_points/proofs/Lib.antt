@@ -16,3 +16,12 @@ pub mod MadeBranch
 pub mod Peaks
 pub mod CloneNumbers
 pub mod FirstFaults
+pub mod Due
+pub mod BranchWindows
+pub mod Branches
+pub mod HeldBranches
+pub mod Keeping
+pub mod BranchSteps
+pub mod BranchSources
+pub mod BranchBodies
+pub mod BranchLimits

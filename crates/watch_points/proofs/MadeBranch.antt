@@ -8,7 +8,7 @@ use Rattle.sim_base.specs.declared.entry.Entry.{Entry}
 use Rattle.sim_base.specs.declared.entry.Line.{Line}
 use Rattle.sim_base.specs.declared.message.Msg.{Msg}
 use Rattle.stations.specs.Runs.{log_at}
-use Rattle.watch_laws.specs.Due.{due_in}
+use Rattle.watch_points.specs.Due.{due_in}
 use Rattle.world_core.specs.Worlds.{WorldView}
 use Rattle.watch_points.specs.Progress.{source_place}
 use Rattle.watch_points.specs.Triggers.{enough_wait, time_of}

@@ -16,16 +16,16 @@ use Rattle.run_laws.specs.Simulation.{Simulation}
 use Rattle.run_laws.specs.Runs.{log_at}
 use Rattle.run_laws.specs.Handlers.{AllAreForStations, AreForStations, HandlesLawfully, IsStation}
 use Rattle.run_laws.proofs.Lists.{slice_get-set_same, slice_get-set_other}
-use Rattle.watch_laws.specs.Due.{due_in}
-use Rattle.watch_laws.specs.Branches.{Branch, Trigger, initial_branch, branches_at, due_time, branch_from}
-use Rattle.watch_laws.specs.Branches.{branch_if_due, branch_of}
-use Rattle.watch_laws.specs.Keeping.{HoldsAfter, IsPlaced, option_at, outcome_after, outcome_at}
-use Rattle.watch_laws.specs.Laws.{AreValidTriggers, DueAtFront, DueIsNotLate}
-use Rattle.watch_laws.specs.PassLaws.{Fires, StepHolds, source_at}
-use Rattle.watch_laws.proofs.Keeping.{clones-at_least}
-use Rattle.watch_laws.proofs.Bodies.{pass_goes_on}
-use Rattle.watch_laws.proofs.Steps.{outcome_at-same_or_late, outcome_at-made, outcomes-at}
-use Rattle.watch_laws.proofs.Sources.{branch_by-no_end}
+use Rattle.watch_points.specs.Due.{due_in}
+use Rattle.watch_points.specs.Branches.{Branch, Trigger, initial_branch, branches_at, due_time, branch_from}
+use Rattle.watch_points.specs.Branches.{branch_if_due, branch_of}
+use Rattle.watch_points.specs.Keeping.{HoldsAfter, IsPlaced, option_at, outcome_after, outcome_at}
+use Rattle.watch_points.specs.BranchLaws.{AreValidTriggers, DueAtFront, DueIsNotLate}
+use Rattle.watch_points.specs.PassLaws.{Fires, StepHolds, source_at}
+use Rattle.watch_points.proofs.Keeping.{clones-at_least}
+use Rattle.watch_points.proofs.BranchBodies.{pass_goes_on}
+use Rattle.watch_points.proofs.BranchSteps.{outcome_at-same_or_late, outcome_at-made, outcomes-at}
+use Rattle.watch_points.proofs.BranchSources.{branch_by-no_end}
 use Rattle.watch_points.specs.Passes.{CanBeFollowed, HavePassed, IsFound, IsWindowWith}
 use Rattle.watch_points.specs.Progress.{HasProgress, HaveProgress, IsPastHorizon, IsWaiting, made_branch, made_place}
 use Rattle.watch_points.specs.Progress.{IsSource, places_of, source_place}
@@ -118,7 +118,7 @@ module _ {S M N : Type 0} {sim : Simulation S M N} {Good : ℕ → S → Type 0}
   module _ {i : ℕ} {progress : List Progress} {cs : List Clone}
       (so_far : HavePassed sim script ts front bound i progress cs) (t : Trigger N) (here : slice_get ts i ≡ Some t)
     where
-      -- what watch_laws says of this step
+      -- what branch_laws says of this step
       step : StepHolds sim front bound script ts i t cs (places_of progress)
       step = pass_goes_on pass.known pass.not_late window_clones front bound script ts i t cs (places_of progress)
           (record {

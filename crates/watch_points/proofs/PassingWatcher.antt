@@ -23,10 +23,10 @@ use Rattle.run_laws.proofs.Lists.{slice_get-set_other, slice_get-set_same}
 use Rattle.stations.specs.Good.{IsGood}
 use Rattle.stations.specs.Runs.{handled_once, log_at, simulation}
 use Rattle.stations.proofs.GoodLaws.{fresh-stations, lawful-stations, stations-to_stations}
-use Rattle.watch_laws.specs.Branches.{Branch, Trigger, due_time}
-use Rattle.watch_laws.specs.Due.{due_in}
-use Rattle.watch_laws.specs.Laws.{DueAtFront, DueIsNotLate}
-use Rattle.watch_laws.proofs.Windows.{due_at_front, due_is_not_late}
+use Rattle.watch_points.specs.Branches.{Branch, Trigger, due_time}
+use Rattle.watch_points.specs.Due.{due_in}
+use Rattle.watch_points.specs.BranchLaws.{DueAtFront, DueIsNotLate}
+use Rattle.watch_points.proofs.BranchWindows.{due_at_front, due_is_not_late}
 use Rattle.world_core.specs.Worlds.{WorldView, total_handled}
 use Rattle.watch_points.specs.Passes.{CanBeFollowed, HavePassed, IsFound, IsWindowWith}
 use Rattle.watch_points.specs.Progress.{IsInRange, IsSource, source_place}

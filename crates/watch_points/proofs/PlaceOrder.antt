@@ -6,7 +6,7 @@ use Rattle.std.specs.Prelude.{slice_get}
 use Rattle.std.proofs.lemmas.List.{map-append}
 use Rattle.sim_base.proofs.ListLaws.{range_with_len-suc}
 use Rattle.stations.proofs.Places.{take-next}
-use Rattle.watch_laws.specs.Branches.{present}
+use Rattle.watch_points.specs.Branches.{present}
 use Rattle.watch_points.specs.Progress.{made_branch, made_place, places_of}
 use Rattle.watch_points.specs.Watchers.{progress_of}
 use Rattle.watch_points.specs.declared.watcher.ActiveWatch.{ActiveWatch}

@@ -15,7 +15,7 @@ use Rattle.run_laws.specs.FrontLaws.{time_before}
 use Rattle.run_laws.specs.Handlers.{HandlesLawfully}
 use Rattle.run_laws.proofs.Machine.{reach_keeps}
 use Rattle.run_laws.proofs.Worlds.{run_goes_on, entry_of}
-use Rattle.watch_laws.specs.Due.{due_in}
+use Rattle.watch_points.specs.Due.{due_in}
 
 -- ---- due_in
 

@@ -19,7 +19,7 @@ use Rattle.stations.specs.Runs.{simulation}
 use Rattle.run_laws.proofs.Lists.{slice_get-push}
 use Rattle.stations.proofs.Places.{take-next}
 use Rattle.decision_book.proofs.Planned.{station_named-low}
-use Rattle.watch_laws.specs.Branches.{HaveNewNames, TargetsAreStations, Trigger}
+use Rattle.watch_points.specs.Branches.{HaveNewNames, TargetsAreStations, Trigger}
 use Rattle.watch_points.specs.FittingWatches.{AreFitting, IsWatchable}
 use Rattle.watch_points.specs.Passes.{AreFollowed, CanBeFollowed}
 use Rattle.watch_points.specs.Progress.{HaveSources, IsSource}

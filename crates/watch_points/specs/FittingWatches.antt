@@ -4,7 +4,7 @@ use Rattle.sim_base.specs.Clones.{Clone, clone_at, place_of}
 use Rattle.sim_base.specs.declared.lists.TheConstants.{MAX_CLONES}
 use Rattle.net_model.specs.Net.{Net, site_of, station_named}
 use Rattle.stations.specs.Changes.{accepts}
-use Rattle.watch_laws.specs.Branches.{HaveNewNames}
+use Rattle.watch_points.specs.Branches.{HaveNewNames}
 use Rattle.watch_points.specs.Checking.{fit, is_server}
 use Rattle.watch_points.specs.Triggers.{triggers_of}
 use Rattle.watch_points.specs.declared.watch.Watch.{Watch}

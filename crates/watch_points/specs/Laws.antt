@@ -6,8 +6,8 @@ use Rattle.net_model.specs.Net.{Net}
 use Rattle.run_laws.specs.Handlers.{AllAreForStations}
 use Rattle.run_laws.specs.Queue.{In}
 use Rattle.stations.specs.Runs.{simulation}
-use Rattle.watch_laws.specs.Keeping.{trigger_order}
-use Rattle.watch_laws.specs.Orders.{HaveSameFigures, IsPlaceOrder, in_order}
+use Rattle.watch_points.specs.Keeping.{trigger_order}
+use Rattle.run_laws.specs.Orders.{HaveSameFigures, IsPlaceOrder, in_order}
 use Rattle.world_core.specs.Worlds.{total_handled}
 use Rattle.watch_points.specs.Progress.{places_of}
 use Rattle.watch_points.specs.Triggers.{clones_with_branches}

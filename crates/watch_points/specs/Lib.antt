@@ -13,3 +13,9 @@ pub mod Starting
 pub mod CloneNumbers
 pub mod Laws
 pub mod Examples
+pub mod Due
+pub mod Branches
+pub mod Keeping
+pub mod BranchLaws
+pub mod PassLaws
+pub mod DueExamples

@@ -5,10 +5,10 @@ use Rattle.run_laws.specs.Fronts.{IsWindow}
 use Rattle.run_laws.specs.Handlers.{AllAreForStations, AreForStations}
 use Rattle.run_laws.specs.Queue.{In}
 use Rattle.run_laws.specs.Simulation.{Simulation}
-use Rattle.watch_laws.specs.Branches.{Branch, Trigger, HaveNewNames, TargetsAreStations, branches_at}
-use Rattle.watch_laws.specs.Branches.{initial_branch}
-use Rattle.watch_laws.specs.Keeping.{HoldsAfter, HoldsBranches}
-use Rattle.watch_laws.specs.PassLaws.{source_at}
+use Rattle.watch_points.specs.Branches.{Branch, Trigger, HaveNewNames, TargetsAreStations, branches_at}
+use Rattle.watch_points.specs.Branches.{initial_branch}
+use Rattle.watch_points.specs.Keeping.{HoldsAfter, HoldsBranches}
+use Rattle.watch_points.specs.PassLaws.{source_at}
 use Rattle.watch_points.specs.Progress.{HaveProgress, HaveSources, places_of}
 use Rattle.watch_points.specs.declared.watcher.Progress.{Progress}
 use Rattle.watch_points.specs.declared.watcher.Source.{Source}

@@ -3,9 +3,9 @@ use Rattle.std.specs.Prelude.{◌≡◌, ℕ, ◌+◌, ◌<◌, ◌≤◌, List,
 use Rattle.sim_base.specs.Clones.{Clone, clone_at, place_of}
 use Rattle.run_laws.specs.Runs.{log_at}
 use Rattle.run_laws.specs.Simulation.{Simulation}
-use Rattle.watch_laws.specs.Branches.{Branch, Trigger, due_time}
-use Rattle.watch_laws.specs.Keeping.{outcome_at}
-use Rattle.watch_laws.specs.PassLaws.{source_at}
+use Rattle.watch_points.specs.Branches.{Branch, Trigger, due_time}
+use Rattle.watch_points.specs.Keeping.{outcome_at}
+use Rattle.watch_points.specs.PassLaws.{source_at}
 use Rattle.watch_points.specs.declared.watcher.Progress.{Progress}
 use Rattle.watch_points.specs.declared.watcher.Progress.TheVariants.{Waiting, PastHorizon, Made}
 use Rattle.watch_points.specs.declared.watcher.Source.{Source}

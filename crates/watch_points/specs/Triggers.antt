@@ -6,9 +6,9 @@ use Rattle.sim_base.specs.declared.entry.Line.TheVariants.{Server}
 use Rattle.sim_base.specs.declared.message.Msg.{Msg}
 use Rattle.net_model.specs.Net.{Net, station_named}
 use Rattle.stations.specs.Runs.{simulation, log_at}
-use Rattle.watch_laws.specs.Branches as branches
-use Rattle.watch_laws.specs.Branches.{Trigger}
-use Rattle.watch_laws.specs.Due.{due_in}
+use Rattle.watch_points.specs.Branches as branches
+use Rattle.watch_points.specs.Branches.{Trigger}
+use Rattle.watch_points.specs.Due.{due_in}
 use Rattle.watch_points.specs.declared.watch.Watch.{Watch}
 
 -- the time stamp of a message

@@ -6,7 +6,7 @@ use Rattle.sim_base.specs.declared.lists.TheConstants.{MAX_CLONES}
 use Rattle.net_model.specs.Net.{Net, station_named}
 use Rattle.net_model.specs.Rules.{IsNet}
 use Rattle.stations.specs.Runs.{simulation}
-use Rattle.watch_laws.specs.Branches.{Branch, Trigger, due_time}
+use Rattle.watch_points.specs.Branches.{Branch, Trigger, due_time}
 use Rattle.world_core.specs.Worlds.{WorldView, total_handled}
 use Rattle.watch_points.specs.Passes.{AreFollowed, CanBeFollowed, HavePassed, IsFound, IsWindowWith}
 use Rattle.watch_points.specs.Triggers.{trigger_of, triggers_of}

@@ -1,11 +1,11 @@
 //! The laws of watches over networks: each function's contract is a law, and there is nothing to run.
 //!
-//! `specs/Laws.antt` and `specs/FittingWatches.antt` have them in words, and `watch_laws` those over any simulation.
+//! `specs/Laws.antt` and `specs/FittingWatches.antt` have them in words, and `branch_laws` those over any simulation.
 ghost use Rattle.net_model.specs.Net.{Net};
 ghost use Rattle.net_model.specs.Rules.{IsNet};
 ghost use Rattle.stations.specs.Runs.{simulation};
-ghost use Rattle.watch_laws.specs.Laws.{BeyondStays, BranchesStay, BranchIsNotLate, DueAtFront, DueIsNotLate};
-ghost use Rattle.watch_laws.specs.PassLaws.{PassGoesOn};
+ghost use Rattle.watch_points.specs.BranchLaws.{BeyondStays, BranchesStay, BranchIsNotLate, DueAtFront, DueIsNotLate};
+ghost use Rattle.watch_points.specs.PassLaws.{PassGoesOn};
 ghost use Rattle.watch_points.specs.CloneNumbers.{NumbersNameClones};
 ghost use Rattle.watch_points.specs.Firsts.{FirstFaultIsFound, FirstRefusedIsFound};
 ghost use Rattle.watch_points.specs.FittingWatches.{AcceptedWatchesFit};

@@ -43,6 +43,8 @@
 //!   they were made. The figures of a report are the same in both orders.
 #![tactic(auto)]
 
+pub mod branch_laws;
+pub mod due_examples;
 pub mod examples;
 pub mod fault;
 pub mod fitting;

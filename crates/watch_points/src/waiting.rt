@@ -1,6 +1,6 @@
 //! When enough jobs first wait at a server.
 ghost use Rattle.std.specs.Prelude.{◌≡◌, drop};
-ghost use Rattle.watch_laws.specs.Due.{due_in};
+ghost use Rattle.watch_points.specs.Due.{due_in};
 ghost use Rattle.watch_points.specs.Triggers.{enough_wait as enough_wait_of, time_of};
 
 use log_chain::Log;

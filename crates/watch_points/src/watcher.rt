@@ -5,7 +5,7 @@ ghost use Rattle.std.specs.List.{range_with_len};
 ghost use Rattle.std.specs.Str.{bytes_eq};
 ghost use Rattle.run_laws.specs.Fronts.{IsWindow};
 ghost use Rattle.stations.specs.Runs.{simulation};
-ghost use Rattle.watch_laws.specs.Branches.{present};
+ghost use Rattle.watch_points.specs.Branches.{present};
 ghost use Rattle.world_core.specs.Worlds.{total_handled};
 ghost use Rattle.watch_points.specs.Checking.{fit};
 ghost use Rattle.watch_points.specs.CloneNumbers.{IsPlaceOf, clone_number as clone_number_of};

@@ -37,6 +37,8 @@
 //! equal. This is the invariant of the type [`World`], in place and by a crew. The steps of a window count exactly the
 //! messages that all clones together handle in it, shared ones once. [`World::window_in_place`] waits only if its gate
 //! does.
+//!
+//! The tests are in `engine_tests`.
 #![tactic(auto)]
 
 pub mod advancing;

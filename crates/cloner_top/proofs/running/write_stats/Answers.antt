@@ -1,5 +1,5 @@
 use Rattle.std.proofs.Common.{◌∷◌, []}
-use Rattle.study_stats.specs.Rows.{statistics}
+use Rattle.queue_stats.specs.Rows.{statistics}
 use Rattle.cloner_top.proofs.Endings.{no_run_failed}
 use Rattle.cloner_top.proofs.Runs.{run_done}
 use Rattle.cloner_top.proofs.running.write_stats.Goals as goal

@@ -1,5 +1,5 @@
 use Rattle.std.proofs.Common.{rules, ◌≡◌, ◌++◌, ◌∷◌, [], ◌-◌, ◌<◌, Some, sym, ap, ◌∙◌}
-use Rattle.exact_words.specs.Forms.{read_as, read_many}
+use Rattle.snapshot_lines.specs.Forms.{read_as, read_many}
 use Rattle.snapshot_lines.specs.Grammar.{job_word}
 use Rattle.snapshot_lines.proofs.ReadingMany.{one_more}
 use Rattle.snapshot_lines.proofs.read_words.read_jobs.Goals as goal

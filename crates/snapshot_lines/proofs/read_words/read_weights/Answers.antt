@@ -1,6 +1,6 @@
 use Rattle.std.proofs.Common.{rules, ◌≡◌, ◌++◌, ◌∷◌, [], ◌-◌, ◌<◌, Some, length, sym, ap, ◌∙◌, arith}
 use Rattle.std.proofs.lemmas.List.{length_push}
-use Rattle.exact_words.specs.Forms.{read_as, read_many}
+use Rattle.snapshot_lines.specs.Forms.{read_as, read_many}
 use Rattle.snapshot_lines.specs.Grammar.{number_word}
 use Rattle.snapshot_lines.proofs.ReadingMany.{one_more}
 use Rattle.snapshot_lines.proofs.read_words.read_weights.Goals as goal

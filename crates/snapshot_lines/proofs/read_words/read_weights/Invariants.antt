@@ -1,5 +1,5 @@
 use Rattle.std.proofs.Common.{◌≡◌, ◌+◌, ◌++◌, length}
-use Rattle.exact_words.specs.Forms.{read_as, read_many}
+use Rattle.snapshot_lines.specs.Forms.{read_as, read_many}
 use Rattle.snapshot_lines.specs.Grammar.{number_word}
 use Rattle.snapshot_lines.proofs.read_words.read_weights.Given as goal
 

@@ -1,6 +1,6 @@
 use Rattle.std.proofs.Common.{◌≡◌, ◌+◌, ◌≤◌, length, None}
 use Rattle.std.specs.List.{slice_split}
-use Rattle.exact_words.specs.Texts.{is_newline, read_parts, read_text}
+use Rattle.snapshot_lines.specs.Texts.{is_newline, read_parts, read_text}
 use Rattle.snapshot_text.specs.Reading.{ends, step}
 use Rattle.snapshot_text.proofs.read.read_lines.Given as goal
 

@@ -1,7 +1,7 @@
 use Rattle.std.proofs.Common.{◌≡◌, ◌++◌, drop, map}
 use Rattle.std.specs.List.{flat_map}
-use Rattle.exact_words.specs.Forms.{line_of}
-use Rattle.exact_words.specs.Texts.{ended}
+use Rattle.snapshot_lines.specs.Forms.{line_of}
+use Rattle.snapshot_lines.specs.Texts.{ended}
 use Rattle.snapshot_lines.specs.Grammar.{message_line}
 use Rattle.snapshot_text.proofs.write.push_messages.Given as goal
 

@@ -1,6 +1,6 @@
 use Rattle.std.proofs.Common.{◌≡◌, ◌+◌, ◌++◌, drop}
 use Rattle.std.specs.List.{flat_map}
-use Rattle.exact_words.specs.Texts.{ended}
+use Rattle.snapshot_lines.specs.Texts.{ended}
 use Rattle.snapshot_text.specs.SnapshotTexts.{station_lines}
 use Rattle.snapshot_text.proofs.write.push_stations.Given as goal
 

@@ -1,6 +1,6 @@
 use Rattle.std.proofs.Common.{◌≡◌, ◌<◌, ◌∙◌, ap, arith, get_or, length, subst}
 use Rattle.sim_base.specs.Clones.{clone_at}
-use Rattle.log_merge.specs.Cursors.{CursorView}
+use Rattle.trace_writer.specs.Cursors.{CursorView}
 use Rattle.trace_writer.specs.Parts.{AreParts, IsPutUpTo}
 use Rattle.trace_writer.specs.Puts.{IsPartPut}
 use Rattle.trace_writer.proofs.LogLaws.{counted_seen}

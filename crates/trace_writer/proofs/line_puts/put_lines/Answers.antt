@@ -1,7 +1,7 @@
 use Rattle.std.proofs.Common.{◌≤◌, ◌%◌, ◌∙◌, ap, sym, subst, refl, arith, length, take, inl, inr}
 use Rattle.std.proofs.lemmas.Bool.{cases_lt}
 use Rattle.sim_base.specs.declared.message.TheConstants.{WORD_PLACES}
-use Rattle.log_merge.specs.Cursors.{CursorView}
+use Rattle.trace_writer.specs.Cursors.{CursorView}
 use Rattle.trace_writer.specs.Kept.{IsPageKept, IsPutTo}
 use Rattle.trace_writer.specs.Pages.{IsPage, reached}
 use Rattle.trace_writer.specs.Puts.{IsCutOff, IsPartPut}

@@ -1,7 +1,7 @@
 use Rattle.std.proofs.Common.{◌≡◌, ◌%◌, ◌+◌, ◌≤◌, List, length}
 use Rattle.sim_base.specs.declared.message.TheConstants.{WORD_PLACES}
-use Rattle.beginning_laws.specs.Beginnings.{Rise}
-use Rattle.log_merge.specs.Words.{entry_word}
+use Rattle.run_laws.specs.Beginnings.{Rise}
+use Rattle.trace_writer.specs.Words.{entry_word}
 use Rattle.trace_report.specs.declared.line.TheConstants.{MAX_LINE}
 use Rattle.trace_writer.specs.Kept.{IsKept, IsPutTo, KeepsMemory}
 use Rattle.trace_writer.specs.declared.pages.TheConstants.{PAGE}

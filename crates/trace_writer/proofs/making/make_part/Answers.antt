@@ -1,9 +1,9 @@
 use Rattle.std.proofs.Common.{◌≡◌, ◌++◌, ◌∙◌, ap, sym, subst, refl, arith, length, take, not, nat_lt}
 use Rattle.sim_base.specs.Clones.{clone_at}
 use Rattle.net_model.specs.Net.{Net}
-use Rattle.beginning_laws.specs.Beginnings.{from}
-use Rattle.beginning_laws.proofs.Parts.{rise_filter}
-use Rattle.log_merge.specs.Words.{entry_word}
+use Rattle.run_laws.specs.Beginnings.{from}
+use Rattle.run_laws.proofs.BeginningParts.{rise_filter}
+use Rattle.trace_writer.specs.Words.{entry_word}
 use Rattle.trace_writer.specs.Kept.{lines_text}
 use Rattle.trace_writer.specs.Pages.{IsPage}
 use Rattle.trace_writer.specs.Rests.{trace_at}

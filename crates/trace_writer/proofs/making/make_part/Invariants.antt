@@ -1,6 +1,6 @@
 use Rattle.std.proofs.Common.{◌+◌, ◌≤◌, length}
-use Rattle.beginning_laws.specs.Beginnings.{from}
-use Rattle.log_merge.specs.Words.{entry_word}
+use Rattle.run_laws.specs.Beginnings.{from}
+use Rattle.trace_writer.specs.Words.{entry_word}
 use Rattle.trace_report.specs.declared.line.TheConstants.{MAX_LINE}
 use Rattle.trace_writer.specs.Pages.{IsPage}
 use Rattle.trace_writer.specs.Rests.{trace_at}

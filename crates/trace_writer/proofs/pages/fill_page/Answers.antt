@@ -1,7 +1,7 @@
 use Rattle.std.proofs.Common.{◌∙◌, sym, ap, subst, refl, arith, take}
 use Rattle.log_chain.specs.Stored.{entry_in}
-use Rattle.log_merge.specs.Cursors.{CursorView}
-use Rattle.log_merge.proofs.Stepping.{next_some}
+use Rattle.trace_writer.specs.Cursors.{CursorView}
+use Rattle.trace_writer.proofs.Stepping.{next_some}
 use Rattle.trace_writer.specs.Pages.{IsPage}
 use Rattle.trace_writer.proofs.Filling.{page_none, page_more, next_below}
 use Rattle.trace_writer.proofs.Pieces.{place_within}

@@ -2,7 +2,7 @@ use Rattle.std.proofs.Common.{◌≤◌, ◌∙◌, subst, arith}
 use Rattle.std.specs.List.{AllByRecursion}
 use Rattle.sim_base.specs.Clones.{clone_at}
 use Rattle.stations.specs.Runs.{trace_of}
-use Rattle.log_merge.specs.Words.{first_word}
+use Rattle.trace_writer.specs.Words.{first_word}
 use Rattle.trace_writer.specs.Kept.{trace_before}
 use Rattle.trace_writer.specs.declared.texts.Mark.{Mark}
 use Rattle.trace_writer.proofs.LinePuts.{same_lines, time_fits}

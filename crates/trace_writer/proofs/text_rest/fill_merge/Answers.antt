@@ -3,9 +3,9 @@ use Rattle.sim_base.specs.Clones.{clone_at}
 use Rattle.net_model.specs.Net.{Net}
 use Rattle.stations.specs.Runs.{trace_of}
 use Rattle.log_chain.specs.Packing.{FitWords}
-use Rattle.log_merge.specs.Cursors.{CursorView}
-use Rattle.log_merge.specs.Words.{entry_word}
-use Rattle.beginning_laws.specs.Beginnings.{from}
+use Rattle.trace_writer.specs.Cursors.{CursorView}
+use Rattle.trace_writer.specs.Words.{entry_word}
+use Rattle.run_laws.specs.Beginnings.{from}
 use Rattle.trace_writer.specs.WorldTraces.{WorldTracesView}
 use Rattle.trace_writer.proofs.LogLaws.{as_seen, counted, log_is}
 use Rattle.trace_writer.proofs.Logs.{fit_from, log_in_order, merged_all, merged_next}

@@ -2,8 +2,8 @@ use Rattle.std.proofs.Common.{◌≡◌, ◌≤◌, length}
 use Rattle.sim_base.specs.Clones.{clone_at}
 use Rattle.stations.specs.Good.{sender_of, number_of}
 use Rattle.stations.specs.Runs.{simulation}
-use Rattle.beginning_laws.specs.Beginnings.{merge_from}
-use Rattle.log_merge.specs.Words.{entry_word}
+use Rattle.run_laws.specs.Beginnings.{merge_from}
+use Rattle.trace_writer.specs.Words.{entry_word}
 use Rattle.trace_writer.proofs.text_rest.fill_merge.Given as goal
 
 abbrev pub invariant-loop-s : goal.invariant-loop-s

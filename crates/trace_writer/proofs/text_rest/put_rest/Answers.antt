@@ -2,7 +2,7 @@ use Rattle.std.proofs.Common.{◌≡◌, ap, ◌∙◌, subst, arith}
 use Rattle.sim_base.specs.Clones.{clone_at}
 use Rattle.net_model.specs.Net.{Net}
 use Rattle.stations.specs.Runs.{trace_of}
-use Rattle.log_merge.specs.Words.{first_word}
+use Rattle.trace_writer.specs.Words.{first_word}
 use Rattle.trace_writer.specs.Kept.{AreMarksOf, IsKept, IsPutTo, lines_text}
 use Rattle.trace_writer.specs.Pages.{IsPast}
 use Rattle.trace_writer.specs.Puts.{IsCutOff}

@@ -1,5 +1,5 @@
-use Rattle.watch_laws.proofs.Bodies.{pass_goes_on}
-use Rattle.watch_laws.proofs.Watching.{branch_is_not_late, branches_stay}
+use Rattle.watch_points.proofs.BranchBodies.{pass_goes_on}
+use Rattle.watch_points.proofs.HeldBranches.{branch_is_not_late, branches_stay}
 use Rattle.watch_points.proofs.PassingWatcher.{net_known, net_not_late}
 use Rattle.watch_points.proofs.laws.branches_are_made_in_time.Goals as goal
 

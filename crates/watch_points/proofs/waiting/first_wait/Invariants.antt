@@ -1,5 +1,5 @@
 use Rattle.std.proofs.Common.{◌≡◌, drop, length}
-use Rattle.watch_laws.specs.Due.{due_in}
+use Rattle.watch_points.specs.Due.{due_in}
 use Rattle.watch_points.specs.Triggers.{enough_wait, time_of}
 use Rattle.watch_points.proofs.waiting.first_wait.Given as goal
 

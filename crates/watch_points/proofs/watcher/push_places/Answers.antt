@@ -2,7 +2,7 @@ use Rattle.std.proofs.Common.{◌≡◌, ◌∷◌, ◌++◌, List, [], Some, No
 use Rattle.std.proofs.Common.{append-nil}
 use Rattle.std.specs.Prelude.{slice_get, take}
 use Rattle.std.proofs.lemmas.Option.{slice_get_read}
-use Rattle.watch_laws.specs.Branches.{present}
+use Rattle.watch_points.specs.Branches.{present}
 use Rattle.watch_points.specs.Progress.{made_place, places_of}
 use Rattle.watch_points.specs.Watchers.{progress_of}
 use Rattle.watch_points.proofs.PlaceOrder.{place-made, place-none, places-more}

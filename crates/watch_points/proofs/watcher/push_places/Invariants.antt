@@ -1,5 +1,5 @@
 use Rattle.std.proofs.Common.{◌≡◌, ◌++◌, take}
-use Rattle.watch_laws.specs.Branches.{present}
+use Rattle.watch_points.specs.Branches.{present}
 use Rattle.watch_points.specs.Progress.{places_of}
 use Rattle.watch_points.specs.Watchers.{progress_of}
 use Rattle.watch_points.proofs.watcher.push_places.Given as goal

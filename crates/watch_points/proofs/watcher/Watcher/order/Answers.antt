@@ -1,6 +1,6 @@
 use Rattle.std.proofs.Common.{◌++◌, ap, ◌∙◌}
 use Rattle.std.specs.List.{range_with_len}
-use Rattle.watch_laws.specs.Branches.{present}
+use Rattle.watch_points.specs.Branches.{present}
 use Rattle.watch_points.specs.Laws.{watch_order}
 use Rattle.watch_points.specs.Progress.{places_of}
 use Rattle.watch_points.specs.Watchers.{progress_of}

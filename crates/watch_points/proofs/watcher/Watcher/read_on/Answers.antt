@@ -1,6 +1,6 @@
 use Rattle.std.proofs.Common.{drop, sym, ap, ◌∙◌}
 use Rattle.std.proofs.lemmas.Option.{slice_get_within}
-use Rattle.watch_laws.specs.Due.{due_in}
+use Rattle.watch_points.specs.Due.{due_in}
 use Rattle.watch_points.specs.Triggers.{enough_wait, time_of}
 use Rattle.watch_points.proofs.MadeBranch.{waiting-passing, waiting-step}
 use Rattle.watch_points.proofs.PassingWatcher.{source_in_range, station_is, watch-in_range, watch_absent, watch_is_due}

@@ -1,7 +1,0 @@
-use Rattle.std.proofs.Common.{refl}
-use Rattle.run_laws.specs.Machine.{run_to}
-use Rattle.beginning_laws.proofs.examples.traces.Goals as goal
-
-pub returns-clause-trace : goal.returns-clause-trace
-unfolding run_to
-returns-clause-trace c = refl

@@ -1,4 +1,0 @@
-pub mod ExactForms
-pub mod JoinedWords
-pub mod ExactTexts
-pub mod Written

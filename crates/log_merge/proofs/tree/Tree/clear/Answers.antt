@@ -1,6 +1,0 @@
-use Rattle.log_merge.proofs.Fixing.{fresh}
-use Rattle.log_merge.specs.declared.tree.TheConstants.{NO_WORD}
-use Rattle.log_merge.proofs.tree.Tree.clear.Goals as goal
-
-pub invariant_of-self : goal.invariant_of-self
-invariant_of-self g c = fresh g.row.COUNT NO_WORD c.self.invariant.fixed

@@ -1,4 +1,0 @@
-pub mod Tournament
-pub mod FixedTrees
-pub mod Words
-pub mod Cursors

@@ -1,2 +1,0 @@
-mod Moves
-mod SeatsAfterSteps

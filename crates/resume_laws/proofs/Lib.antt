@@ -1,9 +1,0 @@
-pub mod Resuming
-pub mod Tallying
-pub mod UsedNumbers
-pub mod Adding
-pub mod ServerKeeps
-pub mod KindKeeps
-pub mod RunKeeps
-pub mod Restoring
-pub mod RunStates

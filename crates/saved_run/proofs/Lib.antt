@@ -1,5 +1,0 @@
-pub mod Sayable
-pub mod Runs
-pub mod Pasts
-pub mod Resumed
-pub mod PlannedScripts

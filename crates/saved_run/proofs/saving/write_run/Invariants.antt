@@ -1,4 +1,0 @@
-use Rattle.saved_run.proofs.saving.write_run.Given as goal
-
-abbrev pub ghost-of : goal.ghost-of
-ghost-of g a = g.clone

@@ -1,2 +1,0 @@
-mod Gathering
-mod SharedLogs

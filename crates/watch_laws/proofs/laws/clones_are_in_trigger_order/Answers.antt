@@ -1,5 +1,0 @@
-use Rattle.watch_laws.proofs.Keeping.{clones_in_trigger_order}
-use Rattle.watch_laws.proofs.laws.clones_are_in_trigger_order.Goals as goal
-
-pub returns : goal.returns
-returns g c = record { in_order = clones_in_trigger_order g.T.Stations.sim }

@@ -1,9 +1,0 @@
-use Rattle.watch_laws.proofs.Bodies.{fork_with_plan}
-use Rattle.watch_laws.proofs.Sources.{branch_named-script}
-use Rattle.watch_laws.proofs.laws.script_clones_are_forked.Goals as goal
-
-pub returns-clause-script_name : goal.returns-clause-script_name
-returns-clause-script_name c = branch_named-script
-
-pub returns-clause-fork_and_set : goal.returns-clause-fork_and_set
-returns-clause-fork_and_set c = fork_with_plan
