@@ -140,14 +140,23 @@ fn stop_after(from: u64, kept_until: u64, end: u64) -> u64
     }
 }
 
+// Memory for the lines of a part: that of an earlier part, or new one.
+fn room_of_part(alloc: Global, rooms: &mut Vec<Vec<u8>>) -> Vec<u8> {
+    match rooms.pop() {
+        Some(room) => room,
+        None => Vec::new(alloc),
+    }
+}
+
 // Cuts `most` parts from the beginning of a rest, or fewer if they reach its end. Returns them and the word at which
-// the last one ends.
+// the last one ends. The parts get the memory of earlier ones.
 fn cut_parts(
     alloc: Global,
     traces: &WorldTraces<'_>,
     rest: TextRest,
     end: u64,
     most: usize,
+    rooms: &mut Vec<Vec<u8>>,
 ) -> Result<(Vec<TextPart>, u64), NoMemory>
     requires in_range { rest.c < length traces.now.clones }
     requires at_least { 1 ≤ most }
@@ -169,6 +178,7 @@ fn cut_parts(
             c: rest.c,
             from,
             until,
+            room: room_of_part(alloc, rooms),
         })?;
         from = until;
     }
@@ -192,7 +202,8 @@ fn finish_counted<'t, L: Ledger, R: Wait>(
 }
 
 impl<'t> Makers<'t> {
-    /// Starts a batch of parts, cut from the beginning of a rest whose last line comes before the word `end`.
+    /// Starts a batch of parts, cut from the beginning of a rest whose last line comes before the word `end`. The parts
+    /// get the memory of earlier ones.
     ///
     /// Errors: out of memory. The crew is then lost.
     pub(crate) fn start(
@@ -200,6 +211,7 @@ impl<'t> Makers<'t> {
         alloc: Global,
         rest: TextRest,
         end: u64,
+        rooms: &mut Vec<Vec<u8>>,
     ) -> Result<Batch<'t>, NoMemory>
         requires in_range { rest.c < length self.clones }
         requires nonempty { rest.from < end }
@@ -212,7 +224,7 @@ impl<'t> Makers<'t> {
             crew,
             parts,
         } = self;
-        let (items, until) = cut_parts(alloc, traces, rest, end, parts)?;
+        let (items, until) = cut_parts(alloc, traces, rest, end, parts, rooms)?;
         let work = Arc::new(alloc, LineWork::of(traces))?;
         let started = crew.start(alloc, work, items)?;
         Ok(Batch {

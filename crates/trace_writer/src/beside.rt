@@ -31,6 +31,8 @@ pub(crate) struct Help<'t> {
     pub alloc: Global,
     /// Its caller: `None` if there is no crew, or once an allocation failed.
     pub makers: Option<Makers<'t>>,
+    /// The memory of parts that were put, for the next ones.
+    pub rooms: Vec<Vec<u8>>,
 }
 
 /// Parts that are made but not put, and the word before which the last one ends.
@@ -40,6 +42,15 @@ pub(crate) struct ReadyParts {
     pub parts: Vec<MadePart>,
     /// The word.
     pub until: u64,
+}
+
+// Keeps the memory of parts that were put. What finds no room in the list is freed.
+fn keep_rooms(rooms: &mut Vec<Vec<u8>>, put: ReadyParts) {
+    for made in put.parts {
+        if rooms.push(made.bytes).is_err() {
+            return;
+        }
+    }
 }
 
 // Keeps the lines of a part, if it ends at the word `kept_until` or before it. Returns the word, or 0 if the part is
@@ -134,7 +145,7 @@ fn start_batch<'t>(
     ensures makers { MakeFor traces.now help.new.makers }
 {
     let makers = help.makers.take()?;
-    makers.start(help.alloc, rest, end).ok()
+    makers.start(help.alloc, rest, end, &mut help.rooms).ok()
 }
 
 // Finishes a batch of parts that a rest begins with, and returns them. `None` if an allocation fails; then there is no
@@ -163,7 +174,8 @@ fn finish_batch<'t, R: Wait>(
 }
 
 // Puts a rest batch by batch: members make the parts of a batch while the caller puts those of the previous batch. If
-// an allocation fails, the caller goes on alone, and allocates nothing.
+// an allocation fails, the caller goes on alone, and allocates nothing. The memory of parts that were put is for those
+// of the next batch.
 fn put_by_makers<'t, O: Sink, R: Wait>(
     rt: &R,
     traces: &WorldTraces<'t>,
@@ -206,7 +218,9 @@ fn put_by_makers<'t, O: Sink, R: Wait>(
         let Some(made) = finish_batch(rt, traces, help, batch, next, end) else {
             return put_rest(traces, texts, left, out);
         };
+        let put = ready;
         ready = made;
+        keep_rooms(&mut help.rooms, put);
     }
     put_last(traces, texts, left, &ready, out)
 }

@@ -8,7 +8,7 @@ use crate::{place_of_word, word_at};
 use sim_base::message::WORD_PLACES;
 
 // The approximate number of lines of a part: its task costs little compared to them, and its buffer stays in the cache.
-const LINES_OF_A_PART: u64 = 2_048;
+const LINES_OF_A_PART: u64 = 4_096;
 
 /// Cuts a text into parts by the log of the station that has most of its lines. Where a part ends is a hint: no text
 /// depends on it.

@@ -29,10 +29,10 @@
 //! line costs the merge of its entry and its bytes. `put_alone` puts the text of one log.
 //!
 //! If a run has a long text, a crew of workers makes the lines of long texts. It is begun once for all texts. A text is
-//! cut into parts of about 2,048 lines, and each part is a task of the crew: it merges the logs from a word on, and
+//! cut into parts of about 4,096 lines, and each part is a task of the crew: it merges the logs from a word on, and
 //! writes the lines up to another word into a buffer. Eight parts for each worker are a batch, at most 64. The members
 //! make one batch while the caller puts the parts of the previous batch, and keeps those that the next text begins
-//! with. Then the caller makes what no member has begun:
+//! with. Then the caller makes what no member has begun. The buffers of parts that were put are used again:
 //!
 //! ```text
 //!   caller     start 2 | put the parts of batch 1 | make parts of 2 | start 3 | put the parts of batch 2 | ..

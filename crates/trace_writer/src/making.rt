@@ -1,5 +1,5 @@
 //! The work of the crew that makes lines: each task makes the lines of a part of a text.
-ghost use Rattle.std.specs.Prelude.{◌≡◌, IfOk};
+ghost use Rattle.std.specs.Prelude.{◌≡◌, [], IfOk};
 ghost use Rattle.trace_writer.specs.Parts.{IsMade, IsPart};
 
 use crate::merge::LogMerge;
@@ -13,11 +13,11 @@ use std::alloc::Global;
 use std::sync::ledger::Ledger;
 use trace_report::MAX_LINE;
 
-// The bytes that are reserved for a part of about 2,048 lines. Few lines are longer than 128 bytes.
+// The bytes that are reserved for a part of about 4,096 lines. Few lines are longer than 64 bytes.
 const BYTES_OF_A_PART: usize = 262_144;
 
 /// A part of a text: the lines of a clone from one word up to another.
-#[derive(Clone, Copy)]
+#[derive(Drop)]
 pub(crate) struct TextPart {
     /// The place of the clone among all clones.
     pub c: u32,
@@ -25,6 +25,8 @@ pub(crate) struct TextPart {
     pub from: u64,
     /// The word before which it ends.
     pub until: u64,
+    /// The memory for its lines. What it holds means nothing.
+    pub room: Vec<u8>,
 }
 
 /// The lines of a part.
@@ -61,7 +63,17 @@ impl<'t> LineWork<'t> {
     }
 }
 
-/// Makes the lines of a part, with a merge and a page of its own.
+// The memory of an earlier part for the lines of the next one.
+fn emptied(room: Vec<u8>) -> Result<Vec<u8>, NoMemory>
+    ensures empty { IfOk result (λ bytes. bytes.items ≡ []) }
+{
+    let mut bytes = room;
+    bytes.clear();
+    bytes.reserve(BYTES_OF_A_PART)?;
+    Ok(bytes)
+}
+
+/// Makes the lines of a part in its memory, with a merge and a page of its own.
 ///
 /// Errors: out of memory.
 fn make_part(alloc: Global, traces: &WorldTraces<'_>, part: TextPart) -> Result<MadePart, NoMemory>
@@ -70,19 +82,22 @@ fn make_part(alloc: Global, traces: &WorldTraces<'_>, part: TextPart) -> Result<
 {
     let _clones = traces.len();
     let _place = place_in(traces.world, &traces.order, part.c);
+    let TextPart {
+        c,
+        from,
+        until,
+        room,
+    } = part;
     let model = traces.world.model();
     let mut merge = LogMerge::new(alloc, model.len() as usize)?;
-    fill_merge(traces, &mut merge, part.c, part.from);
+    fill_merge(traces, &mut merge, c, from);
     let mut page = vec![in alloc; 0u8; PAGE + MAX_LINE]?;
-    let mut bytes = Vec::with_capacity(alloc, BYTES_OF_A_PART)?;
-    'page: while merge.least() < part.until {
-        let used = merge.fill_page(part.until, model, &traces.names, &mut page);
+    let mut bytes = emptied(room)?;
+    'page: while merge.least() < until {
+        let used = merge.fill_page(until, model, &traces.names, &mut page);
         bytes.extend_from_slice(&page[..used])?;
     }
-    Ok(MadePart {
-        until: part.until,
-        bytes,
-    })
+    Ok(MadePart { until, bytes })
 }
 
 impl<'t> Work for LineWork<'t> {

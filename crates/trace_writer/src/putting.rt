@@ -169,6 +169,7 @@ fn put_and_end<'r, 't, O: Sink, R: Wait>(
     let help = Help {
         alloc: help.alloc,
         makers: help.makers.take(),
+        rooms: Vec::new(help.alloc),
     };
     let mut putter = WithCrew { rt, help };
     let done = put_all(traces, &mut putter, texts, out);
@@ -222,6 +223,7 @@ fn put_with<'t, O: Sink, R: Threads + Wait + Sync>(
     let mut help = Help {
         alloc,
         makers: Some(makers),
+        rooms: Vec::new(alloc),
     };
     put_beside(rt, traces, &mut help, members, &bell, &mut texts, out)
 }

@@ -10,7 +10,7 @@ use Rattle.trace_writer.proofs.making.make_part.Given as goal
 abbrev pub invariant-page : goal.invariant-page
 invariant-page l = record {
   room : PAGE + MAX_LINE ≤ length l.page.items;
-  made : IsPage l.model l.part.until l.bytes.items (from entry_word l.part.from (trace_at l.traces l.part.c))
+  made : IsPage l.model l.until l.bytes.items (from entry_word l.from (trace_at l.traces l.c))
       l.merge.left;
 }
 
