@@ -1,64 +1,21 @@
 -- The number of digits of a number, from its tenth part.
-use Rattle.std.proofs.Common.{◌≡◌, ℕ, ◌+◌, ◌/◌, ◌^◌, ◌<◌, ◌≤◌, length, decimal, ap, arith}
-use Rattle.itoa.proofs.Decimal.{length_four, length_step_wide, length_two}
+use Rattle.std.proofs.Common.{◌≡◌, ℕ, zero, suc, ◌+◌, ◌*◌, ◌/◌, ◌^◌, ◌<◌, ◌≤◌, length, decimal, ap, arith}
+use Rattle.itoa.proofs.Decimal.{length_four, length_one, length_step_wide}
 
--- ---- length (decimal n), from the powers of ten between which n is
+-- ---- length (decimal n), from the power of ten below n
 
--- a number from 100 to 999 has three digits
-pub three_digits : (n : ℕ) → 100 ≤ n → n < 1000 → length (decimal n) ≡ 3
-three_digits n l h =
-    let a = length_step_wide n (omega arith) (omega arith) in
-    let b = length_two (n / 10) (omega arith) (omega arith) in
+-- a number from a power of ten to the next one has one digit more than the power says
+pub digits_by_power : (k n : ℕ) → 10 ^ k ≤ n → n < 10 * 10 ^ k → n < 2 ^ 64 → length (decimal n) ≡ k + 1
+digits_by_power zero n l h _ = length_one n (omega arith)
+digits_by_power (suc k) n l h fits =
+    let some : 1 ≤ 10 ^ k = one k in
+    let a = length_step_wide n (omega (arith, some)) (omega arith) in
+    let b = digits_by_power k (n / 10) (omega arith) (omega arith) (omega arith) in
     omega (arith, a, b)
-
--- a number from 1000 to 9999 has four digits
-pub four_digits : (n : ℕ) → 1000 ≤ n → n < 10000 → length (decimal n) ≡ 4
-four_digits n l h =
-    let a = length_step_wide n (omega arith) (omega arith) in
-    let b = three_digits (n / 10) (omega arith) (omega arith) in
-    omega (arith, a, b)
-
--- a number from 10000 to 99999 has five digits
-pub five_digits : (n : ℕ) → 10000 ≤ n → n < 100000 → length (decimal n) ≡ 5
-five_digits n l h =
-    let a = length_step_wide n (omega arith) (omega arith) in
-    let b = four_digits (n / 10) (omega arith) (omega arith) in
-    omega (arith, a, b)
-
--- a number from 100000 to 999999 has six digits
-pub six_digits : (n : ℕ) → 100000 ≤ n → n < 1000000 → length (decimal n) ≡ 6
-six_digits n l h =
-    let a = length_step_wide n (omega arith) (omega arith) in
-    let b = five_digits (n / 10) (omega arith) (omega arith) in
-    omega (arith, a, b)
-
--- a number from 1000000 to 9999999 has seven digits
-pub seven_digits : (n : ℕ) → 1000000 ≤ n → n < 10000000 → length (decimal n) ≡ 7
-seven_digits n l h =
-    let a = length_step_wide n (omega arith) (omega arith) in
-    let b = six_digits (n / 10) (omega arith) (omega arith) in
-    omega (arith, a, b)
-
--- a number from 10000000 to 99999999 has eight digits
-pub eight_digits : (n : ℕ) → 10000000 ≤ n → n < 100000000 → length (decimal n) ≡ 8
-eight_digits n l h =
-    let a = length_step_wide n (omega arith) (omega arith) in
-    let b = seven_digits (n / 10) (omega arith) (omega arith) in
-    omega (arith, a, b)
-
--- a number from 100000000 to 999999999 has nine digits
-pub nine_digits : (n : ℕ) → 100000000 ≤ n → n < 1000000000 → length (decimal n) ≡ 9
-nine_digits n l h =
-    let a = length_step_wide n (omega arith) (omega arith) in
-    let b = eight_digits (n / 10) (omega arith) (omega arith) in
-    omega (arith, a, b)
-
--- a number from 1000000000 to 9999999999 has ten digits
-pub ten_digits : (n : ℕ) → 1000000000 ≤ n → n < 10000000000 → length (decimal n) ≡ 10
-ten_digits n l h =
-    let a = length_step_wide n (omega arith) (omega arith) in
-    let b = nine_digits (n / 10) (omega arith) (omega arith) in
-    omega (arith, a, b)
+  where
+    one : (j : ℕ) → 1 ≤ 10 ^ j
+    one zero = omega arith
+    one (suc j) = let r = one j in omega (arith, r)
 
 -- ---- length (decimal n), from n without its last five or ten digits
 
