@@ -22,11 +22,11 @@
 //! and yields between checks, and then costs what `LegalBook::ask` costs. A turn of the helm copies the least times,
 //! one for each clone, and reads the calls since its last turn. `front` and `is_late` load one word and never wait.
 //!
-//! The promise: **a live study has one legal history**. The journal has each analyst's decisions in order, each once,
-//! with the reply of the table of refusals at its place. A seat knows only the part of the journal that its pass has
-//! seen. The rule of the desk is in `specs/Turns.antt`. It defines what each step of a seat does to the words front,
-//! ticket, serving and count, and to the slot of the book. The invariant of the book's type is that its journal is
-//! legal: each front is the next one of the clones before it.
+//! The promise: **all threads' decisions form one ordered journal**. It has each analyst's decisions in order, each
+//! once, with the reply of the table of refusals at its place. A seat knows only the part of the journal that its pass
+//! has seen. The rule of the desk is in `specs/Turns.antt`. It defines what each step of a seat does to the words
+//! front, ticket, serving and count, and to the slot of the book. The invariant of the book's type is that its journal
+//! is legal: each front is the next one of the clones before it.
 //!
 //! The tests are in `engine_tests`.
 #![tactic(auto)]

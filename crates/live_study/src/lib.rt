@@ -26,13 +26,13 @@
 //! each station that is looked at in each window. However the engine ends, all analysts do all that they have to do,
 //! and all threads are joined. What follows takes no memory, so the journal is there in any case.
 //!
-//! It carries a promise of README.md, **a live study has one legal history, and looks are true**. In the one journal
-//! each analyst's decisions are in order, each once, and no others. None is answered Full, since no more are asked than
-//! a journal holds. If the engine reaches the horizon, the world has the clones that this journal leaves, and what
-//! clones share was counted once. What each look saw is true of the clones that there were at time 0 or at its front of
-//! the journal. It stays true of those that the journal leaves, since nothing after a front changes a log before it
-//! (`laws`). If a log would get longer than the limit, the result names the least station and there the least clone at
-//! the last front. It is not proved that threads run concurrently.
+//! It carries a promise of README.md: **all threads' decisions form one ordered journal, and every observation was
+//! correct when it was made**. In the journal each analyst's decisions are in order, each once, and no others. None is
+//! answered Full, since no more are asked than a journal holds. If the engine reaches the horizon, the world has the
+//! clones that this journal leaves, and what clones share was counted once. What each look saw is true of the clones
+//! that there were at time 0 or at its front of the journal. It stays true of those that the journal leaves, since
+//! nothing after a front changes a log before it (`laws`). If a log would get longer than the limit, the result names
+//! the least station and there the least clone at the last front. It is not proved that threads run concurrently.
 //!
 //! The tests are in `engine_tests`.
 #![tactic(auto)]
