@@ -75,7 +75,7 @@ fn begin_shelf<J: Naming, W: Wait + Drop>(
     requires name { (opened.seen.book ≡ J.book) × (opened.pen.nib.key ≡ J.start) }
     ensures seen { IfOk result (λ r. AreSeenUpTo r.0.net r.0.front r.1.stock.published) }
     ensures has_rack { IfOk result (λ r. HasRack 1 r.1.stock.published) }
-    ensures quiet { IfOk result (λ r. r.1.has_published ≡ false) }
+    ensures quiet { IfOk result (λ r. r.1.stock.has_published ≡ false) }
     ensures seats { IfOk result (λ r. All (λ s. HasRack 1 s) r.2.items) }
 {
     let (world, racks) = opening(alloc)?;

@@ -601,7 +601,7 @@ fn looks_find_two_at_ten(alloc: Global) -> Option<bool> {
 fn fork_now(alloc: Global, world: World) -> Option<World> {
     let new = Name::read(b"fast")?;
     let lists = world.lists();
-    if lists.find(&new).is_some() || lists.end_of(0).is_some() || lists.len() != 1 {
+    if lists.len() != 1 || lists.find(&new).is_some() || lists.end_of(0).is_some() {
         return None;
     }
     let world = world.with_fork(alloc, new, 0).ok()?;
