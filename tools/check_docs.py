@@ -18,21 +18,22 @@ import subprocess
 import sys
 import tempfile
 
+import contracts
 import crate_list
 import definitions
-import glossary
 from crate_list import TOP, read
 
 PROGRAM = os.path.join(TOP, "crates", "cloner_cli", "out", "cloner_cli")
 PLANNING = os.path.join(TOP, "planning", "src")
-PAGES = ["README.md", "examples/README.md", "docs/PLANNING.md", "docs/FORMATS.md"]
-NAMING_PAGES = ["docs/ARCHITECTURE.md", "docs/DECISIONS.md", "docs/EXTENDING.md", "docs/PROVED.md", "docs/THEORY.md"]
+PAGES = ["README.md", "examples/README.md", "docs/PLANNING.md"]
+NAMING_PAGES = ["docs/ARCHITECTURE.md", "docs/DECISIONS.md", "docs/EXTENDING.md", "docs/PROVED.md", "docs/THEORY.md",
+                "docs/TOUR.md"]
 
 
 def words_of_sources():
     """All words of the sources, and the names of their files and folders."""
     words = set(re.findall(r"\w+", read("crates.txt")))
-    for top in ["bench", "crates", "planning", "tools"]:
+    for top in ["bench", "crates", "planning", "tools", "wrong-bodies"]:
         for path, _, files in os.walk(os.path.join(TOP, top)):
             for file in files:
                 if file.endswith((".rt", ".antt", ".edit", ".py", ".c")):
@@ -74,7 +75,7 @@ def broken_links(page):
 
 def pages():
     """All pages."""
-    for folder in ["", "bench", "docs", "examples", "planning", "tools"]:
+    for folder in ["", "bench", "docs", "examples", "planning", "tools", "wrong-bodies"]:
         for file in sorted(os.listdir(os.path.join(TOP, folder))):
             if file.endswith(".md"):
                 yield os.path.join(folder, file)
@@ -85,7 +86,7 @@ def facts():
     counted = definitions.counts(definitions.rested_on()[0])
     if counted not in read("docs/PROVED.md"):
         yield f"docs/PROVED.md: the contract of cloner rests on {counted}"
-    for script, maker in [("crate_list.py", crate_list), ("glossary.py", glossary)]:
+    for script, maker in [("crate_list.py", crate_list), ("contracts.py", contracts)]:
         page = read(maker.PAGE)
         if crate_list.with_made(page, script, maker.table()) != page:
             yield f"{maker.PAGE}: run tools/{script} --write"

@@ -4,8 +4,7 @@
     tools/crate_list.py            # prints the table
     tools/crate_list.py --write    # puts it into the page
 
-crates.txt has the order and, as comments, the layers. What a crate is comes from the first paragraph of its
-`lib.rt`, or of its `main.rt`.
+crates.txt has the order. What a crate is comes from the first sentence of its `lib.rt`, or of its `main.rt`.
 """
 import argparse
 import os
@@ -22,20 +21,10 @@ def read(file):
         return opened.read()
 
 
-def layers():
-    """The layers, lowest first: the name of each, and its crates in order."""
-    found = []
-    for line in read("crates.txt").splitlines():
-        if line.startswith("#"):
-            found.append((line[1:].strip(), []))
-        elif line:
-            found[-1][1].append(re.split(r"[ :]", line)[0])
-    return found
-
-
 def names():
     """All crates, lowest first."""
-    return [crate for _, crates in layers() for crate in crates]
+    lines = read("crates.txt").splitlines()
+    return [re.split(r"[ :]", line)[0] for line in lines if line and not line.startswith("#")]
 
 
 def root_of(crate):
@@ -45,19 +34,15 @@ def root_of(crate):
 
 
 def head_of(crate):
-    """What a crate is: the first paragraph of its head."""
+    """What a crate is: the first sentence of its head."""
     paragraph = re.match(r"(?:^//! .*\n)+", read(root_of(crate)), re.M).group()
-    return " ".join(line[4:].strip() for line in paragraph.splitlines())
+    return re.split(r"(?<=\.) ", " ".join(line[4:].strip() for line in paragraph.splitlines()))[0]
 
 
 def table():
-    """The table of crates; the name of a layer is at its first crate."""
-    rows = [
-        f"| {layer if crate == crates[0] else ''} | `{crate}` | {head_of(crate)} |\n"
-        for layer, crates in layers()
-        for crate in crates
-    ]
-    return "| Layer | Crate | What it is |\n|---|---|---|\n" + "".join(rows)
+    """The table of crates."""
+    rows = [f"| `{crate}` | {head_of(crate)} |\n" for crate in names()]
+    return "| Crate | What it is |\n|---|---|\n" + "".join(rows)
 
 
 def with_made(page, script, made):

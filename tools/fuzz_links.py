@@ -1,4 +1,4 @@
-"""What docs/FORMATS.md says of `links`: what `run` writes, and the rounds of the stations' clocks, for fuzz.py."""
+"""What docs/FORMATS_OUTPUT.md says of `links`: what `run` writes, and the rounds of the clocks, for fuzz.py."""
 from fuzz_live import Difference
 from fuzz_model import expected_model
 from fuzz_watch import check_beyond

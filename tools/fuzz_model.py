@@ -1,4 +1,4 @@
-"""What docs/FORMATS.md says of a model's text, written once more over Python's reader of TOML, for fuzz.py.
+"""What docs/FORMATS_MODEL.md says of a model's text, written once more over Python's reader of TOML, for fuzz.py.
 
 Python reads TOML 1.0 and `cloner` TOML 1.1. Where only the later one may take a text, nothing is said of it.
 """

@@ -1,4 +1,4 @@
-"""What docs/FORMATS.md says of stations, messages and draws, written once more as a slow simulator of one clone.
+"""What docs/FORMATS_MODEL.md says of stations, messages and draws, written once more as a slow simulator of one clone.
 
 It works from one heap of messages, and knows no windows and no sharing. fuzz_save.py compares snapshots with it.
 """

@@ -1,5 +1,5 @@
 #!/usr/bin/env python3
-"""What docs/FORMATS.md says of `save` and `resume`, and what fuzz.py compares of them.
+"""What docs/FORMATS_SNAPSHOT.md says of `save` and `resume`, and what fuzz.py compares of them.
 
     tools/fuzz_save.py [--cases N] [--seed N] [--first N]
 

@@ -1,4 +1,4 @@
-"""What docs/FORMATS.md says of a script on a valid model, written once more, for fuzz.py."""
+"""What docs/FORMATS_SCRIPT.md says of a script on a valid model, written once more, for fuzz.py."""
 import re
 
 NAME = re.compile(r"[a-z][a-z0-9_]{0,15}\Z")

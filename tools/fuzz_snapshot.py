@@ -1,4 +1,4 @@
-"""What docs/FORMATS.md says of snapshots, written once more over fuzz_run.py: writing, reading and resuming one.
+"""What docs/FORMATS_SNAPSHOT.md says, written once more over fuzz_run.py: writing, reading and resuming one.
 
 The text is read line by line with patterns, and a fault is raised where the page says. Nothing is known here of how
 `cloner` reads.

@@ -1,4 +1,4 @@
-"""What docs/FORMATS.md says of the statistics that `stats` writes, worked out once more from the traces, for fuzz.py.
+"""What docs/FORMATS_OUTPUT.md says of what `stats` writes, worked out once more from the traces, for fuzz.py.
 
 It keeps each visit, and adds up times in the system and waits visit by visit: by Little's law and Lindley's equation
 these sums are the figures of `cloner`, which walks along a log and keeps no visit.

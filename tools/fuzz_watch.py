@@ -1,4 +1,4 @@
-"""What docs/FORMATS.md says of watches, written once more, and `watch` compared with `run`, for fuzz.py.
+"""What docs/FORMATS_SCRIPT.md says of watches, written once more, and `watch` compared with `run`, for fuzz.py.
 
 The due times are read off the traces of `run`. Each watch that makes its branch gives the script a fork, and a set at
 the due time plus the lookahead. `run` of this longer script must write what `watch` writes.

@@ -19,7 +19,7 @@ ENVIRONMENT = dict(os.environ, PYTHONPATH=SOURCES)
 PROGRAM = shutil.which("cloner")
 needs_program = unittest.skipUnless(PROGRAM, "there is no cloner on the path")
 
-# the first example of docs/FORMATS.md
+# the first example of docs/FORMATS_MODEL.md
 MODEL = """lookahead = 2
 horizon = 20
 [[station]]

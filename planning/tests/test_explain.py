@@ -235,7 +235,7 @@ class TablesOfFormats(unittest.TestCase):
         self.assertEqual(len(self.tables.commands()), 9)
 
     def test_links_become_pages(self):
-        self.assertEqual(unlinked("[the rules](#rules)"), "see docs/FORMATS.md#rules")
+        self.assertEqual(unlinked("[the rules](FORMATS_MODEL.md#rules)"), "see docs/FORMATS_MODEL.md#rules")
         self.assertEqual(unlinked("or `solo`: [PLANNING.md](PLANNING.md#memory)"), "or `solo`: docs/PLANNING.md#memory")
 
     def test_a_page_without_the_table(self):

@@ -1,4 +1,4 @@
-"""explain: deliberate mistakes in a snapshot, with the error lines that docs/FORMATS.md states for them, as text."""
+"""explain: deliberate mistakes in a snapshot, with the error lines of docs/FORMATS_SNAPSHOT.md, as text."""
 import os
 import tempfile
 import unittest

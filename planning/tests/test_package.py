@@ -96,8 +96,8 @@ class Limits(unittest.TestCase):
         said = {row["What"]: row["Limit"].replace(",", "") for row in self.tables.rows("What", "## Limits")}
         for what, limit in (("clones, `base` among them", limits.MAX_BRANCHES), ("analysts", limits.MAX_ANALYSTS),
                             ("decision list of a clone", limits.MAX_SETS), ("watches in a file", limits.MAX_WATCHES),
-                            ("forks, sets, ends and looks", limits.MAX_DECISIONS), ("room of a", limits.MAX_ROOM),
-                            ("model file; script", limits.MAX_FILE_BYTES), ("weight of", limits.MAX_WEIGHT),
+                            ("forks, sets, ends and looks", limits.MAX_DECISIONS),
+                            ("model file; script", limits.MAX_FILE_BYTES),
                             ("numbers in a script", limits.MAX_NUMBER), ("a line of the trace", limits.MAX_LINE_BYTES)):
             (text,) = [text for name, text in said.items() if name.startswith(what)]
             self.assertIn(str(limit), re.findall(r"\d+", text), what)

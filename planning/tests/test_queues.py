@@ -59,7 +59,7 @@ class ByArrival(unittest.TestCase):
 
 
 class ByClass(unittest.TestCase):
-    # the example of docs/FORMATS.md, to its end
+    # the example of docs/FORMATS_MODEL.md, to its end
     MESSAGES = [
         (4, "job high.0:1", (1, 0, 0, 0)), (5, "job low.0:2", (1, 1, 0, 0)), (6, "job high.1:1", (1, 2, 0, 0)),
         (8, "job high.2:1", (1, 3, 0, 0)), (8, "done high.0:1", (1, 2, 1, 0)), (12, "done high.1:1", (1, 1, 2, 0)),

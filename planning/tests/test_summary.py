@@ -64,7 +64,7 @@ ROSTER = """clone base
 19 out desk 7 job gate.0 got=2 stay=30
 """
 
-# The example of service by class in docs/FORMATS.md, to its end. By class: high.0 0, high.1 6 to 8 = 2,
+# The example of service by class in docs/FORMATS_MODEL.md, to its end. By class: high.0 0, high.1 6 to 8 = 2,
 # high.2 8 to 12 = 4, low.0 5 to 16 = 11. By arrival it would be low.0 3, high.1 6, high.2 8.
 CLASS_MODEL = "format = 2\n" + MODEL.replace("room = 2", 'room = 9\norder = "class"').replace("= 20", "= 34")
 BY_CLASS = """clone base

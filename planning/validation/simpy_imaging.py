@@ -4,8 +4,8 @@
     planning/validation/simpy_imaging.py [--seed N] [--words cloner|python] [--trace FILE]
 
 It needs SimPy 3, for instance Debian's python3-simpy3. It has the model's numbers written out a second
-time and does not read examples/imaging.toml. It follows docs/FORMATS.md also for simultaneous events: those of the
-smaller sender come first, and of one sender those that were sent first. With --words python it draws from Python's
+time and does not read examples/imaging.toml. It follows docs/FORMATS_MODEL.md also for simultaneous events: those of
+the smaller sender come first, and of one sender those that were sent first. With --words python it draws from Python's
 `random`. With --words cloner it draws what `cloner` draws for the same seed, and then the traces must be equal.
 """
 import argparse

@@ -110,7 +110,7 @@ class Explainer:
         return [table.get("name") for table in self.places.stations()]
 
     def about(self, key: str) -> List[str]:
-        """Returns what the tables of FORMATS say of a key."""
+        """Returns what the tables of FORMATS_MODEL say of a key."""
         for keys in (self.top if self.refusal.station == 0 else self.station_keys, self.link_keys):
             if key in keys:
                 found = keys[key]

@@ -1,4 +1,4 @@
-"""Reads the tables of docs/FORMATS.md: refusals, statuses, keys, parameters, lines of scripts and of other files."""
+"""Reads the tables of docs/FORMATS*.md: refusals, statuses, keys, parameters, lines of scripts and of other files."""
 import os
 import re
 from typing import Any, Dict, List, Match, NamedTuple, Optional, Tuple
@@ -45,7 +45,7 @@ def number_in(text: str) -> int:
 
 
 class Tables:
-    """The tables of one text of FORMATS.md."""
+    """The tables of a text, that of docs/FORMATS*.md."""
 
     def __init__(self, text: str):
         self.text = text
@@ -57,10 +57,10 @@ class Tables:
         """
         text = self.text.split(f"\n{heading}\n", 1)[-1] if heading else self.text
         if heading and len(text) == len(self.text):
-            raise PlanningError(f"docs/FORMATS.md has no section {heading.lstrip('# ')}")
+            raise PlanningError(f"docs/FORMATS*.md have no section {heading.lstrip('# ')}")
         found = re.search(rf"^\| {re.escape(first)} \|.*\n\|[-|: ]+\|\n((?:\|.*\n?)+)", text, re.M)
         if not found:
-            raise PlanningError(f"docs/FORMATS.md has no table that begins with {first}")
+            raise PlanningError(f"docs/FORMATS*.md have no table that begins with {first}")
         titles = cells(found.group().split("\n", 1)[0])
         return [dict(zip(titles, cells(line))) for line in found.group(1).rstrip("\n").split("\n")]
 
@@ -101,7 +101,7 @@ class Tables:
         """Returns the form of a watch by its first word."""
         found = re.search(r"^watch [A-Z].*$", self.text, re.M)
         if not found:
-            raise PlanningError("docs/FORMATS.md has no form of a watch")
+            raise PlanningError("docs/FORMATS*.md have no form of a watch")
         return {"watch": found.group()}
 
     def snapshot_forms(self) -> Dict[str, str]:
@@ -131,7 +131,7 @@ def unlinked(text: str) -> str:
     def plain(found: Match[str]) -> str:
         """Returns one link as plain text."""
         words, target = found.group(1), found.group(2)
-        page = "docs/FORMATS.md" + target if target.startswith("#") else "docs/" + target
+        page = "docs/" + target
         return f"see {page}" if alone else page if words.endswith(".md") else f"{words} ({page})"
     return LINK.sub(plain, text)
 
@@ -207,7 +207,7 @@ def type_of(value: Any) -> str:
 
 
 def read_tables(path: Optional[str] = None) -> Tables:
-    """Returns the tables of docs/FORMATS.md; PlanningError if the page cannot be read."""
+    """Returns the tables of docs/FORMATS*.md; PlanningError if their copy cannot be read."""
     path = path or FORMATS
     try:
         with open(path, encoding="utf-8") as file:

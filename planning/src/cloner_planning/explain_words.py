@@ -1,4 +1,4 @@
-"""Says which word of a command line of cloner is wrong. The forms are those of the table in docs/FORMATS.md."""
+"""Says which word of a command line of cloner is wrong. The forms are those of the table in docs/FORMATS_OUTPUT.md."""
 from typing import Dict, List, NamedTuple, Optional, Tuple
 
 from .explain_tables import Tables

@@ -1,4 +1,4 @@
-"""The limits of docs/FORMATS.md, each once. A test compares them with the page."""
+"""The limits of docs/FORMATS*.md, each once. A test compares them with these pages."""
 from typing import Dict, Tuple, Union
 
 MILLION = 1_000_000

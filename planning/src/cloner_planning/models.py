@@ -1,7 +1,7 @@
 """Reads model files.
 
-A file that breaks a rule of docs/FORMATS.md on which the tools rely is refused in one line. Not all refusals of cloner
-are made here: unknown keys and delays below the lookahead pass.
+A file that breaks a rule of docs/FORMATS_MODEL.md on which the tools rely is refused in one line. Not all refusals of
+cloner are made here: unknown keys and delays below the lookahead pass.
 """
 from typing import Any, Dict, List, NamedTuple, Optional, Tuple
 

@@ -1,8 +1,8 @@
 """Reads decision scripts: the decisions in order, and what each branch has of them.
 
-The grammar is that of docs/FORMATS.md, and a line that breaks it is refused here. Of the refusals of decisions only
-those are made that branches depend on: a branch that is unknown, there already, or ended. They are made when a branch
-is asked for.
+The grammar is that of docs/FORMATS_SCRIPT.md, and a line that breaks it is refused here. Of the refusals of decisions
+only those are made that branches depend on: a branch that is unknown, there already, or ended. They are made when a
+branch is asked for.
 """
 from typing import Dict, List, NamedTuple, Optional, Tuple
 

@@ -1,6 +1,6 @@
 """Streams the traces that cloner's run, solo and live write: branch by branch, line by line, in one pass.
 
-Every line is checked against the format of docs/FORMATS.md first, so callers can split it without further checks.
+Every line is checked against the format of docs/FORMATS_OUTPUT.md first, so callers can split it without checks.
 """
 import re
 import sys
