@@ -24,7 +24,7 @@
 //!
 //!     use Rattle.checkpoint.proofs.RunKeeps.{run_invariant_holds}
 //!
-//! Two promises follow from these laws. A resumed run writes the same text as the unbroken run, and no snapshot of a run
+//! Two promises follow from these laws. A resumed run writes the same text as the unbroken run. No snapshot of a run
 //! is refused.
 ghost use Rattle.net_model.specs.Net.{Net};
 ghost use Rattle.net_model.specs.Rules.{IsNet};

@@ -17,8 +17,8 @@
 //!
 //! A run costs one step for each message that differs. Writing costs one merge of station logs for each line that a
 //! branch does not share with the branch before. Memory holds the world, and the lines that a text shares with the next
-//! one. The promises of the README rest on the contract of `cloner`: right traces, the first rule that is broken, all or
-//! nothing, bounded work, each text in one call, each file fetched once.
+//! one. The promises of the README rest on the contract of `cloner`: right traces, the first rule that is broken, all
+//! or nothing, bounded work, each text in one call, each file fetched once.
 //!
 //! The tests are in `program_tests`.
 #![tactic(auto)]

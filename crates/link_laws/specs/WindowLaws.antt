@@ -1,5 +1,5 @@
--- The laws of windows, as statements that contracts cite. All of them follow from the laws of rounds, since a window is a
--- round with one time for all stations.
+-- The laws of windows, as statements that contracts cite. All of them follow from the laws of rounds, since a window
+-- is a round with one time for all stations.
 use Rattle.std.specs.Prelude.{◌≡◌, ◌⊎◌, ◌↔◌, ℕ, ◌+◌, ◌*◌, ◌<◌, ◌≤◌, List, [], ◌∷◌, Bool, true, length}
 use Rattle.sim_base.specs.Clones.{Clone, clone_at}
 use Rattle.sim_base.specs.Marked.{JoinsMarks}

@@ -27,9 +27,9 @@
 //!
 //! So a window that skips idle time is a round, too.
 //!
-//! `specs/` has all definitions. Read them in this order: Cuts, CutCopies, Clocks, RoundLaws, WindowLaws, Examples. There is
-//! nothing to run, and nothing costs time. The contract of each function in `laws` is a law, and `examples` pins the
-//! clocks by worked values.
+//! `specs/` has all definitions. Read them in this order: Cuts, CutCopies, Clocks, RoundLaws, WindowLaws, Examples.
+//! There is nothing to run, and nothing costs time. The contract of each function in `laws` is a law, and `examples`
+//! pins the clocks by worked values.
 //!
 //! It promises, for every simulation that meets the laws of `run_laws` and keeps to its links (`KeepsToLinks`):
 //!

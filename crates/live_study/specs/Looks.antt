@@ -1,4 +1,4 @@
--- What analysts see at their looks, and that it is true.
+-- What analysts see at their looks, and that it was correct when it was seen.
 use Rattle.std.specs.Prelude.{◌≡◌, ◌⊎◌, ℕ, ◌≤◌, List, [], ◌∷◌, ◌++◌, length, map, take, Some, None, IfSome, IfNone}
 use Rattle.std.specs.List.{AllByRecursion}
 use mathlib.Core.List.{IsPrefix}

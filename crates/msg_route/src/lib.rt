@@ -18,8 +18,8 @@
 //! ```
 //!
 //! `group` costs as much as inserting its messages into a `Pending` and removing them, `cut` one intersection of sets
-//! for each copy. The engine does not call them. It delivers each message as it is sent, since pending messages merge with
-//! their equals anyway. Of this crate its contracts use only the messages that a clone takes (`taken_at`).
+//! for each copy. The engine does not call them. It delivers each message as it is sent, since pending messages merge
+//! with their equals anyway. Of this crate its contracts use only the messages that a clone takes (`taken_at`).
 //!
 //! The two calls promise that no message is lost and none is given twice. `laws` shows that a clone takes the same
 //! messages from the grouped ones as from those that were sent.

@@ -25,8 +25,8 @@
 //!
 //! `specs/Text.antt` defines the model of a text, key by key and in a fixed order of the rules. `read_model` returns
 //! exactly that, unless it is out of memory. Every `Model` keeps the rules of `specs/Rules.antt`, so no crate above has
-//! to test them again. Example texts are in `specs/Examples.antt`. Of the promises in README.md this crate carries "a
-//! refusal is the first one, and it is true", for the text of the model.
+//! to test them again. Example texts are in `specs/Examples.antt`. Of the promises in README.md this crate carries "an
+//! error names the first rule that is broken", for the text of the model.
 //!
 //! The tests are in `base_tests`.
 #![tactic(auto)]

@@ -33,7 +33,7 @@
 //! |---|---|---|
 //! | Little's law, finite form | the area under the number in the system is the sum of all times in the system | all |
 //! | Lindley's equation | each wait follows from the wait before it | one, until a parameter changes |
-//! | order of service | jobs depart in order of arrival: the n-th visit ends at the n-th departure | the same, by arrival |
+//! | order of service | jobs depart in order of arrival: visit n ends at departure n | the same, by arrival |
 //!
 //! In Lindley's equation the n-th visit has the n-th arrival, the n-th service start and the n-th departure. At a
 //! server by arrival these are the visit's own. At a server by class they may be of different jobs: the equation is

@@ -27,8 +27,8 @@
 //!
 //! That each station may run alone up to the next front is a law of `link_laws`, since a window is a round.
 //!
-//! Three promises rest on both. Copies give every clone its own trace. The report counts a message once if clones handle
-//! it together. Windows on many threads change nothing.
+//! Three promises rest on both. Copies give every clone its own trace. The report counts a message once if clones
+//! handle it together. Windows on many threads change nothing.
 #![tactic(auto)]
 
 pub mod beginning_examples;

@@ -1,7 +1,7 @@
 //! The pending messages of all stations: the future event list.
 //!
-//! Messages that fit 16 bytes are packed, in one heap for all stations. The others are in a list, which is nearly always
-//! empty. It is not empty for a decision with a great number, or in a run that was resumed at great numbers:
+//! Messages that fit 16 bytes are packed, in one heap for all stations. The others are in a list, which is nearly
+//! always empty. It is not empty for a decision with a great number, or in a run that was resumed at great numbers:
 //!
 //!     heap  [3 gate tick] [8 desk job ..] ..        wide  []
 //!

@@ -31,8 +31,8 @@
 ghost use Rattle.watch_points.specs.Keeping.{ClonesInTriggerOrder};
 ghost use Rattle.watch_points.specs.BranchLaws.{BeyondStays, BranchesAreAppended, BranchesStay, BranchIsNotLate};
 ghost use Rattle.watch_points.specs.BranchLaws.{DueAtFront, DueBeforeFront, DueIsNotLate, ForkThenSetAppends};
-ghost use Rattle.watch_points.specs.BranchLaws.{HeldClonesStay, MadeBranchHasNoEnd, NewNameIsOutcome, NothingDueLeavesLogs};
-ghost use Rattle.watch_points.specs.BranchLaws.{OutcomeIsOfEarlier, ScriptNameIsFound};
+ghost use Rattle.watch_points.specs.BranchLaws.{HeldClonesStay, MadeBranchHasNoEnd, NewNameIsOutcome};
+ghost use Rattle.watch_points.specs.BranchLaws.{NothingDueLeavesLogs, OutcomeIsOfEarlier, ScriptNameIsFound};
 ghost use Rattle.watch_points.specs.PassLaws.{HoldsAtStart, PassBegins, PassEnds, PassGoesOn};
 
 use run_laws::laws::{NumberingStations, Stations};
