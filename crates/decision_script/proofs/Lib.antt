@@ -1,5 +1,5 @@
 pub mod OwnDecisions
-pub mod OneLine
+pub mod Cutting
 pub mod Readings
 pub mod OwnScript
 pub mod TextParts

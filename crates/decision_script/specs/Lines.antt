@@ -25,6 +25,16 @@ has_bytes bs = not (length bs == 0)
 abbrev pub lines : List ℕ → List (List ℕ)
 lines text = map strip_carriage_return (slice_split is_newline text)
 
+-- the lines of the rest of a text; none if no rest is left
+abbrev pub lines_left : Option (List ℕ) → List (List ℕ)
+lines_left None = []
+lines_left (Some rest) = lines rest
+
+-- the lines that are left of a text, and the number of the first
+pub record LinesLeft : Type 0 where
+  pub line : ℕ
+  pub texts : List (List ℕ)
+
 -- the runs of nonblank bytes
 abbrev pub words : List ℕ → List (List ℕ)
 words line = filter has_bytes (slice_split is_blank line)

@@ -41,6 +41,7 @@ mod one_clone;
 mod print;
 mod read;
 pub mod script;
+mod text_lines;
 pub mod words;
 
 pub use fault::ScriptFault;

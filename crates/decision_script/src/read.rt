@@ -1,14 +1,14 @@
 //! Reads a script.
 ghost use Rattle.std.specs.Prelude.{◌≡◌, ◌≢◌, ◌≤◌, length, codes, Ok, Err, IfOk, IfErr};
-ghost use Rattle.std.specs.Str.Lines.{strip_carriage_return};
 ghost use Rattle.sim_base.specs.declared.limits.TheConstants.{MAX_FILE_BYTES};
-ghost use Rattle.decision_script.specs.Lines.{is_newline, lines};
+ghost use Rattle.decision_script.specs.Lines.{lines};
 ghost use Rattle.decision_script.specs.Reading.{after_lines, fault_at, script, new_reader};
 
 use crate::fault::{LineFault, ScriptFault};
 use crate::item::{Act, Item, push_item};
 use crate::line::{ParsedLine, parse_line};
 use crate::script::{MAX_ANALYSTS, MAX_ITEMS, Script};
+use crate::text_lines::TextLines;
 use sim_base::{MAX_FILE_BYTES, Name};
 use std::alloc::Global;
 use std::marker::Model;
@@ -143,35 +143,16 @@ fn fault_of_line(line: u32, broken: LineFault) -> ScriptFault
     }
 }
 
-/// A line without a carriage return at its end.
-pub fn without_return(line: &[u8]) -> &[u8]
-    ensures value { result.now ≡ strip_carriage_return line.now }
-{
-    match line {
-        [text @ .., b'\r'] => text,
-        _ => line,
-    }
-}
-
-/// Whether the byte ends a line.
-pub fn ends_line(byte: u8) -> bool
-    ensures value { result ≡ is_newline byte }
-{
-    byte == b'\n'
-}
-
+#[tactic(auto, unfolding(crate::specs::Reading::after_lines))]
 fn read_lines(alloc: Global, text: &[u8]) -> Result<Reader, ScriptFault>
     requires length_max { length text.now ≤ MAX_FILE_BYTES }
     ensures ok { IfOk result (λ r. after_lines 1 new_reader (lines text.now) ≡ Ok r) }
     ensures refused { IfErr result (λ e. e ≢ ScriptFault.NoMemory → after_lines 1 new_reader (lines text.now) ≡ Err e) }
 {
     let mut reader = Reader::new(alloc)?;
-    let mut line: u32 = 0;
-    'lines: for part in text.split(|b| ends_line(*b)) {
-        line += 1;
-        if let Err(fault) = reader.read_line(alloc, line, without_return(part)) {
-            return Err(fault);
-        }
+    let mut left = TextLines::of(text);
+    'lines: while let Some((line, text)) = left.next_line() {
+        reader.read_line(alloc, line, text)?;
     }
     Ok(reader)
 }

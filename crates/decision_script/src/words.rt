@@ -3,8 +3,8 @@
 //! They read the lines of a script, and those of any other text made of the same words:
 //!
 //! ```text
-//! for part in text.split(|byte| ends_line(*byte)) {
-//!     let line = without_return(part);
+//! let mut left = TextLines::of(text);
+//! while let Some((number, line)) = left.next_line() {
 //!     // if not `is_ascii_line(line)`: `LineFault::NotAscii`
 //!     let words = words_of(alloc, line)?;
 //!     // if there are no words, or the first `is_comment`: the line means nothing
@@ -17,4 +17,4 @@
 pub use crate::fault::LineFault;
 pub use crate::line::{is_ascii_line, is_comment, read_change, read_name, read_param, words_of};
 pub use crate::number::{MAX_NUMBER, read_number};
-pub use crate::read::{ends_line, without_return};
+pub use crate::text_lines::{TextLines, cut_at};

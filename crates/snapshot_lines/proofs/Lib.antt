@@ -1,4 +1,3 @@
-pub mod Cutting
 pub mod NumberWords
 pub mod ReadingMany
 pub mod ExactLines

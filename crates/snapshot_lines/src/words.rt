@@ -1,26 +1,10 @@
 //! The words of a line, one after the other.
-ghost use Rattle.std.specs.Prelude.{◌≡◌, ◌∷◌, ◌<◌, ◌≤◌, ◌==◌, [], length, position, IfSome, MatchBool, MatchOption};
+ghost use Rattle.std.specs.Prelude.{◌≡◌, ◌∷◌, ◌≤◌, ◌==◌, [], length, MatchBool, MatchOption};
 ghost use Rattle.std.specs.List.{slice_split};
 ghost use Rattle.snapshot_lines.specs.Forms.{whole as whole', words_after};
 
+use decision_script::words::cut_at;
 use std::marker::Model;
-
-fn place_of(bytes: &[u8], between: u8) -> Option<usize>
-    ensures value { result ≡ position (λ b. b == between) bytes.now }
-{
-    bytes.iter().position(|byte| *byte == between)
-}
-
-/// The bytes before the first byte `between`, and those after it; None if there is no such byte.
-#[tactic(auto, using(crate::proofs::Cutting::uncut_bytes, crate::proofs::Cutting::cut_bytes))]
-pub fn cut_at(bytes: &[u8], between: u8) -> Option<(&[u8], &[u8])>
-    ensures cut { MatchOption result (slice_split (λ b. b == between) bytes.now ≡ bytes.now ∷ [])
-        (λ p. slice_split (λ b. b == between) bytes.now ≡ p.0.now ∷ slice_split (λ b. b == between) p.1.now) }
-    ensures shorter { IfSome result (λ p. length p.1.now < length bytes.now) }
-{
-    let at = place_of(bytes, between)?;
-    Some((&bytes[..at], &bytes[at + 1..]))
-}
 
 /// The words that are left of a line, or the parts that are left of a word: they have single bytes between them, which
 /// are spaces or dots.
@@ -78,7 +62,7 @@ impl<'a> Words<'a> {
     }
 
     /// Whether no word is left.
-    #[tactic(auto, using(crate::proofs::Cutting::some_word))]
+    #[tactic(auto, using(decision_script::proofs::Cutting::some_word))]
     pub fn is_empty(&self) -> bool
         ensures value { MatchBool result (self.now ≡ []) (1 ≤ length self.now) }
     {

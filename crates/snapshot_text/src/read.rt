@@ -11,9 +11,9 @@ use crate::accepting::{first_bad, first_unfit, fits_front};
 use crate::fault::SnapshotFault;
 use crate::reader::Reader;
 use checkpoint::Snapshot;
+use decision_script::words::cut_at;
 use net_model::Model;
 use sim_base::{MAX_FILE_BYTES, NoMemory};
-use snapshot_lines::words::cut_at;
 use std::alloc::Global;
 
 // Takes a line, of which the first begins a reader, and returns whether it is what it must be.

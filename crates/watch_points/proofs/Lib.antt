@@ -1,4 +1,3 @@
-pub mod OneLine
 pub mod Elements
 pub mod ClonePlaces
 pub mod NamesBack

@@ -7,7 +7,7 @@ ghost use Rattle.watch_points.specs.Reading.{after_line, after_lines, after_sayi
 use crate::fault::WatchFault;
 use crate::line::parse_line;
 use crate::watch::{MAX_WATCHES, Watch, Watches, push_watch};
-use decision_script::words::{LineFault, ends_line, without_return};
+use decision_script::words::{LineFault, TextLines};
 use sim_base::MAX_FILE_BYTES;
 use std::alloc::Global;
 
@@ -58,18 +58,16 @@ impl Watches {
     }
 }
 
+#[tactic(auto, unfolding(crate::specs::Reading::after_lines))]
 fn read_lines(alloc: Global, text: &[u8]) -> Result<Watches, WatchFault>
     requires at_most { length text.now ≤ MAX_FILE_BYTES }
     ensures ok { IfOk result (λ ws. after_lines 1 [] (lines text.now) ≡ Ok ws) }
     ensures refused { IfErr result (λ e. e ≢ WatchFault.NoMemory → after_lines 1 [] (lines text.now) ≡ Err e) }
 {
     let mut watches = Watches::new(alloc);
-    let mut line: u32 = 0;
-    'lines: for part in text.split(|b| ends_line(*b)) {
-        line += 1;
-        if let Err(fault) = watches.read_line(alloc, line, without_return(part)) {
-            return Err(fault);
-        }
+    let mut left = TextLines::of(text);
+    'lines: while let Some((line, text)) = left.next_line() {
+        watches.read_line(alloc, line, text)?;
     }
     Ok(watches)
 }

@@ -1,8 +1,8 @@
 use Rattle.std.proofs.Common.{◌≡◌, ◌==◌, ◌+◌, ◌-◌, length, drop, Some, None, ◌∙◌, sym, arith}
 use Rattle.std.specs.Prelude.{position}
 use Rattle.std.proofs.lemmas.List.{length-drop, take_all}
-use Rattle.snapshot_lines.proofs.Cutting.{cut_bytes, uncut_bytes}
-use Rattle.snapshot_lines.proofs.words.cut_at.Goals as goal
+use Rattle.decision_script.proofs.Cutting.{cut_bytes, uncut_bytes}
+use Rattle.decision_script.proofs.text_lines.cut_at.Goals as goal
 
 pub returns-in_err-at-clause-cut : goal.returns-in_err-at-clause-cut
 returns-in_err-at-clause-cut c =
