@@ -1,9 +1,10 @@
 -- From texts that were read to the possible endings, and why nothing is prepared.
-use Rattle.std.proofs.Common.{◌≡◌, ◌∙◌, ◌≤◌, ℕ, ◌+◌, refl, sym, ap, ap₂, subst, arith, List, [], Option, Some, None}
+use Rattle.std.proofs.Common.{◌≡◌, ◌∙◌, ◌≤◌, ℕ, ◌+◌, sym, ap, ap₂, subst, arith, List, [], Option, Some, None}
 use Rattle.std.proofs.Common.{Result, Ok, Err}
 use Rattle.sim_base.specs.Clones.{Clone}
-use Rattle.sim_outer.specs.Counts.{AreCounted}
+use Rattle.std.proofs.lemmas.Result.{on_ok_weaker}
 use Rattle.sim_outer.specs.Files.{Files}
+use Rattle.sim_outer.specs.Views.{InputsView}
 use Rattle.net_model.specs.Net.{Net}
 use Rattle.net_model.specs.Text.{model}
 use Rattle.net_model.specs.declared.fault.ModelFault.{ModelFault}
@@ -38,6 +39,7 @@ use Rattle.cloner_top.specs.Deciding.{IsDecided, IsRefusal, clones_of, clones_of
 use Rattle.cloner_top.specs.Endings.{Ending, MayEnd, MayGoOn, MayLive, MayResume, MayRunWatched}
 use Rattle.cloner_top.specs.Endings.{MaySimulate, MayStudy, MayWatch, early_stop}
 use Rattle.cloner_top.specs.Endings as ends
+use Rattle.cloner_top.specs.Fetches.{HasFetched, HasFetchedUpTo}
 use Rattle.cloner_top.specs.Prepared.{IsNotPrepared}
 use Rattle.cloner_top.specs.Reading.{IsBadModel, IsBadScript, IsBadSnapshot, IsBadWatch, IsBadWatches, IsModelOf}
 use Rattle.cloner_top.specs.Reading.{IsNoScriptOf, IsNotFetched, IsScriptOf, IsUnscripted}
@@ -45,6 +47,7 @@ use Rattle.cloner_top.specs.Refusals.{IsMemoryOrStop}
 use Rattle.cloner_top.specs.Texts.{AreTexts, IsDue, IsText, IsTextOf, IsUnread, fetches_of, known_from}
 use Rattle.cloner_top.specs.Texts.{later_fetches}
 use Rattle.cloner_top.specs.Texts.{origin_of, study_origin}
+use Rattle.cloner_top.proofs.Endings.{if_ok}
 use Rattle.cloner_top.proofs.Puts.{counted_both}
 
 -- ---- the texts of an assignment
@@ -185,66 +188,62 @@ resume_ends files mn xn m x net m_is is_model x_is end may = record {
   may = ends.read net end is_model may;
 }
 
--- one fetch count, followed by another, is at most the fetches of all texts
-pub few_of_both : (n m : ℕ) (old mid new : Option ℕ) → AreCounted n old mid
-    → (k : ℕ) × ((k ≤ m) × AreCounted k mid new) → (k : ℕ) × ((k ≤ n + m) × AreCounted k old new)
-few_of_both n m old mid new h more = let most : n + more.0 ≤ n + m = let l = more.1.0 in omega (arith, l) in
-    (n + more.0, (most, counted_both n more.0 old mid new h more.1.1))
+-- ---- fetches
 
--- the fetches of the first are at most those of both
-pub few_of_first : (n m : ℕ) (old new : Option ℕ) → AreCounted n old new
-    → (k : ℕ) × ((k ≤ n + m) × AreCounted k old new)
-few_of_first n m old new h = let most : n ≤ n + m = omega arith in (n, (most, h))
+-- fetches, and then others
+fetched_both : (n m : ℕ) (before mid after : InputsView) → HasFetched n before mid → HasFetched m mid after
+    → HasFetched (n + m) before after
+fetched_both n m before mid after h k = record {
+  later = let one = h.later in let two = k.later in omega (arith, one, two);
+  same = k.same ∙ h.same;
+  counted = counted_both n m before.calls mid.calls after.calls h.counted k.counted;
+}
+
+-- fetches, and then at most a number of others
+pub fetched_then : {T E : Type 0} (n m : ℕ) (before mid after : InputsView) (result : Result T E)
+    → HasFetched n before mid → HasFetchedUpTo m mid after result → HasFetchedUpTo (n + m) before after result
+fetched_then n m before mid after result h k =
+    let most : n + k.at_most.0 ≤ n + m = let l = k.at_most.1.0 in omega (arith, l) in record {
+      later = let one = h.later in let two = k.later in omega (arith, one, two);
+      same = k.same ∙ h.same;
+      all = on_ok_weaker result (counted_both n m before.calls mid.calls after.calls h.counted) k.all;
+      at_most = (
+        n + k.at_most.0,
+        (most, counted_both n k.at_most.0 before.calls mid.calls after.calls h.counted k.at_most.1.1),
+      );
+    }
+
+-- all texts were fetched, whatever the result
+fetched_all : {T E : Type 0} (n : ℕ) (before after : InputsView) (result : Result T E) → HasFetched n before after
+    → HasFetchedUpTo n before after result
+fetched_all n before after result h = let most : n ≤ n = omega arith in record {
+  later = h.later;
+  same = h.same;
+  all = if_ok result h.counted;
+  at_most = (n, (most, h.counted));
+}
 
 -- the fetches of two are at most those of all three
-pub few_of_two : (n m l : ℕ) (old mid new : Option ℕ) → AreCounted n old mid → AreCounted m mid new
-    → (k : ℕ) × ((k ≤ n + (m + l)) × AreCounted k old new)
-few_of_two n m l old mid new h k = let most : n + m ≤ n + (m + l) = omega arith in
-    (n + m, (most, counted_both n m old mid new h k))
+pub fetched_two : {T E : Type 0} (n m l : ℕ) (before mid after : InputsView) (e : E) → HasFetched n before mid
+    → HasFetched m mid after → HasFetchedUpTo {T = T} {E = E} (n + (m + l)) before after (Err e)
+fetched_two n m l before mid after e h k = let both = fetched_both n m before mid after h k in
+    let most : n + m ≤ n + (m + l) = omega arith in record {
+      later = both.later;
+      same = both.same;
+      all = tt;
+      at_most = (n + m, (most, both.counted));
+    }
 
 -- a study with watches fetches the script and the watches after the model
-pub watch_fetches : (a : AssignmentView) → (mn : List ℕ) × ((sn : List ℕ) × ((wn : List ℕ) × (a ≡ Watch mn sn wn)))
-    → (old mid new : Option ℕ) → AreCounted (fetches_of (origin_of a Script)) old mid
-    → AreCounted (fetches_of (origin_of a Watches)) mid new → AreCounted (later_fetches a) old new
-watch_fetches a is old mid new h k =
-    subst (λ x. AreCounted (fetches_of (origin_of x Script)) old mid
-    → AreCounted (fetches_of (origin_of x Watches)) mid new → AreCounted (later_fetches x) old new) (sym is.1.1.1)
-    (λ one two. counted_both 1 1 old mid new one two) h k
-
--- a study fetches only the script after the model
-pub study_fetches : (a : AssignmentView) (mode : Mode) → (source : SourceView) × (a ≡ Study source mode)
-    → (old new : Option ℕ) → AreCounted (fetches_of (origin_of a Script)) old new
-    → AreCounted (later_fetches a) old new
-study_fetches a mode is old new h = subst (λ n. AreCounted n old new) (sym (script_alone is.0 a is.1)) h
-  where
-    none : (source : SourceView) → fetches_of (study_origin source Watches) ≡ 0
-    none (FileNames m s) = refl
-    none (Number n) = refl
-
-    none_saved : (source : SourceView) → fetches_of (study_origin source Snapshot) ≡ 0
-    none_saved (FileNames m s) = refl
-    none_saved (Number n) = refl
-
-    script_alone : (source : SourceView) (x : AssignmentView) → x ≡ Study source mode
-        → later_fetches x ≡ fetches_of (origin_of x Script)
-    script_alone source x e = subst (λ y. later_fetches y ≡ fetches_of (origin_of y Script)) (sym e)
-        (let z = none source in let y = none_saved source in omega (arith, z, y))
-
--- the same for a live study
-pub live_fetches : (a : AssignmentView) → (mn : List ℕ) × ((sn : List ℕ) × (a ≡ Live mn sn))
-    → (old new : Option ℕ) → AreCounted (fetches_of (origin_of a Script)) old new
-    → AreCounted (later_fetches a) old new
-live_fetches a is old new h =
-    subst (λ x. AreCounted (fetches_of (origin_of x Script)) old new → AreCounted (later_fetches x) old new)
-    (sym is.1.1) (λ k. k) h
-
--- and for a run from a snapshot, which fetches only that text after the model
-pub resume_fetches : (a : AssignmentView) → (mn : List ℕ) × ((xn : List ℕ) × (a ≡ Resume mn xn))
-    → (old new : Option ℕ) → AreCounted (fetches_of (origin_of a Snapshot)) old new
-    → AreCounted (later_fetches a) old new
-resume_fetches a is old new h =
-    subst (λ x. AreCounted (fetches_of (origin_of x Snapshot)) old new → AreCounted (later_fetches x) old new)
-    (sym is.1.1) (λ k. k) h
+pub watch_fetched : {T E : Type 0} (a : AssignmentView)
+    → (mn : List ℕ) × ((sn : List ℕ) × ((wn : List ℕ) × (a ≡ Watch mn sn wn)))
+    → (before mid after : InputsView) (result : Result T E) → HasFetched (fetches_of (origin_of a Script)) before mid
+    → HasFetched (fetches_of (origin_of a Watches)) mid after
+    → HasFetchedUpTo (later_fetches a) before after result
+watch_fetched a is before mid after result h k =
+    subst (λ x. HasFetched (fetches_of (origin_of x Script)) before mid
+    → HasFetched (fetches_of (origin_of x Watches)) mid after → HasFetchedUpTo (later_fetches x) before after result)
+    (sym is.1.1.1) (λ one two. fetched_all 2 before after result (fetched_both 1 1 before mid after one two)) h k
 
 -- ---- why nothing is prepared
 

@@ -1,6 +1,7 @@
 pub mod Stops
 pub mod Refusals
 pub mod Texts
+pub mod Fetches
 pub mod Deciding
 pub mod Endings
 pub mod LiveRuns

@@ -1,11 +1,12 @@
 //! Reads all texts before the first message is handled, and makes all decisions, except those of a live study.
-ghost use Rattle.std.specs.Prelude.{◌≡◌, ◌≤◌, ◌+◌, ℕ, List, IfErr, IfOk, Ok, OnOk};
-ghost use Rattle.sim_outer.specs.Counts.{AreCounted, HasRisen};
+ghost use Rattle.std.specs.Prelude.{◌≡◌, ℕ, List, IfErr, IfOk, Ok, OnOk};
+ghost use Rattle.sim_outer.specs.Counts.{HasRisen};
 ghost use Rattle.decision_script.specs.Stating.{IsScript};
 ghost use Rattle.command_words.specs.Requests as requests;
 ghost use Rattle.command_words.specs.Requests.{SourceView, assignment_view};
 ghost use Rattle.watch_points.specs.Checking.{fit};
 ghost use Rattle.cloner_top.specs.Deciding.{IsDecided, IsRefusal, clones_of_book};
+ghost use Rattle.cloner_top.specs.Fetches.{HasFetched, HasFetchedUpTo};
 ghost use Rattle.cloner_top.specs.Prepared.{IsNotPrepared, IsPrepared, IsReady};
 ghost use Rattle.cloner_top.specs.Reading.{IsBadWatch, IsModelOf, IsScriptOf, IsUnscripted};
 ghost use Rattle.cloner_top.specs.Refusals.{IsMemoryOrStop};
@@ -51,10 +52,8 @@ fn fetch_model<I: Inputs>(
     ensures ok { IfOk result (λ net. IsModelOf (assignment_view assignment.now) (I.view inputs.old).files net) }
     ensures err { IfErr result (λ r. IsNotPrepared (HasRisen (I.view inputs.old).faults (I.view inputs.new).faults)
         (I.view inputs.old).files (assignment_view assignment.now) r) }
-    ensures later { (I.view inputs.old).faults ≤ (I.view inputs.new).faults }
-    ensures same { (I.view inputs.new).files ≡ (I.view inputs.old).files }
-    ensures counted { AreCounted (fetches_of (origin_of (assignment_view assignment.now) Text.Model))
-        (I.view inputs.old).calls (I.view inputs.new).calls }
+    ensures fetched { HasFetched (fetches_of (origin_of (assignment_view assignment.now) Text.Model))
+        (I.view inputs.old) (I.view inputs.new) }
 {
     let text = match fetch_text(alloc, inputs, assignment, Text::Model) {
         Ok(text) => text,
@@ -75,10 +74,8 @@ fn fetch_script<I: Inputs>(
     ensures ok { IfOk result (λ s. IsScriptOf (assignment_view assignment.now) (I.view inputs.old).files s) }
     ensures err { IfErr result (λ r. IsUnscripted (HasRisen (I.view inputs.old).faults (I.view inputs.new).faults)
         (assignment_view assignment.now) (I.view inputs.old).files r) }
-    ensures later { (I.view inputs.old).faults ≤ (I.view inputs.new).faults }
-    ensures same { (I.view inputs.new).files ≡ (I.view inputs.old).files }
-    ensures counted { AreCounted (fetches_of (origin_of (assignment_view assignment.now) Text.Script))
-        (I.view inputs.old).calls (I.view inputs.new).calls }
+    ensures fetched { HasFetched (fetches_of (origin_of (assignment_view assignment.now) Text.Script))
+        (I.view inputs.old) (I.view inputs.new) }
 {
     let text = match fetch_text(alloc, inputs, assignment, Text::Script) {
         Ok(text) => text,
@@ -104,12 +101,8 @@ fn prepare_study<I: Inputs>(
     ensures ok { IfOk result (λ p. IsPrepared (I.view inputs.old).files (assignment_view assignment.now) p) }
     ensures err { IfErr result (λ r. IsNotPrepared (HasRisen (I.view inputs.old).faults (I.view inputs.new).faults)
         (I.view inputs.old).files (assignment_view assignment.now) r) }
-    ensures later { (I.view inputs.old).faults ≤ (I.view inputs.new).faults }
-    ensures same { (I.view inputs.new).files ≡ (I.view inputs.old).files }
-    ensures fetched { OnOk result (AreCounted (later_fetches (assignment_view assignment.now))
-        (I.view inputs.old).calls (I.view inputs.new).calls) }
-    ensures at_most { (n : ℕ) × ((n ≤ later_fetches (assignment_view assignment.now))
-        × AreCounted n (I.view inputs.old).calls (I.view inputs.new).calls) }
+    ensures fetched { HasFetchedUpTo (later_fetches (assignment_view assignment.now))
+        (I.view inputs.old) (I.view inputs.new) result }
 {
     let script = match fetch_script(alloc, inputs, assignment) {
         Ok(script) => script,
@@ -134,12 +127,8 @@ fn prepare_live<I: Inputs>(
     ensures ok { IfOk result (λ p. IsPrepared (I.view inputs.old).files (assignment_view assignment.now) p) }
     ensures err { IfErr result (λ r. IsNotPrepared (HasRisen (I.view inputs.old).faults (I.view inputs.new).faults)
         (I.view inputs.old).files (assignment_view assignment.now) r) }
-    ensures later { (I.view inputs.old).faults ≤ (I.view inputs.new).faults }
-    ensures same { (I.view inputs.new).files ≡ (I.view inputs.old).files }
-    ensures fetched { OnOk result (AreCounted (later_fetches (assignment_view assignment.now))
-        (I.view inputs.old).calls (I.view inputs.new).calls) }
-    ensures at_most { (n : ℕ) × ((n ≤ later_fetches (assignment_view assignment.now))
-        × AreCounted n (I.view inputs.old).calls (I.view inputs.new).calls) }
+    ensures fetched { HasFetchedUpTo (later_fetches (assignment_view assignment.now))
+        (I.view inputs.old) (I.view inputs.new) result }
 {
     match fetch_script(alloc, inputs, assignment) {
         Ok(script) => Ok(Prepared::Undecided(Study { model, script })),
@@ -176,12 +165,8 @@ fn prepare_watch<I: Inputs>(
     ensures ok { IfOk result (λ p. IsPrepared (I.view inputs.old).files (assignment_view assignment.now) p) }
     ensures err { IfErr result (λ r. IsNotPrepared (HasRisen (I.view inputs.old).faults (I.view inputs.new).faults)
         (I.view inputs.old).files (assignment_view assignment.now) r) }
-    ensures later { (I.view inputs.old).faults ≤ (I.view inputs.new).faults }
-    ensures same { (I.view inputs.new).files ≡ (I.view inputs.old).files }
-    ensures fetched { OnOk result (AreCounted (later_fetches (assignment_view assignment.now))
-        (I.view inputs.old).calls (I.view inputs.new).calls) }
-    ensures at_most { (n : ℕ) × ((n ≤ later_fetches (assignment_view assignment.now))
-        × AreCounted n (I.view inputs.old).calls (I.view inputs.new).calls) }
+    ensures fetched { HasFetchedUpTo (later_fetches (assignment_view assignment.now))
+        (I.view inputs.old) (I.view inputs.new) result }
 {
     let script = match fetch_script(alloc, inputs, assignment) {
         Ok(script) => script,
@@ -218,12 +203,8 @@ fn prepare_resume<I: Inputs>(
     ensures ok { IfOk result (λ p. IsPrepared (I.view inputs.old).files (assignment_view assignment.now) p) }
     ensures err { IfErr result (λ r. IsNotPrepared (HasRisen (I.view inputs.old).faults (I.view inputs.new).faults)
         (I.view inputs.old).files (assignment_view assignment.now) r) }
-    ensures later { (I.view inputs.old).faults ≤ (I.view inputs.new).faults }
-    ensures same { (I.view inputs.new).files ≡ (I.view inputs.old).files }
-    ensures fetched { OnOk result (AreCounted (later_fetches (assignment_view assignment.now))
-        (I.view inputs.old).calls (I.view inputs.new).calls) }
-    ensures at_most { (n : ℕ) × ((n ≤ later_fetches (assignment_view assignment.now))
-        × AreCounted n (I.view inputs.old).calls (I.view inputs.new).calls) }
+    ensures fetched { HasFetchedUpTo (later_fetches (assignment_view assignment.now))
+        (I.view inputs.old) (I.view inputs.new) result }
 {
     let text = match fetch_text(alloc, inputs, assignment, Text::Snapshot) {
         Ok(text) => text,
@@ -246,12 +227,8 @@ pub(crate) fn prepare<I: Inputs>(
     ensures ok { IfOk result (λ p. IsPrepared (I.view inputs.old).files (assignment_view assignment.now) p) }
     ensures err { IfErr result (λ r. IsNotPrepared (HasRisen (I.view inputs.old).faults (I.view inputs.new).faults)
         (I.view inputs.old).files (assignment_view assignment.now) r) }
-    ensures later { (I.view inputs.old).faults ≤ (I.view inputs.new).faults }
-    ensures same { (I.view inputs.new).files ≡ (I.view inputs.old).files }
-    ensures fetched { OnOk result (AreCounted (all_fetches (assignment_view assignment.now))
-        (I.view inputs.old).calls (I.view inputs.new).calls) }
-    ensures at_most { (n : ℕ) × ((n ≤ all_fetches (assignment_view assignment.now))
-        × AreCounted n (I.view inputs.old).calls (I.view inputs.new).calls) }
+    ensures fetched { HasFetchedUpTo (all_fetches (assignment_view assignment.now))
+        (I.view inputs.old) (I.view inputs.new) result }
 {
     let model = match fetch_model(alloc, inputs, assignment) {
         Ok(model) => model,

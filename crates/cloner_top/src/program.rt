@@ -1,10 +1,11 @@
 //! From a command line to an exit status: reads a study, simulates its branches, and writes their texts.
-ghost use Rattle.std.specs.Prelude.{◌≡◌, ◌≢◌, ◌⊎◌, ◌≤◌, ◌∷◌, [], ℕ, IfErr, None, OnOk};
-ghost use Rattle.sim_outer.specs.Counts.{AreCounted, HasRisen};
+ghost use Rattle.std.specs.Prelude.{◌≡◌, ◌≢◌, ◌⊎◌, ◌≤◌, ◌∷◌, [], IfErr, None, OnOk};
+ghost use Rattle.sim_outer.specs.Counts.{HasRisen};
 ghost use Rattle.command_words.specs.Requests.{request_view};
 ghost use Rattle.cloner_top.specs.Answers.{IsAnswer, IsHaltedFor, IsLawfulEnding, assignment_of, outside_of};
 ghost use Rattle.cloner_top.specs.Facts.{AreFewFetches, Completes, IsCutFor, IsStoppedFor};
 ghost use Rattle.cloner_top.specs.Facts.{IsToldFor, IsUnreadFor, IsWritten};
+ghost use Rattle.cloner_top.specs.Fetches.{HasFetchedUpTo};
 ghost use Rattle.cloner_top.specs.Outsides.{ArePutOrCut, IsStudyPut};
 ghost use Rattle.cloner_top.specs.Refusals.{error_line, status_of, words_refusal};
 ghost use Rattle.cloner_top.specs.Stops.{excess_line, excess_status};
@@ -42,12 +43,8 @@ fn prepare_and_write<I: Inputs, O: Sink, G: Gate + Sync, L: Ledger, R: Threads +
     ensures err { IfErr result (λ h. IsHaltedFor (HasRisen (I.view inputs.old).faults (I.view inputs.new).faults)
         (I.view inputs.old).files (request_view request.now).assignment steps.old steps.new
         (O.view out.old) (O.view out.new) h) }
-    ensures later { (I.view inputs.old).faults ≤ (I.view inputs.new).faults }
-    ensures same { (I.view inputs.new).files ≡ (I.view inputs.old).files }
-    ensures fetched { OnOk result (AreCounted (all_fetches (request_view request.now).assignment)
-        (I.view inputs.old).calls (I.view inputs.new).calls) }
-    ensures at_most { (n : ℕ) × ((n ≤ all_fetches (request_view request.now).assignment)
-        × AreCounted n (I.view inputs.old).calls (I.view inputs.new).calls) }
+    ensures fetched { HasFetchedUpTo (all_fetches (request_view request.now).assignment)
+        (I.view inputs.old) (I.view inputs.new) result }
 {
     let workers = Workers {
         count: request.workers,

@@ -1,12 +1,13 @@
 //! Fetches the texts of an assignment, and reads them.
-ghost use Rattle.std.specs.Prelude.{◌≡◌, ◌≤◌, IfErr, IfOk, Ok, Err};
-ghost use Rattle.sim_outer.specs.Counts.{AreCounted, HasRisen};
+ghost use Rattle.std.specs.Prelude.{◌≡◌, IfErr, IfOk, Ok, Err};
+ghost use Rattle.sim_outer.specs.Counts.{HasRisen};
 ghost use Rattle.net_model.specs.Text.{model};
 ghost use Rattle.decision_script.specs.Reading.{script};
 ghost use Rattle.watch_points.specs.Reading.{watches};
 ghost use Rattle.snapshot_text.specs.Reading.{snapshot};
 ghost use Rattle.checkpoint.specs.Accepted.{IsAccepted};
 ghost use Rattle.command_words.specs.Requests.{FileNames, Number, Resume, Watch, assignment_view, source_view};
+ghost use Rattle.cloner_top.specs.Fetches.{HasFetched};
 ghost use Rattle.cloner_top.specs.Reading.{IsBadModel, IsBadScript, IsBadSnapshot, IsBadWatches, IsNotFetched};
 ghost use Rattle.cloner_top.specs.Reading.{made_text, origin_view};
 ghost use Rattle.cloner_top.specs.Refusals.{IsMemoryOrStop};
@@ -181,10 +182,8 @@ pub(crate) fn fetch_text<I: Inputs>(
     ensures ok { IfOk result (λ v. IsTextOf (assignment_view assignment.now) (I.view inputs.old).files text v.items) }
     ensures err { IfErr result (λ r. IsNotFetched (HasRisen (I.view inputs.old).faults (I.view inputs.new).faults)
         (assignment_view assignment.now) (I.view inputs.old).files text r) }
-    ensures later { (I.view inputs.old).faults ≤ (I.view inputs.new).faults }
-    ensures same { (I.view inputs.new).files ≡ (I.view inputs.old).files }
-    ensures counted { AreCounted (fetches_of (origin_in (assignment_view assignment.now) text))
-        (I.view inputs.old).calls (I.view inputs.new).calls }
+    ensures fetched { HasFetched (fetches_of (origin_in (assignment_view assignment.now) text))
+        (I.view inputs.old) (I.view inputs.new) }
 {
     match origin_of(assignment, text) {
         Origin::InFile(name) => match inputs.fetch(alloc, name) {

@@ -1,18 +1,18 @@
-use Rattle.cloner_top.proofs.Preparing.{few_of_both}
+use Rattle.cloner_top.proofs.Preparing.{fetched_then}
 use Rattle.cloner_top.proofs.prepare.prepare.Goals as goal
 
-pub returns-in-Study-clause-at_most : goal.returns-in-Study-clause-at_most
-returns-in-Study-clause-at_most g c =
-    few_of_both _ _ _ _ _ c.fetch_model.ensures.counted c.prepare_study.ensures.at_most
+pub returns-in-Study-clause-fetched : goal.returns-in-Study-clause-fetched
+returns-in-Study-clause-fetched g c =
+    fetched_then _ _ _ _ _ _ c.fetch_model.ensures.fetched c.prepare_study.ensures.fetched
 
-pub returns-in-Live-clause-at_most : goal.returns-in-Live-clause-at_most
-returns-in-Live-clause-at_most g c =
-    few_of_both _ _ _ _ _ c.fetch_model.ensures.counted c.prepare_live.ensures.at_most
+pub returns-in-Live-clause-fetched : goal.returns-in-Live-clause-fetched
+returns-in-Live-clause-fetched g c =
+    fetched_then _ _ _ _ _ _ c.fetch_model.ensures.fetched c.prepare_live.ensures.fetched
 
-pub returns-in-Watch-clause-at_most : goal.returns-in-Watch-clause-at_most
-returns-in-Watch-clause-at_most g c =
-    few_of_both _ _ _ _ _ c.fetch_model.ensures.counted c.prepare_watch.ensures.at_most
+pub returns-in-Watch-clause-fetched : goal.returns-in-Watch-clause-fetched
+returns-in-Watch-clause-fetched g c =
+    fetched_then _ _ _ _ _ _ c.fetch_model.ensures.fetched c.prepare_watch.ensures.fetched
 
-pub returns-in-Resume-clause-at_most : goal.returns-in-Resume-clause-at_most
-returns-in-Resume-clause-at_most g c =
-    few_of_both _ _ _ _ _ c.fetch_model.ensures.counted c.prepare_resume.ensures.at_most
+pub returns-in-Resume-clause-fetched : goal.returns-in-Resume-clause-fetched
+returns-in-Resume-clause-fetched g c =
+    fetched_then _ _ _ _ _ _ c.fetch_model.ensures.fetched c.prepare_resume.ensures.fetched

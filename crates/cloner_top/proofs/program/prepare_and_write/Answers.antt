@@ -17,7 +17,13 @@ returns-in-Ok-clause-err g c =
     _ _ _ _ _ c.write_prepared.ensures.err
 
 pub returns-in-Ok-clause-fetched : goal.returns-in-Ok-clause-fetched
-returns-in-Ok-clause-fetched g c = if_ok _ c.in-Ok.ensures.fetched
+returns-in-Ok-clause-fetched g c =
+    record {
+      later = c.prepare.ensures.fetched.later;
+      same = c.prepare.ensures.fetched.same;
+      all = if_ok _ c.in-Ok.ensures.fetched.all;
+      at_most = c.prepare.ensures.fetched.at_most;
+    }
 
 pub returns-in-Err-clause-err : goal.returns-in-Err-clause-err
 returns-in-Err-clause-err g c =

@@ -17,7 +17,7 @@ pub returns-in-Ok-prepare_and_write-clause-answer : goal.returns-in-Ok-prepare_a
 returns-in-Ok-prepare_and_write-clause-answer g c =
     success (request_view c.in-Ok.request).assignment
     (ap (option_map (λ (r : RequestView). r.assignment)) c.in-Ok.ensures.value) c.in-Ok-prepare_and_write.ensures.ok
-    c.in-Ok-prepare_and_write.ensures.fetched refl
+    c.in-Ok-prepare_and_write.ensures.fetched.all refl
 
 pub returns-in-Err-Refused-clause-answer : goal.returns-in-Err-Refused-clause-answer
 returns-in-Err-Refused-clause-answer g c =
