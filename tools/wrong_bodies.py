@@ -5,6 +5,7 @@
     tools/wrong_bodies.py msg_heap stations    # those of these crates
     tools/wrong_bodies.py sim_draw/at_does_not_leap    # this one
     tools/wrong_bodies.py --jobs 4             # four checks at a time
+    tools/wrong_bodies.py --together           # edits of different functions in one check
     tools/wrong_bodies.py --anew               # also those that an earlier run tried
     tools/wrong_bodies.py --table              # prints the table of wrong-bodies/README.md, and tries nothing
     tools/wrong_bodies.py --write              # puts that table into the page, and tries nothing
@@ -15,6 +16,9 @@ refused it. The copy has what the checkout has built and checked; libraries that
 
 An edit that only a type refuses has a line `by: error[..]`, the compiler's error; `rt must-fail` calls it a bad edit.
 One that is refused only because it takes away a name that proof files cite is a bad edit here.
+With `--together` it first tries edits of different functions in one `rt check`. The proof of a function reads its own
+body and the contracts of the others. So an error in a function that one of these edits changes is an error of that
+edit. An edit whose function has no such error is then tried alone, and so is each that turns a definition.
 Results are kept in wrong-bodies/out/results.tsv. An edit is tried again if its text or a file of its crate has
 changed since. What changed in crates below is not looked at: `--anew` tries all.
 """
@@ -47,10 +51,15 @@ REFUSED, MISSED, BAD, UNTRIED = "refused", "NOT REFUSED", "BAD EDIT", "NOT TRIED
 SAID = re.compile(r"rt: must-fail (\w+)/(\S+)\.edit: (refused|NOT REFUSED|BAD EDIT|NOT TRIED)(.*)")
 PLACE = re.compile(r"(?:\./)?((?:src|specs|proofs)/\S+?):(\d+):\d+: (?:error: )?(.*)")
 FUNCTION = re.compile(r"\s*(?:pub(?:\(crate\))? )?fn (\w+)")
+HEAD = re.compile(r"^( *)(?:pub(?:\(crate\))? )?fn (\w+)", re.M)
+TOLD = re.compile(r"(?:note: )?((?:\./)?(?:src|proofs)/\S+?:\d+:\d+: (?:.*: )?(?:error|it is not proved).*)")
 TYPE_ERROR = re.compile(r"^by: (error\[[\w-]+\])$", re.M)
 CLAUSE = re.compile(r"clause-([\w-]+)`")
 GOAL = re.compile(r"`([^`]+)`")
 NAME_ALONE = "(only because a proof file names"
+LOST_NAME = re.compile(r"has no field|is not in scope|has no `|was not admitted|is no name|operand is missing")
+NOT_PROVED = re.compile(r"^logic=not-proved", re.M)
+WHY_LENGTH = 160
 SUM_DIGITS = 16
 
 
@@ -123,9 +132,9 @@ def write_results(results: dict[str, Result]) -> None:
 
 
 def link_or_copy(source: str, target: str) -> None:
-    """Gives a file that a check proved a second name, and copies every other file."""
+    """Gives a file that a check or a build made a second name, and copies every other file."""
     try:
-        if not source.endswith(".oantt"):
+        if ".rlib/" not in source and not source.endswith(".oantt"):
             raise OSError
         os.link(source, target)
     except OSError:
@@ -143,7 +152,7 @@ def copy_checkout(to: pathlib.Path, crates: Iterable[str]) -> None:
 
     shutil.copytree(TOP, to, symlinks=True, ignore=left_out, copy_function=link_or_copy)
     for library in (TOP / "crates").glob("*/out/rlib/*.rlib"):
-        (to / library.relative_to(TOP)).symlink_to(library)
+        shutil.copytree(library, to / library.relative_to(TOP), copy_function=link_or_copy)
 
 
 def why_of(text: str) -> str:
@@ -155,8 +164,10 @@ def function_at(crate: str, file: str, line: int) -> str:
     """The function that a line of a source file is in, or that a generated proof file is of."""
     if file.startswith("proofs/"):
         return "::".join(pathlib.PurePath(file).parts[1:-1]) or pathlib.PurePath(file).stem
-    lines = (TOP / "crates" / crate / file).read_text(encoding="utf-8").splitlines()[:line]
-    return next((found[1] for found in map(FUNCTION.match, reversed(lines)) if found), file)
+    lines = (TOP / "crates" / crate / file).read_text(encoding="utf-8").splitlines()
+    while lines[line - 1].strip().startswith("#["):
+        line += 1
+    return next((found[1] for found in map(FUNCTION.match, reversed(lines[:line])) if found), file)
 
 
 def clause_of(crate: str, why: str) -> str:
@@ -211,11 +222,117 @@ def try_crate(copy: pathlib.Path, crate: str, edits: list[pathlib.Path], jobs: i
     return {edit.stem: judged(edit, *said.get(edit.stem, (UNTRIED, last))) for edit in edits}
 
 
+@dataclasses.dataclass(frozen=True)
+class Function:
+    """A function that an edit changes: its file, its name, and its lines."""
+
+    file: str
+    name: str
+    lines: range
+
+    def has(self, place: re.Match) -> bool:
+        """Whether a place is in the function or in a file of its proof."""
+        file = pathlib.PurePath(place[1])
+        if file.parts[0] == "proofs":
+            return file.parent.name == self.name
+        return place[1] == self.file and int(place[2]) in self.lines
+
+
+def pairs_of(edit: pathlib.Path) -> list[tuple[str, str, str]]:
+    """What an edit replaces: the file, the old text and the new one."""
+    file, old, found = "", "", []
+    for line in edit.read_text(encoding="utf-8").splitlines():
+        word, _, text = line.partition(": ")
+        if word == "file":
+            file = text.strip()
+        elif word == "old":
+            old = text
+        elif word == "new":
+            found.append((file, old, text))
+    return found
+
+
+def function_of(file: str, text: str, at: int) -> Function | None:
+    """The function whose body has this place of a source file, from its first attribute to its last line."""
+    head = collections.deque(HEAD.finditer(text, 0, at), maxlen=1)
+    if not head:
+        return None
+    indent, name = head[0][1], head[0][2]
+    body = re.compile(rf"^{indent}\{{|\{{$", re.M).search(text, head[0].end())
+    end = re.compile(rf"^{indent}\}}", re.M).search(text, head[0].end())
+    if not body or not end or not body.start() < at < end.start():
+        return None
+    lines = text.splitlines()
+    first = text.count("\n", 0, head[0].start()) + 1
+    while lines[first - 2].strip().startswith("#["):
+        first -= 1
+    return Function(file, name, range(first, text.count("\n", 0, end.start()) + 2))
+
+
+def function_changed(crate: str, edit: pathlib.Path) -> Function | None:
+    """The one function whose body an edit changes, or None if it changes more than one, or something else."""
+    found = set()
+    for file, old, _ in pairs_of(edit):
+        text = (TOP / "crates" / crate / file).read_text(encoding="utf-8")
+        found.add(function_of(file, text, text.find(old)) if file.startswith("src/") else None)
+    return found.pop() if len(found) == 1 else None
+
+
+def rounds_of(crate: str, edits: Iterable[pathlib.Path]) -> list[dict[pathlib.Path, Function]]:
+    """The edits that can be tried together, in rounds of functions with different names."""
+    rounds: list[dict[pathlib.Path, Function]] = []
+    for edit in edits:
+        function = function_changed(crate, edit)
+        if function:
+            free = (it for it in rounds if function.name not in {other.name for other in it.values()})
+            into = next(free, None)
+            if into is None:
+                into = {}
+                rounds.append(into)
+            into[edit] = function
+    return rounds
+
+
+def errors_in(function: Function, output: str) -> list[str]:
+    """The errors of a check that are in a function."""
+    told = (line[1] for line in map(TOLD.match, output.splitlines()) if line)
+    return [line for line in told if function.has(PLACE.match(line))]
+
+
+def check_with(folder: pathlib.Path, edits: Iterable[pathlib.Path], jobs: int) -> str:
+    """What `rt check` says of a crate with edits, whose files are then as they were."""
+    pairs = [pair for edit in edits for pair in pairs_of(edit)]
+    texts = {file: (folder / file).read_text(encoding="utf-8") for file, _, _ in pairs}
+    changed = dict(texts)
+    for file, old, new in pairs:
+        changed[file] = changed[file].replace(old, new)
+    for file, text in changed.items():
+        (folder / file).write_text(text, encoding="utf-8")
+    words = ["rt", "check", "--jobs", str(jobs)]
+    streams = {"stdout": subprocess.PIPE, "stderr": subprocess.STDOUT}
+    ran = subprocess.run(words, cwd=folder, text=True, errors="replace", **streams)
+    for file, text in texts.items():
+        (folder / file).write_text(text, encoding="utf-8")
+    return ran.stdout
+
+
+def try_round(folder: pathlib.Path, edits: dict[pathlib.Path, Function], jobs: int) -> dict[str, tuple]:
+    """Tries edits of different functions in one check. Returns verdict and reason of those that it refuses, by name."""
+    output = check_with(folder, edits, jobs)
+    told = {edit: errors_in(function, output) for edit, function in edits.items()}
+    if not NOT_PROVED.search(output):
+        # the compiler refuses the edits with errors
+        others = {edit: function for edit, function in edits.items() if not told[edit]}
+        return try_round(folder, others, jobs) if 0 < len(others) < len(edits) else {}
+    whys = {edit.stem: next((line for line in told[edit] if not LOST_NAME.search(line)), "") for edit in edits}
+    return {name: (REFUSED, why[:WHY_LENGTH]) for name, why in whys.items() if why}
+
+
 class Run:
     """A run: the edits that it is to try, and all results so far."""
 
-    def __init__(self, edits: dict[str, list[pathlib.Path]], jobs: int, anew: bool):
-        self.edits, self.anew = edits, anew
+    def __init__(self, edits: dict[str, list[pathlib.Path]], jobs: int, anew: bool, together: bool):
+        self.edits, self.anew, self.together = edits, anew, together
         self.lanes = max(1, min(jobs, len(edits)))
         self.jobs = max(1, jobs // self.lanes)
         self.results, self.lock = read_results(), threading.Lock()
@@ -231,14 +348,31 @@ class Run:
         sums = {edit: sum_of_edit(edit, of_crate) for edit in self.edits[crate]}
         return {edit: made for edit, made in sums.items() if not self.is_known(f"{crate}/{edit.stem}", made)}
 
+    def keep(self, crate: str, sums: dict[pathlib.Path, str], found: dict[str, tuple]) -> None:
+        """Keeps what became of edits of a crate."""
+        today = datetime.date.today().isoformat()
+        tried = [edit for edit in sums if edit.stem in found]
+        results = {f"{crate}/{edit.stem}": Result(sums[edit], *found[edit.stem], today) for edit in tried}
+        with self.lock:
+            self.results.update(results)
+            write_results({**read_results(), **results})
+
+    def try_together(self, copy: pathlib.Path, crate: str, due: dict[pathlib.Path, str]) -> dict[str, tuple]:
+        """Tries edits of different functions together, and keeps and returns what became of those that are refused."""
+        found = {}
+        for edits in rounds_of(crate, due) if self.together else []:
+            refused = try_round(copy / "crates" / crate, edits, self.jobs)
+            self.keep(crate, due, refused)
+            found |= refused
+        return found
+
     def try_crate(self, copy: pathlib.Path, crate: str) -> None:
         """Tries the edits of a crate that are due, keeps what became of them, and prints all of its edits."""
-        due, today = self.due(crate), datetime.date.today().isoformat()
-        found = try_crate(copy, crate, [*due], self.jobs, self.anew) if due else {}
+        due = self.due(crate)
+        found = self.try_together(copy, crate, due)
+        alone = [edit for edit in due if edit.stem not in found]
+        self.keep(crate, due, try_crate(copy, crate, alone, self.jobs, self.anew) if alone else {})
         with self.lock:
-            tried = {f"{crate}/{edit.stem}": Result(made, *found[edit.stem], today) for edit, made in due.items()}
-            self.results.update(tried)
-            write_results({**read_results(), **tried})
             for edit in self.edits[crate]:
                 result = self.results[f"{crate}/{edit.stem}"]
                 why = clause_of(crate, result.why) if result.verdict == REFUSED else result.why
@@ -290,6 +424,7 @@ def main() -> int:
     options = argparse.ArgumentParser(description=__doc__, formatter_class=argparse.RawDescriptionHelpFormatter)
     options.add_argument("named", nargs="*", metavar="CRATE or CRATE/NAME")
     options.add_argument("--jobs", type=int, default=1, help="checks at a time")
+    options.add_argument("--together", action="store_true", help="tries edits of different functions in one check")
     options.add_argument("--anew", action="store_true", help="tries also what an earlier run tried")
     options.add_argument("--table", action="store_true", help="prints the table of results")
     options.add_argument("--write", action="store_true", help="puts the table into the page")
@@ -307,7 +442,7 @@ def main() -> int:
     for word in given.named:
         if word not in known:
             options.error(f"{BODIES}/ has no {word}")
-    return 1 if Run(edits, given.jobs, given.anew).try_all() else 0
+    return 1 if Run(edits, given.jobs, given.anew, given.together).try_all() else 0
 
 
 if __name__ == "__main__":
